@@ -1,0 +1,146 @@
+-- Laws of the limits and the checks: what a test's answer says of the numbers, and a check's answer of the limits.
+use Prim.Native.Nat.{ℕ, zero, suc, _+_, _-_, _≤_, _<_}
+use mathlib.Core.Path.{_≡_, _∙_, refl, sym, ap}
+use mathlib.Core.Bool.{Bool, true, false, _&&_, _||_, true≢false, false≢true}
+use mathlib.Core.Logic.{_⊎_, inl, inr, ⊎-elim}
+use mathlib.Core.List.{List, [], _∷_}
+use native.Mathlib.Omega.{arith}
+use native.Mathlib.Numerals.{add-one}
+use native.Mathlib.Decide.{decLe}
+use lib.ListN.{length}
+use lib.Dec.{leb, eqb}
+use borrow.Author.Tests.{leb-true, le-leb, eqb-true, eq-eqb}
+use Rattle.task_model.specs.declared.Entry.{Entry}
+use Rattle.task_model.specs.Refusals.{Numbered, at, Outcome, accepted, refused}
+use Rattle.task_model.specs.Limits.{
+  Node,
+  entryAt,
+  KindHolds,
+  TimesHold,
+  EntryHolds,
+  AllHold,
+  NodeHolds,
+}
+use Rattle.task_model.specs.Checks.{kindTest, timesTest, entryCheck, entriesCheck, sizeTest, nodeCheck}
+use Rattle.task_model.specs.Words.{entryOf, entriesFrom}
+
+pub and-true : (a b : Bool) → a && b ≡ true → (a ≡ true) × (b ≡ true)
+and-true true b p = (refl, p)
+and-true false b p = absurd (false≢true p)
+
+pub true-or-false : (b : Bool) → (b ≡ true) ⊎ (b ≡ false)
+true-or-false true = inl refl
+true-or-false false = inr refl
+
+-- a test that says true where a fact holds, and holds where the test says true, says false where the fact does not
+pub decided : {A : Type 0} (b : Bool) → (b ≡ true → A) → (A → ⊥) → b ≡ false
+decided b f n = ⊎-elim (λ p. absurd (n (f p))) (λ p. p) (true-or-false b)
+
+-- 8
+module _ (e : Entry) where
+  pub times-true : TimesHold e → timesTest e ≡ true
+  unfolding timesTest
+  times-true h =
+      rw (
+        le-leb 1 (e .wcet) (h .runs),
+        le-leb (e .wcet) (e .deadline) (h .due),
+        le-leb (e .deadline) (e .period) (h .periodic),
+        le-leb (e .period) 1000000000 (h .longest),
+        le-leb (e .blocking) 1000000000 (h .blocked),
+      )
+
+  pub times-hold : timesTest e ≡ true → TimesHold e
+  unfolding timesTest
+  times-hold p =
+      let p1 = and-true _ _ p in
+      let p2 = and-true _ _ (p1 .0) in
+      let p3 = and-true _ _ (p2 .0) in
+      let p4 = and-true _ _ (p3 .0) in
+      record {
+        runs = leb-true _ _ (p4 .0);
+        due = leb-true _ _ (p4 .1);
+        periodic = leb-true _ _ (p3 .1);
+        longest = leb-true _ _ (p2 .1);
+        blocked = leb-true _ _ (p1 .1);
+      }
+
+  pub times-false : (TimesHold e → ⊥) → timesTest e ≡ false
+  times-false n = decided (timesTest e) times-hold n
+
+  -- the last of the tests decides, once the others hold
+  pub times-rest : 1 ≤ e .wcet → e .wcet ≤ e .deadline → e .deadline ≤ e .period → e .period ≤ 1000000000
+      → leb (e .blocking) 1000000000 ≡ timesTest e
+  unfolding timesTest
+  times-rest h1 h2 h3 h4 = rw (le-leb _ _ h1, le-leb _ _ h2, le-leb _ _ h3, le-leb _ _ h4)
+
+pub sizes-true : (levels count : ℕ) → 1 ≤ levels → levels ≤ 64 → count ≤ 64 → sizeTest levels count ≡ true
+unfolding sizeTest
+sizes-true levels count h1 h2 h3 = rw (le-leb 1 levels h1, le-leb levels 64 h2, le-leb count 64 h3)
+
+pub sizes-hold : {levels count : ℕ} → sizeTest levels count ≡ true → (1 ≤ levels) × (levels ≤ 64) × (count ≤ 64)
+unfolding sizeTest
+sizes-hold p =
+    let p1 = and-true _ _ p in
+    let p2 = and-true _ _ (p1 .0) in
+    (leb-true _ _ (p2 .0), leb-true _ _ (p2 .1), leb-true _ _ (p1 .1))
+
+-- 7, then 8
+module _ (row position : ℕ) (e : Entry) where
+  pub check-kind : kindTest (e .kind) (e .calls) ≡ false → entryCheck row position e ≡ refused (at 7 row position)
+  unfolding entryCheck
+  check-kind p = rw (p, entryCheck)
+
+  pub check-times : kindTest (e .kind) (e .calls) ≡ true → timesTest e ≡ false
+      → entryCheck row position e ≡ refused (at 8 row position)
+  unfolding entryCheck
+  check-times p q = rw (p, entryCheck) (rw (q, entryCheck))
+
+  pub check-accepts : kindTest (e .kind) (e .calls) ≡ true → timesTest e ≡ true → entryCheck row position e ≡ accepted
+  unfolding entryCheck
+  check-accepts p q = rw (p, entryCheck) (rw (q, entryCheck))
+
+-- entry by entry
+module _ (row position : ℕ) (e : Entry) (es : List Entry) where
+  pub entries-next : entryCheck row position e ≡ accepted
+      → entriesCheck row position (e ∷ es) ≡ entriesCheck row (suc position) es
+  unfolding entriesCheck
+  entries-next p = rw (p, entriesCheck)
+
+  pub entries-stop : (r : Numbered) → entryCheck row position e ≡ refused r → entriesCheck row position (e ∷ es) ≡ refused r
+  unfolding entriesCheck
+  entries-stop r p = rw (p, entriesCheck)
+
+-- a check of the entries from position `j` on, of `n`
+module _ (row : ℕ) (ws : List ℕ) (j n : ℕ) (h : j < n) where
+  entries-first : entriesFrom ws j (n - j) ≡ entryOf ws j ∷ entriesFrom ws (j + 1) (n - (j + 1))
+  unfolding entriesFrom
+  entries-first = let e : n - j ≡ suc (n - (j + 1)) = omega arith in rw (e, add-one j, entriesFrom)
+
+  pub from-next : entryCheck row j (entryOf ws j) ≡ accepted
+      → entriesCheck row j (entriesFrom ws j (n - j)) ≡ entriesCheck row (j + 1) (entriesFrom ws (j + 1) (n - (j + 1)))
+  from-next p = rw (entries-first, entries-next row j (entryOf ws j) _ p, add-one j)
+
+  pub from-stop : (r : Numbered) → entryCheck row j (entryOf ws j) ≡ refused r
+      → entriesCheck row j (entriesFrom ws j (n - j)) ≡ refused r
+  from-stop r p = rw entries-first (entries-stop row j (entryOf ws j) _ r p)
+
+pub from-end : (row : ℕ) (ws : List ℕ) (j n : ℕ) → n ≤ j → entriesCheck row j (entriesFrom ws j (n - j)) ≡ accepted
+unfolding entriesCheck entriesFrom
+from-end row ws j n h = let e : n - j ≡ 0 = omega arith in rw (e, entriesFrom)
+
+pub length-entries : (ws : List ℕ) (j n : ℕ) → length (entriesFrom ws j n) ≡ n
+unfolding entriesFrom
+length-entries ws j zero = refl
+length-entries ws j (suc n) = ap suc (length-entries ws (suc j) n)
+
+-- 4, then the entries
+module _ (row : ℕ) (n : Node) where
+  pub node-sizes : ((1 ≤ n .levels) → (n .levels ≤ 64) → (length (n .entries) ≤ 64) → ⊥) → nodeCheck row n ≡ refused (at 4 row 0)
+  unfolding nodeCheck
+  node-sizes out =
+      rw (decided (sizeTest (n .levels) (length (n .entries))) sizes-hold (λ h. out (h .0) (h .1) (h .2)), nodeCheck)
+
+  pub node-entries : 1 ≤ n .levels → n .levels ≤ 64 → length (n .entries) ≤ 64
+      → nodeCheck row n ≡ entriesCheck row 0 (n .entries)
+  unfolding nodeCheck
+  node-entries h1 h2 h3 = rw (sizes-true (n .levels) (length (n .entries)) h1 h2 h3, nodeCheck)

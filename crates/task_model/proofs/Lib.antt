@@ -1,0 +1,3 @@
+-- Laws that the functions' proofs and other crates cite, and the theorems of the checks.
+pub mod Laws
+pub mod Theorems

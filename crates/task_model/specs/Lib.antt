@@ -1,0 +1,5 @@
+-- What a reader of the task model must believe.
+pub mod Refusals
+pub mod Limits
+pub mod Checks
+pub mod Words

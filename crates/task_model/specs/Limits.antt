@@ -1,0 +1,47 @@
+-- The limits of an entry and of a node.
+use Prim.Native.Nat.{ℕ, _≤_, _<_}
+use mathlib.Core.Path.{_≡_}
+use mathlib.Core.Logic.{_⊎_}
+use mathlib.Core.List.{List}
+use lib.ListN.{length, getD}
+use Rattle.task_model.specs.declared.Entry.{Entry}
+
+-- A node: its priority levels, and its entries in listed order, most urgent first.
+pub record Node : Type 0 where
+  pub levels : ℕ
+  pub entries : List Entry
+
+-- What stands at a position that the list does not have. Nothing that is proved goes by it.
+abbrev pub noEntry : Entry
+noEntry = record { number = 0; kind = 0; calls = 0; wcet = 0; period = 0; deadline = 0; blocking = 0 }
+
+-- The entry at a position, counted from 0.
+abbrev pub entryAt : List Entry → ℕ → Entry
+entryAt es j = getD es j noEntry
+
+-- A task (kind 1) calls up to 15 remote sections in a period; a global critical section (kind 2) calls none.
+abbrev pub KindHolds : Entry → Type 0
+KindHolds e = ((e .kind ≡ 1) × (e .calls ≤ 15)) ⊎ ((e .kind ≡ 2) × (e .calls ≡ 0))
+
+-- 1 ≤ C ≤ D ≤ T ≤ 1,000,000,000 and B ≤ 1,000,000,000.
+pub record TimesHold (e : Entry) : Type 0 where
+  pub runs : 1 ≤ e .wcet
+  pub due : e .wcet ≤ e .deadline
+  pub periodic : e .deadline ≤ e .period
+  pub longest : e .period ≤ 1000000000
+  pub blocked : e .blocking ≤ 1000000000
+
+pub record EntryHolds (e : Entry) : Type 0 where
+  pub kind : KindHolds e
+  pub times : TimesHold e
+
+-- Every entry of the list is within the limits.
+abbrev pub AllHold : List Entry → Type 0
+AllHold es = (j : ℕ) → j < length es → EntryHolds (entryAt es j)
+
+-- 1 to 64 levels, up to 64 entries, each within the limits.
+pub record NodeHolds (n : Node) : Type 0 where
+  pub someLevels : 1 ≤ n .levels
+  pub fewLevels : n .levels ≤ 64
+  pub fewEntries : length (n .entries) ≤ 64
+  pub each : AllHold (n .entries)

@@ -1,0 +1,35 @@
+-- How a node lies in memory: five words of 32 bits to an entry, in the order and the widths of a plan file. The first
+-- word has the number in its low 16 bits, then the kind and the calls in 8 bits each; then follow C, T, D and B.
+use Prim.Native.Nat.{ℕ, zero, suc, _+_, _*_, _/_, _%_}
+use mathlib.Core.List.{List, [], _∷_}
+use lib.ListN.{getD}
+use Rattle.task_model.specs.declared.Entry.{Entry}
+use Rattle.task_model.specs.Limits.{Node}
+
+-- The entry that five words from word `k` on hold.
+unfoldable pub entryFrom : List ℕ → ℕ → Entry
+entryFrom ws k =
+    record {
+      number = getD ws k 0 % 65536;
+      kind = getD ws k 0 / 65536 % 256;
+      calls = getD ws k 0 / 16777216 % 256;
+      wcet = getD ws (k + 1) 0;
+      period = getD ws (k + 2) 0;
+      deadline = getD ws (k + 3) 0;
+      blocking = getD ws (k + 4) 0;
+    }
+
+-- The entry at position `j`.
+abbrev pub entryOf : List ℕ → ℕ → Entry
+entryOf ws j = entryFrom ws (j * 5)
+
+-- The entries from position `j` on, `n` of them.
+unfoldable pub entriesFrom : List ℕ → ℕ → ℕ → List Entry
+entriesFrom ws j zero = []
+entriesFrom ws j (suc n) = entryOf ws j ∷ entriesFrom ws (suc j) n
+
+abbrev pub entriesOf : List ℕ → ℕ → List Entry
+entriesOf ws n = entriesFrom ws 0 n
+
+abbrev pub nodeOf : List ℕ → ℕ → ℕ → Node
+nodeOf ws n levels = record { levels = levels; entries = entriesOf ws n }

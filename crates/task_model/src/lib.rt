@@ -1,0 +1,148 @@
+// The task model: an entry's fields, the limits that they keep, and why a call is refused.
+ghost use mathlib.Core.Path.{_≡_};
+ghost use Prim.Native.Nat.{_<_, _≤_};
+ghost use Rattle.task_model.specs.Refusals.{outcome};
+ghost use Rattle.task_model.specs.Checks.{kindTest, timesTest, sizeTest, entryCheck, entriesCheck, nodeCheck};
+ghost use Rattle.task_model.specs.Words.{entryOf, entriesOf, nodeOf};
+
+// The longest period and the longest blocking, in ticks.
+pub const MOST_TICKS: u32 = 1000000000;
+
+// An entry of a node: a task, or a global critical section that runs here for a remote task.
+// ("Entry", and "node" for a controller, are the scope paper's terms.)
+pub struct Entry {
+    pub number: u16,
+    // 1 is a task, 2 a global critical section.
+    pub kind: u8,
+    // r: the remote sections that it calls in a period.
+    pub calls: u8,
+    // C: the longest run.
+    pub wcet: u32,
+    // T, D and B.
+    pub period: u32,
+    pub deadline: u32,
+    pub blocking: u32,
+}
+
+// Why a call is refused, with the row of the node and the position of the entry where there are any.
+// `numbered` in specs/Refusals gives the number that a user sees.
+pub enum Refusal {
+    ShortFile,
+    OpeningBytes,
+    NodeCount,
+    Row { row: usize },
+    Offset { row: usize },
+    FileLength,
+    Kind { row: usize, position: usize },
+    Times { row: usize, position: usize },
+    NoSuchNode,
+    ShortBuffer,
+    NoMap,
+    OutsideList,
+    FullList,
+}
+
+pub enum Checked {
+    Accepted,
+    Refused(Refusal),
+}
+
+// Whether the kind is one of the two, with as many remote calls as it may have.
+fn kind_holds(kind: u8, calls: u8) -> bool
+    ensures { λ a. ⌜ a ≡ kindTest kind calls ⌝ }
+{
+    match kind {
+        1 => match calls {
+            0..=15 => true,
+            _ => false,
+        },
+        2 => match calls {
+            0..=0 => true,
+            _ => false,
+        },
+        _ => false,
+    }
+}
+
+// Whether 1 ≤ C ≤ D ≤ T, and neither T nor B is above the most ticks.
+fn times_hold(e: Entry) -> bool
+    ensures { λ a. ⌜ a ≡ timesTest e ⌝ }
+{
+    if e.wcet < 1 {
+        return false;
+    }
+    if e.deadline < e.wcet {
+        return false;
+    }
+    if e.period < e.deadline {
+        return false;
+    }
+    if MOST_TICKS < e.period {
+        return false;
+    }
+    e.blocking <= MOST_TICKS
+}
+
+// Accepts an entry within the limits; refuses its kind (7), then its times (8), at the places given.
+pub fn check_entry(row: usize, position: usize, e: Entry) -> Checked
+    ensures { λ a. ⌜ outcome a ≡ entryCheck row position e ⌝ }
+{
+    if !kind_holds(e.kind, e.calls) {
+        return Checked::Refused(Refusal::Kind { row, position });
+    }
+    if !times_hold(e) {
+        return Checked::Refused(Refusal::Times { row, position });
+    }
+    Checked::Accepted
+}
+
+// The entry at a position of a node's words.
+pub fn entry_at(words: &[u32; 320], position: usize) -> Entry
+    requires { ⌜ position < 64 ⌝ }
+    ensures { λ e. ⌜ e ≡ entryOf (now (words .entry)) position ⌝ }
+{
+    let k = position * 5;
+    let head = words[k];
+    Entry {
+        number: (head % 65536) as u16,
+        kind: (head / 65536 % 256) as u8,
+        calls: (head / 16777216 % 256) as u8,
+        wcet: words[k + 1],
+        period: words[k + 2],
+        deadline: words[k + 3],
+        blocking: words[k + 4],
+    }
+}
+
+// Accepts entries that are all within the limits; refuses the first that is not.
+pub fn check_entries(row: usize, words: &[u32; 320], count: usize) -> Checked
+    requires { ⌜ count ≤ 64 ⌝ }
+    ensures { λ a. ⌜ outcome a ≡ entriesCheck row 0 (entriesOf (now (words .entry)) count) ⌝ }
+{
+    let mut position: usize = 0;
+    while position < count {
+        let e = entry_at(words, position);
+        let found = check_entry(row, position, e);
+        let Checked::Accepted = found else {
+            return found;
+        };
+        position += 1;
+    }
+    Checked::Accepted
+}
+
+// Accepts a node within the limits; refuses its level or entry count (4), then its first entry that breaks one.
+pub fn check_node(row: usize, words: &[u32; 320], count: usize, levels: u8) -> Checked
+    ensures { λ a. ⌜ outcome a ≡ nodeCheck row (nodeOf (now (words .entry)) count levels) ⌝ }
+{
+    if levels < 1 {
+        return Checked::Refused(Refusal::Row { row });
+    }
+    if 64 < levels {
+        return Checked::Refused(Refusal::Row { row });
+    }
+    if 64 < count {
+        return Checked::Refused(Refusal::Row { row });
+    }
+    check_entries(row, words, count)
+}
