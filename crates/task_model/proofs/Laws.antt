@@ -4,6 +4,7 @@ use mathlib.Core.Path.{_≡_, _∙_, refl, sym, ap}
 use mathlib.Core.Bool.{Bool, true, false, _&&_, _||_, true≢false, false≢true}
 use mathlib.Core.Logic.{_⊎_, inl, inr, ⊎-elim}
 use mathlib.Core.List.{List, [], _∷_}
+use native.Mathlib.Nat.{zero-add}
 use native.Mathlib.Omega.{arith}
 use native.Mathlib.Numerals.{add-one}
 use native.Mathlib.Decide.{decLe}
@@ -22,7 +23,7 @@ use Rattle.task_model.specs.Limits.{
   NodeHolds,
 }
 use Rattle.task_model.specs.Checks.{kindTest, timesTest, entryCheck, entriesCheck, sizeTest, nodeCheck}
-use Rattle.task_model.specs.Words.{entryOf, entriesFrom}
+use Rattle.task_model.specs.Words.{entryOf, entriesFrom, entriesOf}
 
 pub and-true : (a b : Bool) → a && b ≡ true → (a ≡ true) × (b ≡ true)
 and-true true b p = (refl, p)
@@ -144,3 +145,26 @@ module _ (row : ℕ) (n : Node) where
       → nodeCheck row n ≡ entriesCheck row 0 (n .entries)
   unfolding nodeCheck
   node-entries h1 h2 h3 = rw (sizes-true (n .levels) (length (n .entries)) h1 h2 h3, nodeCheck)
+
+-- the entries that words hold
+pub entry-in : (ws : List ℕ) (k n j : ℕ) → j < n → entryAt (entriesFrom ws k n) j ≡ entryOf ws (k + j)
+unfolding entriesFrom
+entry-in ws k zero j h = absurd (omega arith)
+entry-in ws k (suc n) zero h = let e : k + 0 ≡ k = omega arith in rw e
+entry-in ws k (suc n) (suc j) h =
+    let e : k + suc j ≡ suc k + j = omega arith in
+    rw e (entry-in ws (suc k) n j (omega arith))
+
+module _ (ws : List ℕ) (n : ℕ) where
+  pub entry-of : (j : ℕ) → j < n → entryAt (entriesOf ws n) j ≡ entryOf ws j
+  entry-of j h = entry-in ws 0 n j h ∙ ap (entryOf ws) (zero-add j)
+
+  pub all-at : AllHold (entriesOf ws n) → (j : ℕ) → j < n → EntryHolds (entryOf ws j)
+  all-at a j h = rw (entry-of j h) at (a j (omega (arith, length-entries ws 0 n)))
+
+  pub of-all : ((j : ℕ) → j < n → EntryHolds (entryOf ws j)) → AllHold (entriesOf ws n)
+  of-all f j h = let l : j < n = omega (arith, length-entries ws 0 n) in rw (entry-of j l) (f j l)
+
+-- fewer entries of a list within the limits
+pub all-fewer : (ws : List ℕ) (m n : ℕ) → m ≤ n → AllHold (entriesOf ws n) → AllHold (entriesOf ws m)
+all-fewer ws m n h a = of-all ws m (λ j l. all-at ws n a j (omega arith))

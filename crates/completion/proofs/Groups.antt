@@ -1,0 +1,105 @@
+-- The demand and the start by group bounds.
+use Prim.Native.Nat.{ℕ, zero, suc, _+_, _-_, _≤_, _<_, zero-le}
+use mathlib.Core.Path.{_≡_, _∙_, refl, ap, sym}
+use mathlib.Core.Bool.{Bool, true, false, _&&_, not}
+use mathlib.Core.List.{List}
+use mathlib.Core.Logic.{by-cases}
+use native.Mathlib.Decide.{decLe}
+use native.Mathlib.Omega.{arith}
+use lib.ListN.{length}
+use lib.Dec.{ltb, leb, eqb}
+use borrow.Author.Tests.{lt-ltb, le-ltb, le-leb, lt-leb, eq-eqb, ne-eqb}
+use Rattle.task_model.specs.declared.Entry.{Entry}
+use Rattle.task_model.specs.Limits.{entryAt}
+use Rattle.completion.specs.Demand.{sumTo, only, moreUrgent, beside, urgentShare, besideShare, demand, start}
+use Rattle.completion.specs.Group.{IsGroup, groupLevel}
+use Rattle.completion.proofs.Sums.{sumTo-none, sumTo-more, sumTo-between, sumTo-flat, sumTo-up}
+
+-- A named group is the group of each entry in it.
+module _ (first last : ℕ) where
+  level-before : (j : ℕ) → j < first → groupLevel first last j ≡ 1
+  unfolding groupLevel
+  level-before j h = rw (lt-ltb j first h, groupLevel)
+
+  level-inside : (j : ℕ) → first ≤ j → j ≤ last → groupLevel first last j ≡ 2
+  unfolding groupLevel
+  level-inside j h k = rw (le-ltb j first h, groupLevel) (rw (le-ltb last j k, groupLevel))
+
+  level-after : (j : ℕ) → first ≤ j → last < j → groupLevel first last j ≡ 3
+  unfolding groupLevel
+  level-after j h k = rw (le-ltb j first h, groupLevel) (rw (lt-ltb last j k, groupLevel))
+
+  pub named-group : (n i : ℕ) → first ≤ i → i ≤ last → IsGroup n first last i (groupLevel first last)
+  named-group n i h k =
+      record {
+        before = λ j l. omega (arith, level-before j l, level-inside i h k);
+        inside = λ j l m. level-inside j l m ∙ sym (level-inside i h k);
+        after = λ j l m. omega (arith, level-after j (omega arith) l, level-inside i h k);
+      }
+
+-- The terms of the entries on more urgent levels, and of the others on the own level.
+abbrev pub urgentIn : List Entry → ℕ → ℕ → ℕ
+urgentIn es t j = urgentShare (entryAt es j) t
+
+abbrev pub besideIn : List Entry → ℕ → ℕ → ℕ → ℕ
+besideIn es i t j = besideShare (entryAt es j) (entryAt es i .calls) t
+
+abbrev pub wcetIn : List Entry → ℕ → ℕ
+wcetIn es j = entryAt es j .wcet
+
+-- The demand of the entry at i in the group from `first` to `last`.
+abbrev pub demandIn : List Entry → ℕ → ℕ → ℕ → ℕ → ℕ
+demandIn es first last i t =
+    entryAt es i .wcet + entryAt es i .blocking + sumTo (urgentIn es t) first
+    + (sumTo (besideIn es i t) i - sumTo (besideIn es i t) first)
+    + (sumTo (besideIn es i t) (last + 1) - sumTo (besideIn es i t) (i + 1))
+
+module _ (es : List Entry) (first last i : ℕ) (lv : ℕ → ℕ) (g : IsGroup (length es) first last i lv)
+    (hf : first ≤ i) (hi : i ≤ last) (hl : last < length es) where
+  -- the group and what is after it is on no more urgent level, and what is before it with the group on none less urgent
+  not-below : (j : ℕ) → first ≤ j → j < length es → lv i ≤ lv j
+  not-below j l u =
+      by-cases (decLe j last)
+      (λ p. omega (arith, g .inside j l p))
+      (λ p. omega (arith, g .after j (omega arith) u))
+
+  not-above : (j : ℕ) → j ≤ last → lv j ≤ lv i
+  not-above j u =
+      by-cases (decLe first j)
+      (λ p. omega (arith, g .inside j p u))
+      (λ p. omega (arith, g .before j (omega arith)))
+
+  urgent-part : (t : ℕ) → sumTo (λ j. only (moreUrgent lv i j) (urgentIn es t j)) (length es) ≡ sumTo (urgentIn es t) first
+  urgent-part t =
+      let f : ℕ → ℕ = λ j. only (moreUrgent lv i j) (urgentIn es t j) in
+      let low = sumTo-between f (urgentIn es t) 0 first zero-le (λ j l u. rw (lt-ltb (lv j) (lv i) (g .before j u))) in
+      let high = sumTo-flat f first (length es) (omega arith) (λ j l u. rw (le-ltb (lv j) (lv i) (not-below j l u))) in
+      omega (arith, sumTo-none f, sumTo-none (urgentIn es t))
+
+  beside-part : (t : ℕ) → sumTo (λ j. only (beside lv i j) (besideIn es i t j)) (length es)
+      ≡ (sumTo (besideIn es i t) i - sumTo (besideIn es i t) first) + (sumTo (besideIn es i t) (last + 1) - sumTo (besideIn es i t) (i + 1))
+  beside-part t =
+      let f : ℕ → ℕ = λ j. only (beside lv i j) (besideIn es i t j) in
+      let b = besideIn es i t in
+      let low = sumTo-flat f 0 first zero-le (λ j l u. rw (ne-eqb (lv j) (lv i) (λ e. omega (arith, g .before j u)))) in
+      let left = sumTo-between f b first i hf
+      (λ j l u. rw (eq-eqb (lv j) (lv i) (g .inside j l (omega arith)), ne-eqb j i (λ e. omega arith))) in
+      let own = sumTo-flat f i (i + 1) (omega arith)
+      (λ j l u. rw (eq-eqb (lv j) (lv i) (g .inside j (omega arith) (omega arith)), eq-eqb j i (omega arith))) in
+      let right = sumTo-between f b (i + 1) (last + 1) (omega arith)
+      (λ j l u. rw (eq-eqb (lv j) (lv i) (g .inside j (omega arith) (omega arith)), ne-eqb j i (λ e. omega arith))) in
+      let high = sumTo-flat f (last + 1) (length es) (omega arith)
+      (λ j l u. rw (ne-eqb (lv j) (lv i) (λ e. omega (arith, g .after j (omega arith) u)))) in
+      omega (arith, sumTo-none f, sumTo-up b first i hf, sumTo-up b (i + 1) (last + 1) (omega arith))
+
+  pub demand-in : (t : ℕ) → demand es lv i t ≡ demandIn es first last i t
+  unfolding demand
+  demand-in t = omega (arith, urgent-part t, beside-part t)
+
+  pub start-in : start es lv i ≡ entryAt es i .blocking + sumTo (wcetIn es) (last + 1)
+  unfolding start
+  start-in =
+      let f : ℕ → ℕ = λ j. only (leb (lv j) (lv i)) (wcetIn es j) in
+      let low = sumTo-between f (wcetIn es) 0 (last + 1) zero-le (λ j l u. rw (le-leb (lv j) (lv i) (not-above j (omega arith)))) in
+      let high = sumTo-flat f (last + 1) (length es) (omega arith) (λ j l u. rw (lt-leb (lv j) (lv i) (g .after j (omega arith) u))) in
+      omega (arith, sumTo-none f, sumTo-none (wcetIn es))

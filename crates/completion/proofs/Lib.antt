@@ -1,0 +1,8 @@
+-- Laws of the completion time test, one subject to a file, and its theorems.
+pub mod Sums
+pub mod Releases
+pub mod Iteration
+pub mod Rounds
+pub mod Shares
+pub mod Groups
+pub mod Words

@@ -1,0 +1,101 @@
+-- The ceiling, the releases in a stretch of time, and the shares of a demand.
+use Prim.Native.Nat.{ℕ, zero, suc, _+_, _-_, _*_, _/_, _≤_, _<_, min}
+use mathlib.Core.Path.{_≡_, _∙_, refl, ap, sym}
+use native.Mathlib.Nat.{
+  zero-add,
+  mul-zero,
+  le-refl,
+  le-trans,
+  le-antisymm,
+  le-div-iff-mul-le,
+  div-lt-iff-lt-mul,
+  div-mul-le-self,
+  mul-div-le,
+  mul-one,
+  one-mul,
+  add-mul,
+  mul-comm,
+  mul-le-mul-left,
+  mul-le-mul-right,
+  min-le-left,
+  min-eq-left,
+  min-eq-right,
+}
+use native.Mathlib.Omega.{arith}
+use Rattle.task_model.specs.declared.Entry.{Entry}
+use Rattle.task_model.specs.Limits.{TimesHold}
+use Rattle.completion.specs.Demand.{ceilDiv, releases, urgentShare, besideShare}
+
+-- more than k periods begin in t ticks exactly if k periods are shorter than t
+module _ (e : Entry) (h : 1 ≤ e .period) where
+  pub releases-more : (t k : ℕ) → e .period * k < t → k + 1 ≤ releases e t
+  unfolding releases ceilDiv
+  releases-more t k l =
+      le-div-iff-mul-le h .1 (omega (arith, add-mul k 1 (e .period), mul-comm k (e .period), one-mul (e .period)))
+
+  pub releases-few : (t k : ℕ) → t ≤ e .period * k → releases e t ≤ k
+  unfolding releases ceilDiv
+  releases-few t k l =
+      let below : (t + (e .period - 1)) / e .period < k + 1 =
+      div-lt-iff-lt-mul h .1 (omega (arith, add-mul k 1 (e .period), mul-comm k (e .period), one-mul (e .period))) in
+      omega arith
+
+  pub releases-up : (s t : ℕ) → s ≤ t → releases e s ≤ releases e t
+  unfolding releases ceilDiv
+  releases-up s t l = le-div-iff-mul-le h .1 (le-trans (div-mul-le-self (s + (e .period - 1)) (e .period)) (omega arith))
+
+  pub releases-some : (t : ℕ) → 1 ≤ t → 1 ≤ releases e t
+  releases-some t p = rw zero-add at (releases-more t 0 (omega (arith, mul-zero (e .period))))
+
+  -- in the first period there is one
+  pub releases-one : (t : ℕ) → 1 ≤ t → t ≤ e .period → releases e t ≡ 1
+  releases-one t p l =
+      le-antisymm (releases-few t 1 (omega (arith, mul-one (e .period)))) (releases-some t p)
+
+-- what an entry runs in t ticks
+module _ (e : Entry) (h : TimesHold e) where
+  periodic : 1 ≤ e .period
+  periodic = omega arith
+
+  pub urgent-up : (s t : ℕ) → s ≤ t → urgentShare e s ≤ urgentShare e t
+  unfolding urgentShare
+  urgent-up s t l = mul-le-mul-left (e .wcet) (releases-up e periodic s t l)
+
+  pub beside-up : (calls s t : ℕ) → s ≤ t → besideShare e calls s ≤ besideShare e calls t
+  unfolding besideShare
+  beside-up calls s t l = mul-le-mul-left (e .wcet) (omega (arith, releases-up e periodic s t l))
+
+  -- in the first tick, one run
+  pub urgent-first : urgentShare e 1 ≡ e .wcet
+  unfolding urgentShare
+  urgent-first = rw (releases-one e periodic 1 (omega arith) periodic) (mul-one (e .wcet))
+
+  pub beside-first : (calls : ℕ) → besideShare e calls 1 ≡ e .wcet
+  unfolding besideShare
+  beside-first calls =
+      let m : min (releases e 1) (calls + 1) ≡ 1 = omega (arith, releases-one e periodic 1 (omega arith) periodic) in
+      rw m (mul-one (e .wcet))
+
+  -- at most t + T, since C is at most T
+  pub urgent-most : (t : ℕ) → t ≤ 1000000000 → urgentShare e t ≤ 2000000000
+  unfolding urgentShare releases ceilDiv
+  urgent-most t l =
+      let q : ℕ = (t + (e .period - 1)) / e .period in
+      let top : e .period * q ≤ t + (e .period - 1) = mul-div-le (t + (e .period - 1)) (e .period) in
+      let less : e .wcet * q ≤ e .period * q = mul-le-mul-right q (le-trans (h .due) (h .periodic)) in
+      omega arith
+
+  pub beside-most : (calls t : ℕ) → besideShare e calls t ≤ urgentShare e t
+  unfolding besideShare urgentShare
+  beside-most calls t = mul-le-mul-left (e .wcet) (min-le-left (releases e t) (calls + 1))
+
+  -- past `calls` periods the count of runs on the own level is at its limit, and up to there it is that of releases
+  pub beside-limit : (calls t : ℕ) → e .period * calls < t → besideShare e calls t ≡ e .wcet * (calls + 1)
+  unfolding besideShare
+  beside-limit calls t l = rw (min-eq-right (releases-more e periodic t calls l))
+
+  pub beside-all : (calls t : ℕ) → t ≤ e .period * calls → besideShare e calls t ≡ urgentShare e t
+  unfolding besideShare urgentShare
+  beside-all calls t l =
+      let m : min (releases e t) (calls + 1) ≡ releases e t = omega (arith, releases-few e periodic t calls l) in
+      rw m

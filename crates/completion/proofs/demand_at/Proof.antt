@@ -1,0 +1,115 @@
+use Prim.Native.Nat.{_+_, _≤_, _<_}
+use mathlib.Core.Path.{_≡_, _∙_, ap, sym}
+use native.Mathlib.Omega.{arith}
+use borrow.Author.Needs.{needs}
+use Rattle.task_model.specs.declared.Entry.{Entry}
+use Rattle.task_model.specs.Words.{entryOf}
+use Rattle.task_model.proofs.Laws.{all-at, all-fewer}
+use Rattle.completion.proofs.Words.{words-parts, urgent-small, beside-small}
+use Rattle.completion.proofs.demand_at.Statement.{statement}
+use Rattle.completion.proofs.demand_at.Tie as tie
+
+entry-at-requires : tie.Need-entry-at-requires
+entry-at-requires c κs = omega arith
+
+cast-result : tie.Need-cast-result
+cast-result c = search needs
+
+cast-result-2 : tie.Need-cast-result-2
+cast-result-2 c = search needs
+
+add-result : tie.Need-add-result
+add-result c = search needs
+
+urgent-sum-requires : tie.Need-urgent-sum-requires
+urgent-sum-requires c κs =
+    let p = c .before .before .before .pre in
+    (all-fewer _ _ _ (omega arith) (p .0), (omega arith, p .1 .1))
+
+-- what the parts add up to
+module _ (c : tie.After-struct-known2) where
+  abbrev at-start : tie.Start
+  at-start = c .before .before .before
+
+  own : c .before .before .entry-at .result ≡ entryOf (at-start .args .words .now) (at-start .args .i)
+  own = c .before .before .entry-at .ensures
+
+  few-own : (c .before .before .entry-at .result .wcet ≤ 1000000000) × (c .before .before .entry-at .result .blocking ≤ 1000000000)
+  few-own =
+      let h = all-at _ _ (at-start .pre .0) (at-start .args .i) (omega arith) .times in
+      let w = ap (λ (e : Entry). e .wcet) own in
+      let b = ap (λ (e : Entry). e .blocking) own in
+      (omega arith, omega arith)
+
+few-urgent : (c : tie.After-urgent-sum) → c .urgent-sum .result ≤ 128000000000
+few-urgent c =
+    rw (c .urgent-sum .ensures)
+    (urgent-small _ _ (at-start (c .before) .pre .0) (omega arith) _ _ (omega arith) (omega arith))
+
+few-left : (c : tie.After-beside-sum) → c .beside-sum .result ≤ 128000000000
+few-left c =
+    omega (
+      arith,
+      c .beside-sum .ensures,
+      beside-small _ _ (at-start (c .before .before) .pre .0) (omega arith) (c .before .before .before .before .entry-at .result .calls)
+          (at-start (c .before .before) .args .t) (at-start (c .before .before) .args .i) (omega arith) (omega arith),
+    )
+
+few-right : (c : tie.After-beside-sum2) → c .beside-sum2 .result ≤ 128000000000
+few-right c =
+    omega (
+      arith,
+      c .beside-sum2 .ensures,
+      beside-small _ _ (at-start (c .before .before .before) .pre .0) (omega arith)
+          (c .before .before .before .before .before .entry-at .result .calls) (at-start (c .before .before .before) .args .t)
+          (at-start (c .before .before .before) .args .last + 1) (omega arith) (omega arith),
+    )
+
+add-result-2 : tie.Need-add-result-2
+add-result-2 c = omega (arith, few-own (c .before), few-urgent c)
+
+beside-sum-requires : tie.Need-beside-sum-requires
+beside-sum-requires c κs =
+    let p = c .before .before .before .before .pre in
+    (all-fewer _ _ _ (omega arith) (p .0), ((omega arith, omega arith), p .1 .1))
+
+add-result-3 : tie.Need-add-result-3
+add-result-3 c = omega (arith, few-own (c .before .before), few-urgent (c .before), few-left c)
+
+add-beside-sum : tie.Need-add-beside-sum
+add-beside-sum c = omega arith
+
+add-beside-sum-2 : tie.Need-add-beside-sum-2
+add-beside-sum-2 c = omega arith
+
+beside-sum-requires-2 : tie.Need-beside-sum-requires-2
+beside-sum-requires-2 c κs =
+    let p = c .before .before .before .before .before .pre in
+    (all-fewer _ _ _ (omega arith) (p .0), ((omega arith, omega arith), p .1 .1))
+
+add-result-4 : tie.Need-add-result-4
+add-result-4 c =
+    omega (arith, few-own (c .before .before .before), few-urgent (c .before .before), few-left (c .before), few-right c)
+
+returns : tie.Need-returns
+returns c =
+    words-parts _ _ _ _ _ (omega arith) (omega arith) (omega arith) _ _ _ _ _ (own (c .before .before .before))
+    (c .before .before .urgent-sum .ensures) (c .before .beside-sum .ensures) (c .beside-sum2 .ensures)
+
+pub demand-at-spec : {M : Type 1} → statement M
+demand-at-spec =
+    tie.close
+    (tie.spec
+    entry-at-requires
+    cast-result
+    cast-result-2
+    add-result
+    urgent-sum-requires
+    add-result-2
+    beside-sum-requires
+    add-result-3
+    add-beside-sum
+    add-beside-sum-2
+    beside-sum-requires-2
+    add-result-4
+    returns)

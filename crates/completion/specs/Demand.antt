@@ -1,0 +1,55 @@
+-- The demand of an entry (Bethmangalkar, "Schedulability Analysis in Static Real-Time Systems", 1999, equation 4.2),
+-- with the ceiling in both terms. `es` are the entries of a node, `level j` is the level of the entry at position j, and
+-- level 1 is the most urgent.
+use Prim.Native.Nat.{ℕ, zero, suc, _+_, _-_, _*_, _/_, min}
+use mathlib.Core.Bool.{Bool, true, false, _&&_, not}
+use mathlib.Core.List.{List}
+use lib.ListN.{length}
+use lib.Dec.{ltb, leb, eqb}
+use Rattle.task_model.specs.declared.Entry.{Entry}
+use Rattle.task_model.specs.Limits.{entryAt}
+
+-- ⌈ a / b ⌉, for b at least 1.
+unfoldable pub ceilDiv : ℕ → ℕ → ℕ
+ceilDiv a b = (a + (b - 1)) / b
+
+-- How often an entry is released in `t` ticks, at most: ⌈ t / T ⌉.
+unfoldable pub releases : Entry → ℕ → ℕ
+releases e t = ceilDiv t (e .period)
+
+-- f 0 + f 1 + .. + f (n - 1).
+unfoldable pub sumTo : (ℕ → ℕ) → ℕ → ℕ
+sumTo f zero = 0
+sumTo f (suc n) = sumTo f n + f n
+
+-- x where the test holds, and else 0.
+abbrev pub only : Bool → ℕ → ℕ
+only true x = x
+only false x = 0
+
+-- The entry at j is on a more urgent level than the entry at i.
+abbrev pub moreUrgent : (ℕ → ℕ) → ℕ → ℕ → Bool
+moreUrgent level i j = ltb (level j) (level i)
+
+-- It is another entry on the level of the entry at i.
+abbrev pub beside : (ℕ → ℕ) → ℕ → ℕ → Bool
+beside level i j = eqb (level j) (level i) && not (eqb j i)
+
+-- What an entry on a more urgent level runs in `t` ticks: C × ⌈ t / T ⌉.
+unfoldable pub urgentShare : Entry → ℕ → ℕ
+urgentShare e t = e .wcet * releases e t
+
+-- What another entry on the level of an entry with `calls` remote calls runs: C × min(⌈ t / T ⌉, r + 1).
+unfoldable pub besideShare : Entry → ℕ → ℕ → ℕ
+besideShare e calls t = e .wcet * min (releases e t) (calls + 1)
+
+-- The demand of the entry at i at time t: its own C and B, the entries on more urgent levels, and the others on its own.
+unfoldable pub demand : List Entry → (ℕ → ℕ) → ℕ → ℕ → ℕ
+demand es level i t =
+    entryAt es i .wcet + entryAt es i .blocking
+    + sumTo (λ j. only (moreUrgent level i j) (urgentShare (entryAt es j) t)) (length es)
+    + sumTo (λ j. only (beside level i j) (besideShare (entryAt es j) (entryAt es i .calls) t)) (length es)
+
+-- Where the test starts: B of the entry at i, and C of every entry on its own and more urgent levels, itself included.
+unfoldable pub start : List Entry → (ℕ → ℕ) → ℕ → ℕ
+start es level i = entryAt es i .blocking + sumTo (λ j. only (leb (level j) (level i)) (entryAt es j .wcet)) (length es)

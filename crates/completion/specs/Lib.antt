@@ -1,0 +1,5 @@
+-- What a reader of the completion time test must believe.
+pub mod Demand
+pub mod Test
+pub mod Group
+pub mod Rounds

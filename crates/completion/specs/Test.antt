@@ -1,0 +1,58 @@
+-- The completion time test (Sha and Sathaye, "Distributed System Design Using Generalized Rate Monotonic Theory",
+-- CMU/SEI-95-TR-011, 1995).
+use Prim.Native.Nat.{ℕ, zero, suc, _+_, _-_}
+use mathlib.Core.Bool.{Bool, true, false, _&&_, not}
+use mathlib.Core.List.{List}
+use lib.ListN.{length}
+use lib.Dec.{leb, eqb}
+use Rattle.task_model.specs.declared.Entry.{Entry}
+use Rattle.task_model.specs.Limits.{entryAt}
+use Rattle.completion.specs.declared.Timing.{Timing}
+use Rattle.completion.specs.declared.Timing.the-variants.{OnTime, Late}
+use Rattle.completion.specs.Demand.{ceilDiv, releases, sumTo, only, demand, start}
+
+-- The answer for an entry: on time, with its completion time and the rounds, or late, with the rounds alone. Rounds is
+-- the number of times that the demand was evaluated.
+pub data Completion : Type 0 where
+  on-time : (time rounds : ℕ) → Completion
+  late : (rounds : ℕ) → Completion
+
+-- What the code's answer says.
+abbrev pub completion : Timing → Completion
+completion (OnTime time rounds) = on-time time rounds
+completion (Late rounds) = late rounds
+
+-- While t is at most the deadline d, the demand w is evaluated at t: if it equals t, t is the completion time, and else
+-- it becomes the next t. `rounds` counts the evaluations made so far, and no more than `fuel` are made.
+unfoldable pub iterate : (ℕ → ℕ) → ℕ → ℕ → ℕ → ℕ → Completion
+iterate w d zero t rounds = late rounds
+iterate w d (suc fuel) t rounds =
+    elim (leb t d) [
+      | false ↦ late rounds
+      | true ↦ elim (eqb (w t) t) [
+        | true ↦ on-time t (rounds + 1)
+        | false ↦ iterate w d fuel (w t) (rounds + 1)
+      ]
+    ]
+
+-- Every evaluation but the last raises t, so d + 1 - t of them are enough.
+unfoldable pub testFrom : (ℕ → ℕ) → ℕ → ℕ → ℕ → Completion
+testFrom w d t rounds = iterate w d (d + 1 - t) t rounds
+
+-- The completion time test of the entry at i.
+unfoldable pub completionTest : List Entry → (ℕ → ℕ) → ℕ → Completion
+completionTest es level i = testFrom (demand es level i) (entryAt es i .deadline) (start es level i) 0
+
+-- The entry ends by its deadline.
+abbrev pub isOnTime : Completion → Bool
+isOnTime (on-time time rounds) = true
+isOnTime (late rounds) = false
+
+abbrev pub roundsIn : Completion → ℕ
+roundsIn (on-time time rounds) = rounds
+roundsIn (late rounds) = rounds
+
+-- The bound on rounds: 1, and over the entries on the own and the more urgent levels without i, ⌈ D of i / T ⌉ - 1.
+unfoldable pub roundsBound : List Entry → (ℕ → ℕ) → ℕ → ℕ
+roundsBound es level i =
+    1 + sumTo (λ j. only (leb (level j) (level i) && not (eqb j i)) (releases (entryAt es j) (entryAt es i .deadline) - 1)) (length es)

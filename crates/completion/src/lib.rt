@@ -1,0 +1,135 @@
+// The completion time test of an entry in a group of its node.
+ghost use mathlib.Core.Path.{_≡_};
+ghost use Prim.Native.Nat.{ℕ, _+_, _-_, _≤_, _<_};
+ghost use Rattle.task_model.specs.Limits.{AllHold, TimesHold};
+ghost use Rattle.task_model.specs.Words.{entryOf, entriesOf};
+ghost use Rattle.completion.specs.Demand.{releases, sumTo, urgentShare, besideShare, demand, start};
+ghost use Rattle.completion.specs.Group.{groupLevel};
+ghost use Rattle.completion.specs.Test.{completion, completionTest};
+use task_model::Entry;
+use task_model::entry_at;
+
+// Whether an entry ends by its deadline; rounds is the number of times that its demand was evaluated.
+pub enum Timing {
+    OnTime { time: u32, rounds: u32 },
+    Late { rounds: u32 },
+}
+
+// How often an entry is released in `t` ticks. The first period needs no division.
+fn releases_in(e: Entry, t: u32) -> u32
+    requires { ⌜ TimesHold e ⌝ ∗ ⌜ (1 ≤ t) × (t ≤ 1000000000) ⌝ }
+    ensures { λ n. ⌜ n ≡ releases e t ⌝ }
+{
+    if t <= e.period {
+        return 1;
+    }
+    (t + (e.period - 1)) / e.period
+}
+
+// What an entry on a more urgent level runs in `t` ticks.
+fn urgent_share(e: Entry, t: u32) -> u64
+    requires { ⌜ TimesHold e ⌝ ∗ ⌜ (1 ≤ t) × (t ≤ 1000000000) ⌝ }
+    ensures { λ x. ⌜ x ≡ urgentShare e t ⌝ }
+{
+    e.wcet as u64 * releases_in(e, t) as u64
+}
+
+// What another entry on the level of an entry with `calls` remote calls runs in `t` ticks.
+// Past `calls` periods the count is at its limit, and no division is needed.
+fn beside_share(e: Entry, calls: u8, t: u32) -> u64
+    requires { ⌜ TimesHold e ⌝ ∗ ⌜ (1 ≤ t) × (t ≤ 1000000000) ⌝ }
+    ensures { λ x. ⌜ x ≡ besideShare e calls t ⌝ }
+{
+    if e.period as u64 * (calls as u64) < t as u64 {
+        return e.wcet as u64 * (calls as u64 + 1);
+    }
+    urgent_share(e, t)
+}
+
+// What the entries before position `end` run in `t` ticks on more urgent levels.
+fn urgent_sum(words: &[u32; 320], end: usize, t: u32) -> u64
+    requires { ⌜ AllHold (entriesOf (now words) end) ⌝ ∗ ⌜ end ≤ 64 ⌝ ∗ ⌜ (1 ≤ t) × (t ≤ 1000000000) ⌝ }
+    ensures { λ x. ⌜ x ≡ sumTo (λ j. urgentShare (entryOf (now (words .entry)) j) t) end ⌝ }
+{
+    let mut sum = 0;
+    for j in 0..end {
+        sum += urgent_share(entry_at(words, j), t);
+    }
+    sum
+}
+
+// What the entries from position `begin` up to `end` run in `t` ticks beside an entry with `calls` remote calls.
+fn beside_sum(words: &[u32; 320], begin: usize, end: usize, calls: u8, t: u32) -> u64
+    requires { ⌜ AllHold (entriesOf (now words) end) ⌝ ∗ ⌜ (begin ≤ end) × (end ≤ 64) ⌝ ∗ ⌜ (1 ≤ t) × (t ≤ 1000000000) ⌝ }
+    ensures { λ x. ⌜ x ≡ sumTo (λ j. besideShare (entryOf (now (words .entry)) j) calls t) end
+        - sumTo (λ j. besideShare (entryOf (now (words .entry)) j) calls t) begin ⌝ }
+{
+    let mut sum = 0;
+    for j in begin..end {
+        sum += beside_share(entry_at(words, j), calls, t);
+    }
+    sum
+}
+
+// The demand at `t` of the entry at `i`, in the group from `first` to `last`.
+fn demand_at(words: &[u32; 320], count: usize, first: usize, last: usize, i: usize, t: u32) -> u64
+    requires { ⌜ AllHold (entriesOf (now words) count) ⌝ ∗ ⌜ (first ≤ i) × (i ≤ last) × (last < count) × (count ≤ 64) ⌝
+        ∗ ⌜ (1 ≤ t) × (t ≤ 1000000000) ⌝ }
+    ensures { λ x. ⌜ x ≡ demand (entriesOf (now (words .entry)) count) (groupLevel first last) i t ⌝ }
+{
+    let own = entry_at(words, i);
+    own.wcet as u64
+        + own.blocking as u64
+        + urgent_sum(words, first, t)
+        + beside_sum(words, first, i, own.calls, t)
+        + beside_sum(words, i + 1, last + 1, own.calls, t)
+}
+
+// The longest runs of the entries before position `end`, added up.
+fn wcet_sum(words: &[u32; 320], end: usize) -> u64
+    requires { ⌜ AllHold (entriesOf (now words) end) ⌝ ∗ ⌜ end ≤ 64 ⌝ }
+    ensures { λ x. ⌜ x ≡ sumTo (λ j. entryOf (now (words .entry)) j .wcet) end ⌝ }
+{
+    let mut sum = 0;
+    for j in 0..end {
+        let e = entry_at(words, j);
+        sum += e.wcet as u64;
+    }
+    sum
+}
+
+// Where the test of the entry at `i` starts, in the group from `first` to `last`.
+fn start_at(words: &[u32; 320], count: usize, first: usize, last: usize, i: usize) -> u64
+    requires { ⌜ AllHold (entriesOf (now words) count) ⌝ ∗ ⌜ (first ≤ i) × (i ≤ last) × (last < count) × (count ≤ 64) ⌝ }
+    ensures { λ x. ⌜ x ≡ start (entriesOf (now (words .entry)) count) (groupLevel first last) i ⌝ }
+{
+    let own = entry_at(words, i);
+    own.blocking as u64 + wcet_sum(words, last + 1)
+}
+
+// Times the entry at `i` of a node, in the group from `first` to `last`; the entries before it are more urgent.
+pub fn completion_test(
+    words: &[u32; 320],
+    count: usize,
+    first: usize,
+    last: usize,
+    i: usize,
+) -> Timing
+    requires { ⌜ AllHold (entriesOf (now words) count) ⌝ ∗ ⌜ (first ≤ i) × (i ≤ last) × (last < count) × (count ≤ 64) ⌝ }
+    ensures { λ a. ⌜ completion a ≡ completionTest (entriesOf (now (words .entry)) count) (groupLevel first last) i ⌝ }
+{
+    let own = entry_at(words, i);
+    let deadline = own.deadline as u64;
+    let mut t = start_at(words, count, first, last, i);
+    let mut rounds = 0;
+    while t <= deadline {
+        let time = t as u32;
+        let next = demand_at(words, count, first, last, i, time);
+        rounds += 1;
+        if next == t {
+            return Timing::OnTime { time, rounds };
+        }
+        t = next;
+    }
+    Timing::Late { rounds }
+}
