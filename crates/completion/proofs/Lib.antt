@@ -5,4 +5,6 @@ pub mod Iteration
 pub mod Rounds
 pub mod Shares
 pub mod Groups
+pub mod Alike
 pub mod Words
+pub mod Theorems

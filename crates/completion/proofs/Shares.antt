@@ -87,7 +87,7 @@ outside a b j i own h =
     (λ l. (le-ltb a b (omega arith), (rw (ne-eqb a b (λ e. omega arith))))))
 
 -- The releases of the entry at j after its first, in t ticks, where it is on i's own or a more urgent level.
-abbrev later : List Entry → (ℕ → ℕ) → ℕ → ℕ → ℕ → ℕ
+abbrev pub later : List Entry → (ℕ → ℕ) → ℕ → ℕ → ℕ → ℕ
 later es lv i t j = only (leb (lv j) (lv i) && not (eqb j i)) (releases (entryAt es j) t - 1)
 
 module _ (es : List Entry) (all : AllHold es) (lv : ℕ → ℕ) (i : ℕ) (hi : i < length es) where

@@ -1,0 +1,80 @@
+-- Demands that are equal because what they read is.
+use Prim.Native.Nat.{ℕ, _+_, _-_, _*_, _≤_, _<_, min}
+use mathlib.Core.Path.{_≡_, _∙_, refl, ap, ap₂, sym}
+use mathlib.Core.Bool.{Bool, _&&_, _||_, not}
+use mathlib.Core.List.{List}
+use native.Mathlib.Omega.{arith}
+use lib.ListN.{length}
+use lib.Dec.{ltb, leb, eqb}
+use Rattle.task_model.specs.declared.Entry.{Entry}
+use Rattle.task_model.specs.Limits.{entryAt}
+use Rattle.completion.specs.Demand.{
+  ceilDiv,
+  releases,
+  sumTo,
+  only,
+  moreUrgent,
+  beside,
+  urgentShare,
+  besideShare,
+  demand,
+  start,
+}
+use Rattle.completion.specs.Test.{testFrom, completionTest}
+use Rattle.completion.proofs.Sums.{sumTo-eq}
+use Rattle.completion.proofs.Iteration.{test-same}
+use Rattle.completion.proofs.Shares.{leb-or}
+use Rattle.completion.proofs.Groups.{urgentIn, besideIn, demandIn}
+
+pub test-alike : (es es′ : List Entry) (lv lv′ : ℕ → ℕ) (i : ℕ) → entryAt es i .deadline ≡ entryAt es′ i .deadline
+    → start es lv i ≡ start es′ lv′ i → ((t : ℕ) → demand es lv i t ≡ demand es′ lv′ i t)
+    → completionTest es lv i ≡ completionTest es′ lv′ i
+unfolding completionTest
+test-alike es es′ lv lv′ i d s w =
+    rw (d, s) (test-same (demand es lv i) (demand es′ lv′ i) w (entryAt es′ i .deadline) (start es′ lv′ i) 0)
+
+-- levels that compare alike with the timed entry's
+module _ (es : List Entry) (lv lv′ : ℕ → ℕ) (i : ℕ)
+    (h : (j : ℕ) → j < length es → (ltb (lv j) (lv i) ≡ ltb (lv′ j) (lv′ i)) × (eqb (lv j) (lv i) ≡ eqb (lv′ j) (lv′ i))) where
+  pub demand-alike : (t : ℕ) → demand es lv i t ≡ demand es lv′ i t
+  unfolding demand
+  demand-alike t =
+      ap₂ (λ x y. entryAt es i .wcet + entryAt es i .blocking + x + y)
+      (sumTo-eq _ _ (length es) (λ j l. ap (λ b. only b (urgentShare (entryAt es j) t)) (h j l .0)))
+      (sumTo-eq _ _ (length es)
+      (λ j l. ap (λ b. only (b && not (eqb j i)) (besideShare (entryAt es j) (entryAt es i .calls) t)) (h j l .1)))
+
+  pub start-alike : start es lv i ≡ start es lv′ i
+  unfolding start
+  start-alike =
+      ap (λ x. entryAt es i .blocking + x)
+      (sumTo-eq _ _ (length es)
+      (λ j l.
+      ap (λ b. only b (entryAt es j .wcet)) (leb-or (lv j) (lv i) ∙ ap₂ _||_ (h j l .0) (h j l .1) ∙ sym (leb-or (lv′ j) (lv′ i)))))
+
+-- nodes that agree in C and T up to the group's last entry, and in the timed entry's B and r
+module _ (es es′ : List Entry) (first last i : ℕ) (hf : first ≤ i) (hi : i ≤ last)
+    (ct : (j : ℕ) → j ≤ last → (entryAt es j .wcet ≡ entryAt es′ j .wcet) × (entryAt es j .period ≡ entryAt es′ j .period))
+    (b : entryAt es i .blocking ≡ entryAt es′ i .blocking) (r : entryAt es i .calls ≡ entryAt es′ i .calls) where
+  urgent-same : (t j : ℕ) → j ≤ last → urgentIn es t j ≡ urgentIn es′ t j
+  unfolding urgentShare releases
+  urgent-same t j l = ap₂ (λ c p. c * ceilDiv t p) (ct j l .0) (ct j l .1)
+
+  beside-same : (t j : ℕ) → j ≤ last → besideIn es i t j ≡ besideIn es′ i t j
+  unfolding besideShare releases
+  beside-same t j l = rw (ct j l .0, ct j l .1, r)
+
+  pub demandIn-same : (t : ℕ) → demandIn es first last i t ≡ demandIn es′ first last i t
+  demandIn-same t =
+      let u = sumTo-eq (urgentIn es t) (urgentIn es′ t) first (λ j l. urgent-same t j (omega arith)) in
+      let s : (m : ℕ) → m ≤ last + 1 → sumTo (besideIn es i t) m ≡ sumTo (besideIn es′ i t) m =
+      λ m k. sumTo-eq (besideIn es i t) (besideIn es′ i t) m (λ j l. beside-same t j (omega arith)) in
+      rw (
+        ct i hi .0,
+        b,
+        u,
+        s i (omega arith),
+        s first (omega arith),
+        s (last + 1) (omega arith),
+        s (i + 1) (omega arith),
+      )
