@@ -1,0 +1,3 @@
+-- Laws of text in a buffer and of decimal numbers.
+pub mod Writing
+pub mod Numbers

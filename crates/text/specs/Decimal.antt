@@ -1,0 +1,26 @@
+-- Decimal numbers without leading zeros.
+use Prim.Native.Nat.{ℕ, zero, suc, _+_, _-_, _*_, _/_, _%_}
+use mathlib.Core.Bool.{true, false}
+use mathlib.Core.List.{List, [], _∷_, _++_}
+use lib.Dec.{ltb}
+
+-- The digits of n, the last one last, no more than `most` of them. The digit d is the byte 48 + d.
+unfoldable pub digits : ℕ → ℕ → List ℕ
+digits zero n = []
+digits (suc most) n =
+    elim (ltb n 10) [
+      | true ↦ (48 + n) ∷ []
+      | false ↦ digits most (n / 10) ++ (48 + n % 10) ∷ []
+    ]
+
+-- A number has no more digits than 1 and the number itself.
+unfoldable pub decimal : ℕ → List ℕ
+decimal n = digits (suc n) n
+
+-- The number that digits stand for, after `n` was read.
+unfoldable pub readOn : ℕ → List ℕ → ℕ
+readOn n [] = n
+readOn n (d ∷ ds) = readOn (n * 10 + (d - 48)) ds
+
+unfoldable pub number : List ℕ → ℕ
+number ds = readOn 0 ds
