@@ -100,12 +100,15 @@ decimal-length (suc k) n h =
       decimal-length k (n / 10) (div-lt-iff-lt-mul (omega arith) .1 (rw pow-suc at h)),
     )))
 
--- The numbers of 32 bits, and the smaller ones that a listing prints.
-pub decimal-32 : (n : ℕ) → n < 2 ^ 32 → length (decimal n) ≤ 10
-decimal-32 n h = decimal-length 9 n (omega arith)
+-- The numbers of a byte, of 16, 32 and 64 bits.
+pub decimal-8 : (n : ℕ) → n < 256 → length (decimal n) ≤ 3
+decimal-8 n h = decimal-length 2 n (omega arith)
 
 pub decimal-16 : (n : ℕ) → n < 65536 → length (decimal n) ≤ 5
 decimal-16 n h = decimal-length 4 n (omega arith)
 
-pub decimal-level : (n : ℕ) → n ≤ 64 → length (decimal n) ≤ 2
-decimal-level n h = decimal-length 1 n (omega arith)
+pub decimal-32 : (n : ℕ) → n < 2 ^ 32 → length (decimal n) ≤ 10
+decimal-32 n h = decimal-length 9 n (omega arith)
+
+pub decimal-64 : (n : ℕ) → n < 2 ^ 64 → length (decimal n) ≤ 20
+decimal-64 n h = decimal-length 19 n (omega arith)

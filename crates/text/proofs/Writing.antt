@@ -7,7 +7,7 @@ use native.Mathlib.Numerals.{add-one}
 use native.Mathlib.Omega.{arith}
 use lib.ListN.{length, take, drop, set, length-append, length-drop, take-append-drop}
 use lib.Seq.{take-at, drop-at, drop-drop, length-take-le, set-split, append-snoc}
-use Rattle.text.specs.Text.{written}
+use Rattle.text.specs.Text.{written, Wrote}
 
 -- nothing written
 pub written-none : (o : List ℕ) (at : ℕ) → written o at [] ≡ o
@@ -39,3 +39,18 @@ module _ (o : List ℕ) (at : ℕ) (t : List ℕ) (fits : at + length t ≤ leng
 -- one byte stored
 pub written-one : (o : List ℕ) (at x : ℕ) → at < length o → set o at x ≡ written o at (x ∷ [])
 written-one o at x h = set-split o at x h ∙ sym (append-snoc (take at o) x (drop (suc at) o)) ∙ ap (λ n. take at o ++ (x ∷ []) ++ drop n o) (sym (add-one at))
+
+-- nothing, and one text after another
+pub wrote-none : (o : List ℕ) (at : ℕ) → Wrote o at [] o at
+wrote-none o at = record { buffer = sym (written-none o at); after = sym (add-zero at) }
+
+module _ {o : List ℕ} {at : ℕ} {t n : List ℕ} {end : ℕ} (w : Wrote o at t n end) (fits : at + length t ≤ length o) where
+  pub wrote-kept : length n ≡ length o
+  wrote-kept = ap length (w .buffer) ∙ length-written o at t fits
+
+  pub wrote-then : {s m : List ℕ} {next : ℕ} → Wrote n end s m next → Wrote o at (t ++ s) m next
+  wrote-then {s} {m} {next} v =
+      record {
+        buffer = v .buffer ∙ rw (w .buffer, w .after) (written-after o at t fits s);
+        after = omega (arith, v .after, w .after, length-append t s);
+      }

@@ -2,7 +2,9 @@
 use Prim.Native.Nat.{ℕ, zero, suc, _+_, _-_, _*_, _/_, _%_}
 use mathlib.Core.Bool.{true, false}
 use mathlib.Core.List.{List, [], _∷_, _++_}
+use Prim.Native.String.{String}
 use lib.Dec.{ltb}
+use Rattle.text.specs.Text.{text}
 
 -- The digits of n, the last one last, no more than `most` of them. The digit d is the byte 48 + d.
 unfoldable pub digits : ℕ → ℕ → List ℕ
@@ -24,3 +26,7 @@ readOn n (d ∷ ds) = readOn (n * 10 + (d - 48)) ds
 
 unfoldable pub number : List ℕ → ℕ
 number ds = readOn 0 ds
+
+-- A label and a number.
+abbrev pub field : String → ℕ → List ℕ
+field label n = text label ++ decimal n

@@ -2,6 +2,7 @@
 use Prim.Native.Nat.{ℕ, _+_}
 use Prim.Native.Char.{code}
 use Prim.Native.String.{String, [] as «empty», _∷_ as «then»}
+use mathlib.Core.Path.{_≡_}
 use mathlib.Core.List.{List, [], _∷_, _++_}
 use lib.ListN.{length, take, drop}
 
@@ -13,3 +14,8 @@ text («then» c s) = code c ∷ text s
 -- A buffer after the bytes `t` were written into it from position `at` on: what lies before and beyond them is kept.
 abbrev pub written : List ℕ → ℕ → List ℕ → List ℕ
 written buffer at t = take at buffer ++ t ++ drop (at + length t) buffer
+
+-- A call wrote `t` into the buffer `old` from `at` on, left it as `new`, and answers the position after the text.
+pub record Wrote (old : List ℕ) (at : ℕ) (t new : List ℕ) (end : ℕ) : Type 0 where
+  pub buffer : new ≡ written old at t
+  pub after : end ≡ at + length t

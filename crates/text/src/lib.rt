@@ -1,15 +1,13 @@
-// Text into a lent buffer.
-ghost use mathlib.Core.Path.{_≡_};
+// Text into a lent buffer. Each function writes from a position on, and answers the position after what it wrote.
 ghost use Prim.Native.Nat.{_+_, _≤_};
+ghost use mathlib.Core.List.{_++_};
 ghost use lib.ListN.{length};
-ghost use Rattle.text.specs.Text.{written};
+ghost use Rattle.text.specs.Text.{Wrote};
 ghost use Rattle.text.specs.Decimal.{decimal};
 
-// Writes bytes from a position on, and answers the position after them.
 pub fn put_bytes(out: &mut [u8], at: usize, bytes: &[u8]) -> usize
     requires { ⌜ at + length (now bytes) ≤ length (now out) ⌝ }
-    ensures answer { λ r. ⌜ r ≡ at + length (now (bytes .entry)) ⌝ }
-    ensures buffer { λ r. ⌜ now (out .exit) ≡ written (now (out .entry)) at (now (bytes .entry)) ⌝ }
+    ensures { λ end. ⌜ Wrote (now (out .entry)) at (now (bytes .entry)) (now (out .exit)) end ⌝ }
 {
     for k in 0..bytes.len() {
         out[at + k] = bytes[k];
@@ -17,11 +15,10 @@ pub fn put_bytes(out: &mut [u8], at: usize, bytes: &[u8]) -> usize
     at + bytes.len()
 }
 
-// Writes a number in decimal digits from a position on, and answers the position after them.
-pub fn put_number(out: &mut [u8], at: usize, n: u32) -> usize
+// A number in decimal digits.
+pub fn put_number(out: &mut [u8], at: usize, n: u64) -> usize
     requires { ⌜ at + length (decimal n) ≤ length (now out) ⌝ }
-    ensures answer { λ r. ⌜ r ≡ at + length (decimal n) ⌝ }
-    ensures buffer { λ r. ⌜ now (out .exit) ≡ written (now (out .entry)) at (decimal n) ⌝ }
+    ensures { λ end. ⌜ Wrote (now (out .entry)) at (decimal n) (now (out .exit)) end ⌝ }
 {
     if n < 10 {
         out[at] = 48 + (n % 10) as u8;
@@ -30,4 +27,13 @@ pub fn put_number(out: &mut [u8], at: usize, n: u32) -> usize
     let end = put_number(out, at, n / 10);
     out[end] = 48 + (n % 10) as u8;
     end + 1
+}
+
+// A label and a number.
+pub fn put_field(out: &mut [u8], at: usize, label: &[u8], n: u64) -> usize
+    requires { ⌜ at + (length (now label) + length (decimal n)) ≤ length (now out) ⌝ }
+    ensures { λ end. ⌜ Wrote (now (out .entry)) at (now (label .entry) ++ decimal n) (now (out .exit)) end ⌝ }
+{
+    let next = put_bytes(out, at, label);
+    put_number(out, next, n)
 }

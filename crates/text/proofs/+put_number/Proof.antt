@@ -3,7 +3,7 @@ use mathlib.Core.List.{List, [], _∷_, _++_}
 use native.Mathlib.Omega.{arith}
 use lib.ListN.{length, set, length-append, length-set}
 use borrow.Author.Needs.{needs}
-use Rattle.text.specs.Text.{written}
+use Rattle.text.specs.Text.{written, Wrote}
 use Rattle.text.specs.Decimal.{decimal}
 use Rattle.text.proofs.Writing.{written-one, written-after, length-written}
 use Rattle.text.proofs.Numbers.{decimal-one, decimal-more, decimal-some}
@@ -79,7 +79,7 @@ put-number-returns t c =
     let a = c .before .before .args in
     let room = decimal-some (a .n) in
     let d : decimal (a .n) ≡ (48 + a .n % 10) ∷ [] = decimal-one (a .n) (c .if1 .taken) ∙ ap (λ m. (48 + m) ∷ []) (omega arith) in
-    (rw d, rw d (written-one (a .out .now) (a .at) (48 + a .n % 10) (omega (arith, c .before .before .pre .1))))
+    record { buffer = rw d (written-one (a .out .now) (a .at) (48 + a .n % 10) (omega (arith, c .before .before .pre .1))); after = (rw d) }
 
 -- src/lib.rt:30:9
 put-number-put-number-requires : (t : ℕ) → put-number-lts.Need-put-number-requires (
@@ -108,23 +108,25 @@ put-number-add-out-2 t c = search needs
 
 -- what the first digits leave: one more is to come, right after them
 module _ (out last : List ℕ) (at n end : ℕ) (room : at + length (decimal n) ≤ length out) (large : 10 ≤ n)
-    (ends : end ≡ at + length (decimal (n / 10))) (leaves : last ≡ written out at (decimal (n / 10))) where
+    (w : Wrote out at (decimal (n / 10)) last end) where
   count : length (decimal n) ≡ length (decimal (n / 10)) + 1
   count = ap length (decimal-more n large) ∙ length-append (decimal (n / 10)) ((48 + n % 10) ∷ [])
 
   kept : length last ≡ length out
-  kept = ap length leaves ∙ length-written out at (decimal (n / 10)) (omega (arith, count))
+  kept = ap length (w .buffer) ∙ length-written out at (decimal (n / 10)) (omega (arith, count))
 
   inside : end < length last
   inside = omega (arith, count, kept)
 
-  next : end + 1 ≡ at + length (decimal n)
-  next = omega (arith, count)
-
-  whole : set last end (48 + n % 10) ≡ written out at (decimal n)
+  whole : Wrote out at (decimal n) (set last end (48 + n % 10)) (end + 1)
   whole =
-      written-one last end (48 + n % 10) inside
-      ∙ rw (leaves, ends, decimal-more n large) (written-after out at (decimal (n / 10)) (omega (arith, count)) ((48 + n % 10) ∷ []))
+      record {
+        buffer =
+            written-one last end (48 + n % 10) inside
+            ∙ rw (w .buffer, w .after, decimal-more n large)
+            (written-after out at (decimal (n / 10)) (omega (arith, count)) ((48 + n % 10) ∷ []));
+        after = omega (arith, count);
+      }
 
 -- src/lib.rt:31:5
 put-number-slice-write-out-2 : (t : ℕ) → put-number-lts.Need-slice-write-out-2 (
@@ -133,7 +135,7 @@ put-number-slice-write-out-2 : (t : ℕ) → put-number-lts.Need-slice-write-out
 ) (put-number-at t) put-number.Post
 put-number-slice-write-out-2 t c =
     let b = c .before .before .before .before .before .before in
-    inside _ _ _ _ _ (b .pre .1) (c .before .before .before .before .if1 .left) (c .before .before .put-number .ensures .0) (c .before .before .put-number .ensures .1)
+    inside _ _ _ _ _ (b .pre .1) (c .before .before .before .before .if1 .left) (c .before .before .put-number .ensures)
 
 -- src/lib.rt:32:5
 put-number-add-result-2 : (t : ℕ) → put-number-lts.Need-add-result-2 (
@@ -142,7 +144,7 @@ put-number-add-result-2 : (t : ℕ) → put-number-lts.Need-add-result-2 (
 ) (put-number-at t) put-number.Post
 put-number-add-result-2 t c =
     let b = c .before .before .before .before .before .before in
-    omega (arith, next _ _ _ _ _ (b .pre .1) (c .before .before .before .before .if1 .left) (c .before .before .put-number .ensures .0) (c .before .before .put-number .ensures .1), b .pre .1)
+    omega (arith, inside _ _ _ _ _ (b .pre .1) (c .before .before .before .before .if1 .left) (c .before .before .put-number .ensures), kept _ _ _ _ _ (b .pre .1) (c .before .before .before .before .if1 .left) (c .before .before .put-number .ensures))
 
 -- src/lib.rt:21:1
 put-number-same-length-2 : (t : ℕ) → put-number-lts.Need-same-length-2 (
@@ -151,7 +153,7 @@ put-number-same-length-2 : (t : ℕ) → put-number-lts.Need-same-length-2 (
 ) (put-number-at t) put-number.Post
 put-number-same-length-2 t c =
     let b = c .before .before .before .before .before .before in
-    length-set (c .before .before .put-number .last .0) (c .before .before .put-number .result) (48 + b .args .n % 10) ∙ kept _ _ _ _ _ (b .pre .1) (c .before .before .before .before .if1 .left) (c .before .before .put-number .ensures .0) (c .before .before .put-number .ensures .1)
+    length-set (c .before .before .put-number .last .0) (c .before .before .put-number .result) (48 + b .args .n % 10) ∙ kept _ _ _ _ _ (b .pre .1) (c .before .before .before .before .if1 .left) (c .before .before .put-number .ensures)
 
 -- src/lib.rt:21:1
 put-number-returns-2 : (t : ℕ) → put-number-lts.Need-returns-2 (
@@ -160,7 +162,7 @@ put-number-returns-2 : (t : ℕ) → put-number-lts.Need-returns-2 (
 ) (put-number-at t) put-number.Post
 put-number-returns-2 t c =
     let b = c .before .before .before .before .before .before in
-    (next _ _ _ _ _ (b .pre .1) (c .before .before .before .before .if1 .left) (c .before .before .put-number .ensures .0) (c .before .before .put-number .ensures .1), whole _ _ _ _ _ (b .pre .1) (c .before .before .before .before .if1 .left) (c .before .before .put-number .ensures .0) (c .before .before .put-number .ensures .1))
+    whole _ _ _ _ _ (b .pre .1) (c .before .before .before .before .if1 .left) (c .before .before .put-number .ensures)
 
 pub +put-number-spec : {M : Type 1} → statement M
 +put-number-spec = close μ-put-number λ t. put-number-lts.spec (

@@ -61,7 +61,7 @@ returns : tie.Need-returns Inv-loop μ-loop
 returns c =
     let a = c .before .before .args in
     let e : c .before .loop .k ≡ length (a .bytes .now) = omega arith in
-    (refl, c .before .loop .inv .2 ∙ rw (e, take-length (a .bytes .now)))
+    record { buffer = c .before .loop .inv .2 ∙ rw (e, take-length (a .bytes .now)); after = refl }
 
 pub put-bytes-spec : {M : Type 1} → statement M
 put-bytes-spec =
