@@ -32,7 +32,7 @@ use Rattle.completion.proofs.Groups.{urgentIn, besideIn, wcetIn, demand
 
 -- an answer is on time or late
 module _ {A : Type 0} where
-  by-answer : (o : Completion) → ((time rounds : ℕ) → o ≡ on-time time rounds → A) → ((rounds : ℕ) → o ≡ late rounds → A) → A
+  pub by-answer : (o : Completion) → ((time rounds : ℕ) → o ≡ on-time time rounds → A) → ((rounds : ℕ) → o ≡ late rounds → A) → A
   by-answer (on-time time rounds) f g = f time rounds refl
   by-answer (late rounds) f g = g rounds refl
 

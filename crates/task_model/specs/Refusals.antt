@@ -16,6 +16,7 @@ use Rattle.task_model.specs.declared.Refusal.the-variants.{
   OutsideList,
   FullList,
 }
+use Rattle.task_model.specs.declared.Numbers.{Numbers}
 use Rattle.task_model.specs.declared.Checked.{Checked}
 use Rattle.task_model.specs.declared.Checked.the-variants.{Accepted, Refused}
 
@@ -43,6 +44,9 @@ numbered ShortBuffer = at 10 0 0
 numbered NoMap = at 11 0 0
 numbered OutsideList = at 12 0 0
 numbered FullList = at 13 0 0
+
+abbrev pub numbersIn : Numbers → Numbered
+numbersIn n = at (n .number) (n .row) (n .entry)
 
 -- What a check finds: nothing to refuse, or the first refusal that is met.
 pub data Outcome : Type 0 where

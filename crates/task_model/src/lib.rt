@@ -1,7 +1,7 @@
 // The task model: an entry's fields, the limits that they keep, and why a call is refused.
 ghost use mathlib.Core.Path.{_≡_};
 ghost use Prim.Native.Nat.{_<_, _≤_};
-ghost use Rattle.task_model.specs.Refusals.{outcome};
+ghost use Rattle.task_model.specs.Refusals.{outcome, at, numbered, numbersIn};
 ghost use Rattle.task_model.specs.Checks.{kindTest, timesTest, sizeTest, entryCheck, entriesCheck, nodeCheck};
 ghost use Rattle.task_model.specs.Words.{entryOf, entriesOf, nodeOf};
 
@@ -45,6 +45,86 @@ pub enum Refusal {
 pub enum Checked {
     Accepted,
     Refused(Refusal),
+}
+
+// What a user sees of a refusal.
+pub struct Numbers {
+    pub number: u8,
+    pub row: usize,
+    pub entry: usize,
+}
+
+// The number of a refusal in the table, and its places.
+pub fn numbers_of(r: Refusal) -> Numbers
+    ensures { λ n. ⌜ numbersIn n ≡ numbered r ⌝ }
+{
+    match r {
+        Refusal::ShortFile => Numbers {
+            number: 1,
+            row: 0,
+            entry: 0,
+        },
+        Refusal::OpeningBytes => Numbers {
+            number: 2,
+            row: 0,
+            entry: 0,
+        },
+        Refusal::NodeCount => Numbers {
+            number: 3,
+            row: 0,
+            entry: 0,
+        },
+        Refusal::Row { row } => Numbers {
+            number: 4,
+            row,
+            entry: 0,
+        },
+        Refusal::Offset { row } => Numbers {
+            number: 5,
+            row,
+            entry: 0,
+        },
+        Refusal::FileLength => Numbers {
+            number: 6,
+            row: 0,
+            entry: 0,
+        },
+        Refusal::Kind { row, position } => Numbers {
+            number: 7,
+            row,
+            entry: position,
+        },
+        Refusal::Times { row, position } => Numbers {
+            number: 8,
+            row,
+            entry: position,
+        },
+        Refusal::NoSuchNode => Numbers {
+            number: 9,
+            row: 0,
+            entry: 0,
+        },
+        Refusal::ShortBuffer => Numbers {
+            number: 10,
+            row: 0,
+            entry: 0,
+        },
+        Refusal::NoMap => Numbers {
+            number: 11,
+            row: 0,
+            entry: 0,
+        },
+        Refusal::OutsideList => Numbers {
+            number: 12,
+            row: 0,
+            entry: 0,
+        },
+        Refusal::FullList => Numbers {
+            number: 13,
+            row: 0,
+            entry: 0,
+        },
+    }
 }
 
 // Whether the kind is one of the two, with as many remote calls as it may have.

@@ -2,7 +2,7 @@
 use Prim.Native.Nat.{ℕ, zero, suc, _+_, _-_, _≤_, _<_}
 use mathlib.Core.Path.{_≡_, _∙_, refl, ap, sym}
 use mathlib.Core.List.{List, [], _∷_, _++_, append-assoc, append-nil}
-use native.Mathlib.Nat.{add-assoc, add-zero}
+use native.Mathlib.Nat.{add-assoc, add-zero, zero-add}
 use native.Mathlib.Numerals.{add-one}
 use native.Mathlib.Omega.{arith}
 use lib.ListN.{length, take, drop, set, length-append, length-drop, take-append-drop}
@@ -54,3 +54,10 @@ module _ {o : List ℕ} {at : ℕ} {t n : List ℕ} {end : ℕ} (w : Wrote o at 
         buffer = v .buffer ∙ rw (w .buffer, w .after) (written-after o at t fits s);
         after = omega (arith, v .after, w .after, length-append t s);
       }
+
+-- a text at the start of a buffer
+pub written-front : (o t : List ℕ) → written o 0 t ≡ t ++ drop (length t) o
+written-front o t = ap (λ n. t ++ drop n o) (zero-add (length t))
+
+pub front-text : (o t : List ℕ) → take (length t) (written o 0 t) ≡ t
+front-text o t = ap (take (length t)) (written-front o t) ∙ take-at t (drop (length t) o) (length t) refl

@@ -1,5 +1,5 @@
 -- Text as bytes, and a buffer that text was written into.
-use Prim.Native.Nat.{ℕ, _+_}
+use Prim.Native.Nat.{ℕ, _+_, _≤_}
 use Prim.Native.Char.{code}
 use Prim.Native.String.{String, [] as «empty», _∷_ as «then»}
 use mathlib.Core.Path.{_≡_}
@@ -19,3 +19,8 @@ written buffer at t = take at buffer ++ t ++ drop (at + length t) buffer
 pub record Wrote (old : List ℕ) (at : ℕ) (t new : List ℕ) (end : ℕ) : Type 0 where
   pub buffer : new ≡ written old at t
   pub after : end ≡ at + length t
+
+-- The same of a text of at most so many bytes.
+pub record Upto (old : List ℕ) (at most : ℕ) (t new : List ℕ) (end : ℕ) : Type 0 where
+  pub wrote : Wrote old at t new end
+  pub short : length t ≤ most

@@ -1,0 +1,17 @@
+-- Laws of the map, one subject to a file, and its theorems.
+pub mod Tests
+pub mod Lists
+pub mod Levels
+pub mod Maps
+pub mod LastGroup
+pub mod Listing
+pub mod Choice
+pub mod Search
+pub mod Optimal
+pub mod Exact
+pub mod Grouping
+pub mod Theorems
+pub mod Ranking
+pub mod Loop
+pub mod Answers
+pub mod Cases

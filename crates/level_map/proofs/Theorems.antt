@@ -1,0 +1,143 @@
+-- The theorems of the map of a node.
+use Prim.Native.Nat.{ℕ, zero, suc, _≤_, _<_}
+use mathlib.Core.Path.{_≡_, refl}
+use mathlib.Core.Bool.{true, false, false≢true}
+use mathlib.Core.Option.{none, some}
+use mathlib.Core.List.{List, []}
+use mathlib.Core.Logic.{_⊎_, inl, inr, by-cases, ⊎-elim, _↔_}
+use native.Mathlib.Omega.{arith}
+use native.Mathlib.Decide.{decLt}
+use lib.ListN.{length, take, drop}
+use lib.Seq.{take-at}
+use Rattle.task_model.specs.declared.Entry.{Entry}
+use Rattle.task_model.specs.Limits.{AllHold}
+use Rattle.task_model.specs.Refusals.{Numbered, at}
+use Rattle.completion.specs.Test.{completionTest, isOnTime}
+use Rattle.level_map.specs.Assignments.{levelOf, Assignment, NoneLate, Passing, levelsUsed}
+use Rattle.level_map.specs.Map.{IsMap, Chosen, maps, mapsWith, firstOf, noneLateTo, passTest, theMap}
+use Rattle.level_map.specs.Answer.{mapped, refused, answerOf, bufferOf, Mapping, Demand3}
+use Rattle.level_map.proofs.Tests.{by-test}
+use Rattle.level_map.proofs.Search.{greedy}
+use Rattle.level_map.proofs.Optimal.{cutLevels, leastUrgent, Best}
+use Rattle.level_map.proofs.Choice.{first-left}
+use Rattle.level_map.proofs.Exact.{GroupTest, exact-cases, exact-best, exact-none, exact-chosen}
+use Rattle.level_map.proofs.Grouping.{onTimeIn, grouped, loses-end}
+
+late-to : (es : List Entry) (a : List ℕ) (n : ℕ) → noneLateTo es a n ≡ true
+    → (i : ℕ) → i < n → isOnTime (completionTest es (levelOf a) i) ≡ true
+unfolding noneLateTo
+late-to es a zero p i h = absurd (omega arith)
+late-to es a (suc n) p i h =
+    by-test (noneLateTo es a n)
+    (λ q. by-cases (decLt i n)
+    (λ y. late-to es a n q i y)
+    (λ z. let e : i ≡ n = omega arith in rw e (rw (q, noneLateTo) at p)))
+    (λ q. absurd (false≢true (rw (q, noneLateTo) at p)))
+
+late-of : (es : List Entry) (a : List ℕ) (n : ℕ) → ((i : ℕ) → i < n → isOnTime (completionTest es (levelOf a) i) ≡ true)
+    → noneLateTo es a n ≡ true
+unfolding noneLateTo
+late-of es a zero f = refl
+late-of es a (suc n) f = rw (late-of es a n (λ i h. f i (omega arith)), noneLateTo) (f n (omega arith))
+
+-- The test of a map answers true exactly if no entry is late.
+pub pass-none-late : (es : List Entry) (a : List ℕ) → passTest es a ≡ true ↔ NoneLate es a
+unfolding passTest
+pass-none-late es a = (late-to es a (length es), late-of es a (length es))
+
+-- The test of a node's maps.
+abbrev pub nodeTest : (es : List Entry) → AllHold es → (n : ℕ) → length es ≡ n → GroupTest n
+nodeTest es hold n e =
+    record {
+      ok = onTimeIn es;
+      shrink = λ i a k k′ lo up h fits t. loses-end es hold i a k k′ lo up h (omega arith) t;
+      Passes = NoneLate es;
+      grouped = rw (← e) (grouped es);
+      test = passTest es;
+      tested = pass-none-late es;
+    }
+
+-- The map of n entries is the first of the maps, in order of preference, that passes.
+pub map-first : (es : List Entry) (n : ℕ) → length es ≡ n → (most : ℕ) → theMap es most ≡ firstOf (passTest es) (maps most n)
+unfolding theMap
+map-first es n e most = rw e
+
+not-both : {c : ℕ} {r : Numbered} → mapped c ≡ refused r → ⊥
+not-both p = let z : _≡_ {A = ℕ} 0 1 = cc in omega arith
+
+module _ (es : List Entry) (hold : AllHold es) (most : ℕ) where
+  -- The search finds cuts whose levels are the map, and the best; or there is no map, and no assignment passes.
+  pub map-cases : ((s : List ℕ) × (greedy (onTimeIn es) most (length es) ≡ some s) × (theMap es most ≡ some (cutLevels s (length es)))
+      × (levelsUsed (cutLevels s (length es)) ≡ length s) × Best (NoneLate es) most (length es) (cutLevels s (length es)))
+      ⊎ ((greedy (onTimeIn es) most (length es) ≡ none) × (theMap es most ≡ none)
+      × ((a : List ℕ) → Assignment (length es) most a → NoneLate es a → ⊥))
+  unfolding theMap
+  map-cases =
+      exact-cases (nodeTest es hold (length es) refl) most
+
+  -- The map is best: the choice, with the fewest levels of all passing assignments.
+  pub map-best : (m : List ℕ) → theMap es most ≡ some m → Best (NoneLate es) most (length es) m
+  unfolding theMap
+  map-best =
+      exact-best (nodeTest es hold (length es) refl) most
+
+  -- A list of levels is the map exactly if it is the choice of 'The map'. So there is one choice at most.
+  pub map-chosen : (m : List ℕ) → theMap es most ≡ some m ↔ Chosen (NoneLate es) most (length es) m
+  unfolding theMap
+  map-chosen =
+      exact-chosen (nodeTest es hold (length es) refl) most
+
+  -- There is no map exactly if no assignment lets every entry end by its deadline.
+  pub map-none : theMap es most ≡ none ↔ ((a : List ℕ) → Passing es most a → ⊥)
+  unfolding theMap
+  map-none =
+      let e = exact-none (nodeTest es hold (length es) refl) most in
+      ((λ p a x. e .0 p a (x .assignment) (x .inTime)), λ f. e .1 (λ a s t. f a (record { assignment = s; inTime = t })))
+
+  -- The k least urgent groups of the map hold at least as many entries as those of any passing map.
+  pub map-holding : (g : List ℕ) → theMap es most ≡ some g → (m : List ℕ) → IsMap (length es) m → NoneLate es m
+      → (k : ℕ) → leastUrgent k m ≤ leastUrgent k g
+  map-holding g p = map-best g p .holding
+
+  mapping : (m : List ℕ) → theMap es most ≡ some m → Mapping es most (levelsUsed m) m
+  mapping m p =
+      let b = map-best m p in
+      record {
+        passing = record { assignment = b .assignment; inTime = b .chosen .passes };
+        chosen = b .chosen;
+        counted = refl;
+        fewest = λ a x. b .fewest a (x .assignment) (x .inTime);
+      }
+
+  -- Demand 3 holds of the answer, and of what is read from the buffer's start.
+  pub demand-three : (buffer : List ℕ)
+      → Demand3 es most (answerOf (theMap es most)) (take (length es) (bufferOf (theMap es most) buffer))
+  unfolding answerOf bufferOf
+  demand-three buffer =
+      ⊎-elim
+      (λ r.
+      let m = cutLevels (r .0) (length es) in
+      let d = mapping m (r .2) in
+      rw (r .2, take-at m (drop (length m) buffer) (length es) (d .passing .assignment .each))
+      (record {
+        refusal = ((λ p. absurd (not-both p)), λ f. absurd (f m (d .passing)));
+        given = inr (levelsUsed m, refl, d);
+      }))
+      (λ r.
+      rw (r .1)
+      (record { refusal = ((λ p a x. r .2 a (x .assignment) (x .inTime)), λ f. refl); given = inl refl }))
+      map-cases
+
+first-empty : (most : ℕ) → firstOf (passTest []) (maps most 0) ≡ some []
+unfolding maps mapsWith firstOf passTest noneLateTo
+first-empty zero = refl
+first-empty (suc most) = first-left (passTest []) (maps most 0) (mapsWith (suc most) 0) [] (first-empty most)
+
+-- An empty node gets the empty map, with 0 levels.
+pub map-empty : (most : ℕ) → theMap [] most ≡ some []
+unfolding theMap
+map-empty most = first-empty most
+
+pub answer-empty : (most : ℕ) → answerOf (theMap [] most) ≡ mapped 0
+unfolding answerOf
+answer-empty most = rw (map-empty most)

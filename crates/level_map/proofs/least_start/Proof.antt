@@ -1,0 +1,123 @@
+use Prim.Native.Nat.{ℕ, _-_, _≤_, _<_}
+use mathlib.Core.Path.{_≡_, _∙_, refl, sym, ap}
+use mathlib.Core.Bool.{true, false, false≢true}
+use mathlib.Core.Logic.{by-cases}
+use native.Mathlib.Omega.{arith}
+use native.Mathlib.Decide.{decLt}
+use borrow.Author.Count.{below-more}
+use borrow.Author.Needs.{needs}
+use Rattle.task_model.specs.Words.{entriesOf}
+use Rattle.completion.specs.declared.Timing.{Timing}
+use Rattle.completion.specs.Group.{groupLevel}
+use Rattle.completion.specs.Test.{completion, completionTest, isOnTime}
+use Rattle.level_map.specs.Groups.{GroupPasses}
+use Rattle.level_map.proofs.least_start.Statement.{statement}
+use Rattle.level_map.proofs.least_start.Tie as tie
+
+abbrev Inv-loop : tie.InvT-loop
+Inv-loop words count end start₀ i₀ start i =
+    (start ≡ start₀) × (start ≤ i) × (i ≤ end) × (start < end)
+    × ((j : ℕ) → start ≤ j → j < i → isOnTime (completionTest (entriesOf words count) (groupLevel start (end - 1)) j) ≡ true)
+
+abbrev μ-loop : tie.MeasureT-loop
+μ-loop words count end start₀ i₀ start i = end - i
+
+abbrev Inv-starts : tie.InvT-starts
+Inv-starts words count end start₀ start =
+    (start ≤ end) × ((b : ℕ) → b < start → GroupPasses (entriesOf words count) end b → ⊥)
+
+abbrev μ-starts : tie.MeasureT-starts
+μ-starts words count end start₀ start = end - start
+
+-- what the test of the entry at hand answers
+tested : (c : tie.After-completion-test Inv-loop μ-loop Inv-starts μ-starts) (o : Timing) → c .completion-test .result ≡ o
+    → completionTest (entriesOf (c .before .before .before .before .before .args .words .now) (c .before .before .before .before .before .args .count))
+    (groupLevel (c .before .before .loop .start) (c .before .before .before .before .before .args .end - 1)) (c .before .before .loop .i)
+    ≡ completion o
+tested c o p = sym (c .completion-test .ensures) ∙ ap completion p
+
+starts-holds : tie.Need-starts-holds Inv-loop μ-loop Inv-starts μ-starts
+starts-holds c = search needs
+
+loop-holds : tie.Need-loop-holds Inv-loop μ-loop Inv-starts μ-starts
+loop-holds c = (refl, omega arith, omega arith, omega arith, λ j lo hi. absurd (omega arith))
+
+sub-completion-test : tie.Need-sub-completion-test Inv-loop μ-loop Inv-starts μ-starts
+sub-completion-test c = search needs
+
+completion-test-requires : tie.Need-completion-test-requires Inv-loop μ-loop Inv-starts μ-starts
+completion-test-requires c κs = search needs
+
+enum-told : tie.Need-enum-told Inv-loop μ-loop Inv-starts μ-starts
+enum-told c = search needs
+
+enum-told-2 : tie.Need-enum-told-2 Inv-loop μ-loop Inv-starts μ-starts
+enum-told-2 c = search needs
+
+add-start : tie.Need-add-start Inv-loop μ-loop Inv-starts μ-starts
+add-start c = search needs
+
+starts-less : tie.Need-starts-less Inv-loop μ-loop Inv-starts μ-starts
+starts-less c = search needs
+
+starts-again : tie.Need-starts-again Inv-loop μ-loop Inv-starts μ-starts
+starts-again c =
+    let l = c .before .before .before .before .loop in
+    let s = c .before .before .before .before .before .before .starts in (
+      omega arith,
+      below-more _ (l .start)
+          (λ b h. s .inv .1 b (omega arith))
+          (λ g.
+          false≢true (sym (ap isOnTime (tested (c .before .before) _ (c .enum-told2 .given .1))) ∙ g (l .i) (omega arith) (omega arith))),
+    )
+
+add-i : tie.Need-add-i Inv-loop μ-loop Inv-starts μ-starts
+add-i c = search needs
+
+loop-less : tie.Need-loop-less Inv-loop μ-loop Inv-starts μ-starts
+loop-less c = search needs
+
+loop-again : tie.Need-loop-again Inv-loop μ-loop Inv-starts μ-starts
+loop-again c =
+    let l = c .before .before .before .before .loop in (
+      l .inv .0,
+      omega arith,
+      omega arith,
+      l .inv .3,
+      λ j lo hi.
+          by-cases (decLt j (l .i))
+          (λ y. l .inv .4 j lo y)
+          (λ z. let e : j ≡ l .i = omega arith in rw e (ap isOnTime (tested (c .before .before) _ (c .enum-told .given .1)))),
+    )
+
+returns : tie.Need-returns Inv-loop μ-loop Inv-starts μ-starts
+returns c =
+    let l = c .before .loop in
+    let s = c .before .before .before .starts in
+    (omega arith, (λ i lo hi. l .inv .4 i lo (omega arith)), λ b h g. s .inv .1 b (omega arith) g)
+
+returns-2 : tie.Need-returns-2 Inv-loop μ-loop Inv-starts μ-starts
+returns-2 c = λ b h g. c .before .starts .inv .1 b (omega arith) g
+
+pub least-start-spec : {M : Type 1} → statement M
+least-start-spec =
+    tie.close
+    (tie.spec
+    Inv-loop
+    μ-loop
+    Inv-starts
+    μ-starts
+    starts-holds
+    loop-holds
+    sub-completion-test
+    completion-test-requires
+    enum-told
+    enum-told-2
+    add-start
+    starts-less
+    starts-again
+    add-i
+    loop-less
+    loop-again
+    returns
+    returns-2)

@@ -1,0 +1,161 @@
+-- The stations on either side: each case with its figures, as one table. proofs/Cases shows that all of it holds.
+use Prim.Native.Nat.{ℕ, zero, suc, _+_, _-_, _*_, _/_, _<_, min}
+use mathlib.Core.Path.{_≡_}
+use mathlib.Core.Bool.{true, false}
+use mathlib.Core.Option.{Option, none, some}
+use mathlib.Core.List.{List, [], _∷_, _++_, map}
+use lib.ListN.{length}
+use lib.Dec.{leb}
+use Rattle.task_model.specs.declared.Entry.{Entry}
+use Rattle.task_model.specs.Limits.{entryAt}
+use Rattle.completion.specs.Demand.{sumTo, only, moreUrgent, beside, urgentShare, demand, start}
+use Rattle.completion.specs.Test.{Completion, on-time, late, testFrom, completionTest}
+use Rattle.level_map.specs.Assignments.{levelOf, levelsUsed}
+use Rattle.level_map.specs.Map.{theMap}
+
+-- A task with C, T and D, r calls and blocking B.
+abbrev pub entry : ℕ → ℕ → ℕ → ℕ → ℕ → Entry
+entry c t d r b = record { number = 0; kind = 1; calls = r; wcet = c; period = t; deadline = d; blocking = b }
+
+-- Unless said, r and B are 0.
+abbrev pub task : ℕ → ℕ → ℕ → Entry
+task c t d = entry c t d 0 0
+
+abbrev pub caseP : List Entry
+caseP = task 20 100 100 ∷ task 30 145 145 ∷ task 68 150 150 ∷ []
+
+abbrev pub caseQ : List Entry
+caseQ = task 20 100 100 ∷ task 30 145 145 ∷ task 68 150 138 ∷ []
+
+abbrev pub caseR : List Entry
+caseR = task 20 100 100 ∷ task 30 145 145 ∷ task 68 150 137 ∷ []
+
+abbrev pub caseF : List Entry
+caseF = caseP
+
+abbrev pub caseH : List Entry
+caseH = task 2 5 5 ∷ task 1 20 20 ∷ entry 2 20 8 0 3 ∷ []
+
+abbrev pub caseS : List Entry
+caseS = task 20 100 100 ∷ task 78 150 150 ∷ task 30 160 145 ∷ []
+
+abbrev pub caseU : List Entry
+caseU = entry 20 100 100 0 10 ∷ entry 30 160 145 0 10 ∷ task 78 150 150 ∷ []
+
+abbrev pub caseV : List Entry
+caseV = task 1 5 5 ∷ entry 4 20 20 1 10 ∷ []
+
+abbrev pub caseE : List Entry
+caseE = []
+
+-- Every entry's answer under the levels `a`.
+unfoldable pub answersTo : List Entry → List ℕ → ℕ → List Completion
+answersTo es a zero = []
+answersTo es a (suc n) = answersTo es a n ++ (completionTest es (levelOf a) n ∷ [])
+
+abbrev pub answers : List Entry → List ℕ → List Completion
+answers es a = answersTo es a (length es)
+
+-- The completion time alone.
+abbrev pub timeIn : Completion → Option ℕ
+timeIn (on-time time rounds) = some time
+timeIn (late rounds) = none
+
+abbrev pub times : List Entry → List ℕ → List (Option ℕ)
+times es a = map timeIn (answers es a)
+
+-- A misread demand: ⌊t/T⌋ for the other entries of the own level, as document 000 prints it.
+unfoldable pub floorDemand : List Entry → (ℕ → ℕ) → ℕ → ℕ → ℕ
+floorDemand es level i t =
+    entryAt es i .wcet + entryAt es i .blocking
+    + sumTo (λ j. only (moreUrgent level i j) (urgentShare (entryAt es j) t)) (length es)
+    + sumTo (λ j. only (beside level i j) (entryAt es j .wcet * min (t / entryAt es j .period) (entryAt es i .calls + 1))) (length es)
+
+-- Another: one run only of each other entry of the own level.
+unfoldable pub oneRunDemand : List Entry → (ℕ → ℕ) → ℕ → ℕ → ℕ
+oneRunDemand es level i t =
+    entryAt es i .wcet + entryAt es i .blocking
+    + sumTo (λ j. only (moreUrgent level i j) (urgentShare (entryAt es j) t)) (length es)
+    + sumTo (λ j. only (beside level i j) (entryAt es j .wcet)) (length es)
+
+-- The least of n times from t on whose demand is at most the time.
+unfoldable pub leastFrom : (ℕ → ℕ) → ℕ → ℕ → Option ℕ
+leastFrom w zero t = none
+leastFrom w (suc n) t = elim (leb (w t) t) [ true ↦ some t | false ↦ leastFrom w n (suc t) ]
+
+-- What a line of the table says of a node.
+pub data Claim : Type 0 where
+  -- with so many levels, this is its map, with so many levels used
+  maps-to : (es : List Entry) (levels : ℕ) (m : List ℕ) (used : ℕ) → Claim
+  -- with so many levels it has no map
+  no-map : (es : List Entry) (levels : ℕ) → Claim
+  -- under these levels, each entry's answer, with the rounds; or the times alone
+  answered : (es : List Entry) (a : List ℕ) → List Completion → Claim
+  timed : (es : List Entry) (a : List ℕ) → List (Option ℕ) → Claim
+  -- under these levels, the answer for the entry at i
+  answered-at : (es : List Entry) (a : List ℕ) (i : ℕ) → Completion → Claim
+  -- under these levels, the entry at i is late; were its deadline `t`, it would take `t`
+  would-take : (es : List Entry) (a : List ℕ) (i t : ℕ) → Claim
+  late-at : (es : List Entry) (a : List ℕ) (i : ℕ) → Claim
+  -- under these levels, the floor would have the entry at i end at `t`, by its deadline
+  floor-at : (es : List Entry) (a : List ℕ) (i t : ℕ) → Claim
+  -- one own-level run only would have the entry at i end at `t`; it does not end then
+  one-run-at : (es : List Entry) (a : List ℕ) (i t : ℕ) → Claim
+
+abbrev pub Holds : Claim → Type 0
+Holds (maps-to es levels m used) = (theMap es levels ≡ some m) × (levelsUsed m ≡ used)
+Holds (no-map es levels) = theMap es levels ≡ none
+Holds (answered es a cs) = answers es a ≡ cs
+Holds (timed es a ts) = times es a ≡ ts
+Holds (answered-at es a i c) = completionTest es (levelOf a) i ≡ c
+Holds (would-take es a i t) =
+    (timeIn (completionTest es (levelOf a) i) ≡ none)
+    × (timeIn (testFrom (demand es (levelOf a) i) t (start es (levelOf a) i) 0) ≡ some t)
+Holds (late-at es a i) = timeIn (completionTest es (levelOf a) i) ≡ none
+Holds (floor-at es a i t) = leastFrom (floorDemand es (levelOf a) i) (entryAt es i .deadline) 1 ≡ some t
+Holds (one-run-at es a i t) =
+    (timeIn (testFrom (oneRunDemand es (levelOf a) i) (entryAt es i .deadline) (start es (levelOf a) i) 0) ≡ some t)
+    × (t < demand es (levelOf a) i t)
+
+abbrev pub All : List Claim → Type 0
+All [] = Unit
+All (c ∷ cs) = Holds c × All cs
+
+-- The table. Positions count from 0: entry 1 of a listing is at 0.
+unfoldable pub cases : List Claim
+cases =
+    -- P: the map and the figures of its listing. Q: third D 138, same times. R: third D 137, no map.
+    maps-to caseP 2 (1 ∷ 2 ∷ 2 ∷ []) 2
+    ∷ answered caseP (1 ∷ 2 ∷ 2 ∷ []) (on-time 20 1 ∷ on-time 138 2 ∷ on-time 138 2 ∷ [])
+    ∷ maps-to caseQ 2 (1 ∷ 2 ∷ 2 ∷ []) 2
+    ∷ answered caseQ (1 ∷ 2 ∷ 2 ∷ []) (on-time 20 1 ∷ on-time 138 2 ∷ on-time 138 2 ∷ [])
+    ∷ no-map caseR 2
+    -- F: P with 1 level, no map: entry 1 would take 118. The floor would pass it.
+    ∷ no-map caseF 1
+    ∷ would-take caseF (1 ∷ 1 ∷ 1 ∷ []) 0 118
+    ∷ floor-at caseF (1 ∷ 1 ∷ 1 ∷ []) 0 20
+    ∷ floor-at caseF (1 ∷ 1 ∷ 1 ∷ []) 1 30
+    ∷ floor-at caseF (1 ∷ 1 ∷ 1 ∷ []) 2 68
+    -- H: third alone late, last two together late; all on level 1: times 5, 5, 8.
+    ∷ late-at caseH (1 ∷ 2 ∷ 3 ∷ []) 2
+    ∷ late-at caseH (1 ∷ 1 ∷ 2 ∷ []) 2
+    ∷ late-at caseH (1 ∷ 2 ∷ 2 ∷ []) 2
+    ∷ maps-to caseH 3 (1 ∷ 1 ∷ 1 ∷ []) 1
+    ∷ timed caseH (1 ∷ 1 ∷ 1 ∷ []) (some 5 ∷ some 5 ∷ some 8 ∷ [])
+    -- S: no map, for the third reaches 148, and all on one level the first needs 128.
+    ∷ no-map caseS 3
+    ∷ would-take caseS (1 ∷ 2 ∷ 3 ∷ []) 2 148
+    ∷ would-take caseS (1 ∷ 1 ∷ 2 ∷ []) 2 148
+    ∷ would-take caseS (1 ∷ 2 ∷ 2 ∷ []) 2 148
+    ∷ would-take caseS (1 ∷ 1 ∷ 1 ∷ []) 0 128
+    -- U: map 1, 1, 2, times 60, 60, 148.
+    ∷ maps-to caseU 2 (1 ∷ 1 ∷ 2 ∷ []) 2
+    ∷ timed caseU (1 ∷ 1 ∷ 2 ∷ []) (some 60 ∷ some 60 ∷ some 148 ∷ [])
+    -- V: together, second 16, rounds 2; apart, 18, rounds 3. One own-level run only gives 15 and is wrong.
+    ∷ answered-at caseV (1 ∷ 1 ∷ []) 1 (on-time 16 2)
+    ∷ answered-at caseV (1 ∷ 2 ∷ []) 1 (on-time 18 3)
+    ∷ one-run-at caseV (1 ∷ 1 ∷ []) 1 15
+    -- E: the empty node, 0 levels.
+    ∷ maps-to caseE 1 [] 0
+    ∷ maps-to caseE 64 [] 0
+    ∷ []

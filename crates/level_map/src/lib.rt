@@ -1,0 +1,100 @@
+// The map of a node: each entry's level, on as few levels as the deadlines allow.
+ghost use mathlib.Core.Path.{_≡_};
+ghost use mathlib.Core.List.{_++_};
+ghost use Prim.Native.Nat.{ℕ, _-_, _≤_, _<_};
+ghost use lib.ListN.{length, getD, take, drop, replicate};
+ghost use Rattle.task_model.specs.Limits.{AllHold, NodeHolds};
+ghost use Rattle.task_model.specs.Words.{entriesOf, nodeOf};
+ghost use Rattle.level_map.specs.Map.{theMap};
+ghost use Rattle.level_map.specs.Answer.{answer, answerOf, bufferOf, Demand3};
+ghost use Rattle.level_map.specs.Groups.{GroupPasses, LeastStart, levelsByRank, Ranked};
+use completion::Timing;
+use completion::completion_test;
+
+// A map, with the number of its levels, or that no map passes.
+// `answer` in specs/Answer gives the number that a user sees.
+pub enum Mapped {
+    Levels(u8),
+    NoMap,
+}
+
+// Where a group starts, if it can pass at all.
+enum Start {
+    At(usize),
+    Nowhere,
+}
+
+// The least start of a group that ends before `end` and has no late entry. Every start is tried from the least on: that
+// a group fails says nothing of a longer one.
+fn least_start(words: &[u32; 320], count: usize, end: usize) -> Start
+    requires { ⌜ AllHold (entriesOf (now words) count) ⌝ ∗ ⌜ (end ≤ count) × (count ≤ 64) ⌝ }
+    ensures { λ a. ⌜ LeastStart (GroupPasses (entriesOf (now (words .entry)) count) end) end a ⌝ }
+{
+    'starts: for start in 0..end {
+        for i in start..end {
+            let Timing::OnTime { .. } = completion_test(words, count, start, end - 1, i) else {
+                continue 'starts;
+            };
+        }
+        return Start::At(start);
+    }
+    Start::Nowhere
+}
+
+// Gives the entries from `start` up to `end` the rank of their group.
+fn set_rank(ranks: &mut [u8; 64], start: usize, end: usize, rank: u8)
+    requires { ⌜ (start ≤ end) × (end ≤ 64) × (length (now ranks) ≡ 64) ⌝ }
+    ensures { λ a. ⌜ now (ranks .exit) ≡ take start (now (ranks .entry)) ++ (replicate (end - start) rank ++ drop end (now (ranks .entry))) ⌝ }
+{
+    for j in start..end {
+        ranks[j] = rank;
+    }
+}
+
+// Groups the entries from the least urgent end, each group as long as it can be, on at most `levels` levels; ranks are
+// counted from 0 at that end.
+fn rank_groups(words: &[u32; 320], count: usize, levels: u8, ranks: &mut [u8; 64]) -> Mapped
+    requires { ⌜ AllHold (entriesOf (now words) count) ⌝ ∗ ⌜ (count ≤ 64) × (length (now ranks) ≡ 64) ⌝ }
+    ensures { λ a. ⌜ Ranked (theMap (entriesOf (now (words .entry)) count) levels) count levels a (now (ranks .exit)) ⌝ }
+{
+    let mut end = count;
+    let mut groups: u8 = 0;
+    while 0 < end {
+        if levels <= groups {
+            return Mapped::NoMap;
+        }
+        let Start::At(start) = least_start(words, count, end) else {
+            return Mapped::NoMap;
+        };
+        set_rank(ranks, start, end, groups);
+        groups += 1;
+        end = start;
+    }
+    Mapped::Levels(groups)
+}
+
+// Writes each entry's level; the bytes beyond are kept.
+fn write_levels(ranks: &[u8; 64], count: usize, groups: u8, out: &mut [u8])
+    requires { ⌜ (count ≤ length (now ranks)) × (count ≤ 64) × (count ≤ length (now out)) ⌝ ∗ ⌜ ((j : ℕ) → j < count → getD (now ranks) j 0 ≤ groups) ⌝ }
+    ensures { λ a. ⌜ now (out .exit) ≡ levelsByRank groups (take count (now (ranks .entry))) ++ drop count (now (out .entry)) ⌝ }
+{
+    for j in 0..count {
+        out[j] = groups - ranks[j];
+    }
+}
+
+// Maps a node within the limits: one byte an entry from the start of `out`, which is untouched where no map passes.
+pub fn map_node(words: &[u32; 320], count: usize, levels: u8, out: &mut [u8]) -> Mapped
+    requires { ⌜ NodeHolds (nodeOf (now words) count levels) ⌝ ∗ ⌜ count ≤ length (now out) ⌝ }
+    ensures answered { λ a. ⌜ answer a ≡ answerOf (theMap (entriesOf (now (words .entry)) count) levels) ⌝ }
+    ensures written { λ a. ⌜ now (out .exit) ≡ bufferOf (theMap (entriesOf (now (words .entry)) count) levels) (now (out .entry)) ⌝ }
+    ensures best { λ a. ⌜ Demand3 (entriesOf (now (words .entry)) count) levels (answer a) (take count (now (out .exit))) ⌝ }
+{
+    let mut ranks = [0u8; 64];
+    let mapped = rank_groups(words, count, levels, &mut ranks);
+    let Mapped::Levels(groups) = mapped else {
+        return mapped;
+    };
+    write_levels(&ranks, count, groups, out);
+    mapped
+}

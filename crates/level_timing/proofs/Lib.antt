@@ -1,0 +1,2 @@
+-- Laws of groups under levels that never fall.
+pub mod Groups

@@ -1,0 +1,4 @@
+-- Laws of the listing.
+pub mod Lines
+pub mod Texts
+pub mod Mapped

@@ -1,0 +1,78 @@
+-- The texts of a listing, case by case.
+use Prim.Native.Nat.{ℕ, suc, _+_, _≤_, _<_}
+use mathlib.Core.Path.{_≡_, _∙_, refl, ap, sym}
+use mathlib.Core.Option.{none, some}
+use mathlib.Core.List.{List, [], _++_}
+use native.Mathlib.Numerals.{add-one}
+use native.Mathlib.Omega.{arith}
+use lib.ListN.{length}
+use borrow.Author.Tests.{le-leb, lt-leb}
+use Rattle.task_model.specs.declared.Entry.{Entry}
+use Rattle.task_model.specs.Refusals.{Numbered, at, accepted, refused}
+use Rattle.task_model.specs.Limits.{Node, entryAt}
+use Rattle.completion.specs.Test.{on-time, late, completionTest}
+use Rattle.plan_file.specs.Plan.{Plan}
+use Rattle.plan_file.specs.Answers.{gives, refuses}
+use Rattle.plan_file.specs.Check.{fileCheck}
+use Rattle.plan_file.specs.Decoding.{planIn}
+use Rattle.plan_file.specs.Find.{rowIn, nodeOfRow}
+use Rattle.level_map.specs.Assignments.{levelOf, levelsUsed}
+use Rattle.level_map.specs.Map.{theMap}
+use Rattle.listing.specs.Lines.{planLine, nodeLine, noMapLine, entryLine, refusedLine}
+use Rattle.listing.specs.Listing.{entryText, entriesText, nodeText, nodesText, planText, listing, listAnswer}
+
+module _ (es : List Entry) (m : List ℕ) where
+  pub entry-on-time : (i time rounds : ℕ) → completionTest es (levelOf m) i ≡ on-time time rounds
+      → entryText es m i ≡ entryLine (entryAt es i .number) (levelOf m i) time rounds
+  unfolding entryText
+  entry-on-time i time rounds p = rw (p, entryText)
+
+  pub entry-late : (i rounds : ℕ) → completionTest es (levelOf m) i ≡ late rounds → entryText es m i ≡ []
+  unfolding entryText
+  entry-late i rounds p = rw (p, entryText)
+
+  pub entries-none : entriesText es m 0 ≡ []
+  unfolding entriesText
+  entries-none = refl
+
+  pub entries-more : (n : ℕ) → entriesText es m (n + 1) ≡ entriesText es m n ++ entryText es m n
+  unfolding entriesText
+  entries-more n = rw (add-one n, entriesText)
+
+module _ (number : ℕ) (n : Node) where
+  pub node-mapped : (m : List ℕ) → theMap (n .entries) (n .levels) ≡ some m
+      → nodeText number n ≡ nodeLine number (levelsUsed m) (n .levels) ++ entriesText (n .entries) m (length (n .entries))
+  unfolding nodeText
+  node-mapped m p = rw (p, nodeText)
+
+  pub node-no-map : theMap (n .entries) (n .levels) ≡ none → nodeText number n ≡ noMapLine number
+  unfolding nodeText
+  node-no-map p = rw (p, nodeText)
+
+module _ (p : Plan) where
+  pub nodes-none : nodesText p 0 ≡ []
+  unfolding nodesText
+  nodes-none = refl
+
+  pub nodes-more : (n : ℕ) → nodesText p (n + 1) ≡ nodesText p n ++ nodeText (rowIn (p .rows) n .number) (nodeOfRow p n)
+  unfolding nodesText
+  nodes-more n = rw (add-one n, nodesText)
+
+module _ (f : List ℕ) where
+  pub listing-refused : (r : Numbered) → fileCheck f ≡ refused r → listing f ≡ refusedLine r
+  unfolding listing
+  listing-refused r p = rw (p, listing)
+
+  pub listing-accepted : fileCheck f ≡ accepted → listing f ≡ planText (planIn f)
+  unfolding listing
+  listing-accepted p = rw (p, listing)
+
+-- the answer, where the text fits and where it does not
+module _ (f : List ℕ) (room : ℕ) where
+  pub text-fits : length (listing f) ≤ room → listAnswer f room ≡ gives (length (listing f))
+  unfolding listAnswer
+  text-fits h = rw (le-leb (length (listing f)) room h)
+
+  pub text-short : room < length (listing f) → listAnswer f room ≡ refuses (at 10 0 0)
+  unfolding listAnswer
+  text-short h = rw (lt-leb (length (listing f)) room h)

@@ -1,0 +1,66 @@
+use Prim.Native.Nat.{_+_, _*_, _-_, _≤_, _<_}
+use mathlib.Core.Path.{_≡_, sym}
+use native.Mathlib.Omega.{arith}
+use Rattle.text.specs.Text.{Upto}
+use Rattle.plan_file.specs.Decoding.{planIn}
+use Rattle.listing.specs.Listing.{nodesText}
+use Rattle.listing.proofs.Lines.{upto-same, upto-none, upto-room, upto-append, upto-kept}
+use Rattle.listing.proofs.Texts.{nodes-none, nodes-more}
+use borrow.Author.Needs.{needs}
+use Rattle.listing.proofs.put_nodes.Statement.{statement}
+use Rattle.listing.proofs.put_nodes.Tie as tie
+
+abbrev Inv-loop : tie.InvT-loop
+Inv-loop file nodes out₀ at next₀ row₀ out next row =
+    (row ≤ nodes) × Upto out₀ at (3613 * row) (nodesText (planIn file) row) out next
+
+abbrev μ-loop : tie.MeasureT-loop
+μ-loop file nodes out₀ at next₀ row₀ out next row = nodes - row
+
+loop-holds : tie.Need-loop-holds Inv-loop μ-loop
+loop-holds c =
+    let a = c .before .before .args in
+    (omega arith, upto-same (sym (nodes-none (planIn (a .file .now)))) (upto-none (a .out .now) (a .at) 0))
+
+put-node-requires : tie.Need-put-node-requires Inv-loop μ-loop
+put-node-requires c κs =
+    let p = c .before .before .before .before .before .pre in
+    ((p .0 .0, omega arith), upto-room (c .before .before .loop .inv .1) (omega arith) 3613 (omega arith))
+
+add-row : tie.Need-add-row Inv-loop μ-loop
+add-row c = omega arith
+
+loop-less : tie.Need-loop-less Inv-loop μ-loop
+loop-less c = omega arith
+
+loop-again : tie.Need-loop-again Inv-loop μ-loop
+loop-again c =
+    let a = c .before .before .before .before .before .before .before .before .args in
+    let row = c .before .before .before .before .before .loop .row in
+    let e : 3613 * row + 3613 ≡ 3613 * (row + 1) = omega arith in (
+      omega arith,
+      upto-same (sym (nodes-more (planIn (a .file .now)) row))
+          (rw e at (upto-append (c .before .before .before .before .before .loop .inv .1) (omega arith) (c .before .before .put-node .ensures))),
+    )
+
+same-length : tie.Need-same-length Inv-loop μ-loop
+same-length c = upto-kept (c .before .loop .inv .1) (omega arith)
+
+returns : tie.Need-returns Inv-loop μ-loop
+returns c =
+    let e : c .before .loop .row ≡ c .before .before .before .before .args .nodes = omega arith in
+    rw e at (c .before .loop .inv .1)
+
+pub put-nodes-spec : {M : Type 1} → statement M
+put-nodes-spec =
+    tie.close
+    (tie.spec
+    Inv-loop
+    μ-loop
+    loop-holds
+    put-node-requires
+    add-row
+    loop-less
+    loop-again
+    same-length
+    returns)

@@ -1,0 +1,3 @@
+-- What a reader of the listing must believe.
+pub mod Lines
+pub mod Listing

@@ -1,0 +1,67 @@
+-- The listing of a plan file.
+use Prim.Native.Nat.{ℕ, zero, suc}
+use mathlib.Core.Path.{_≡_}
+use mathlib.Core.Bool.{true, false}
+use mathlib.Core.Option.{none, some}
+use mathlib.Core.List.{List, [], _++_}
+use lib.ListN.{length}
+use lib.Dec.{leb}
+use Rattle.task_model.specs.declared.Entry.{Entry}
+use Rattle.task_model.specs.Refusals.{Numbered, at, numbered, accepted, refused}
+use Rattle.task_model.specs.Limits.{Node, entryAt}
+use Rattle.completion.specs.Test.{on-time, late, completionTest}
+use Rattle.plan_file.specs.Plan.{Plan}
+use Rattle.plan_file.specs.Answers.{Answer, gives, refuses, giving}
+use Rattle.plan_file.specs.Check.{demand, fileCheck}
+use Rattle.plan_file.specs.Decoding.{planIn}
+use Rattle.plan_file.specs.Find.{rowIn, nodeOfRow}
+use Rattle.level_map.specs.Assignments.{levelOf, levelsUsed}
+use Rattle.level_map.specs.Map.{theMap}
+use Rattle.listing.specs.declared.Listed.{Listed}
+use Rattle.listing.specs.declared.Listed.the-variants.{Text, Refused}
+use Rattle.listing.specs.Lines.{planLine, nodeLine, noMapLine, entryLine, refusedLine}
+
+-- The line of the entry at i under the levels of a map. No entry of a map is late.
+unfoldable pub entryText : List Entry → List ℕ → ℕ → List ℕ
+entryText es m i =
+    elim (completionTest es (levelOf m) i) [
+      | on-time time rounds ↦ entryLine (entryAt es i .number) (levelOf m i) time rounds
+      | late rounds ↦ []
+    ]
+
+-- The lines of the first n entries, in listed order.
+unfoldable pub entriesText : List Entry → List ℕ → ℕ → List ℕ
+entriesText es m zero = []
+entriesText es m (suc n) = entriesText es m n ++ entryText es m n
+
+-- A node: its number, the levels used, the levels available, and its entries; or that it has no map.
+unfoldable pub nodeText : ℕ → Node → List ℕ
+nodeText number n =
+    elim (theMap (n .entries) (n .levels)) [
+      | some m ↦ nodeLine number (levelsUsed m) (n .levels) ++ entriesText (n .entries) m (length (n .entries))
+      | none ↦ noMapLine number
+    ]
+
+-- The first n nodes, in contents order.
+unfoldable pub nodesText : Plan → ℕ → List ℕ
+nodesText p zero = []
+nodesText p (suc n) = nodesText p n ++ nodeText (rowIn (p .rows) n .number) (nodeOfRow p n)
+
+unfoldable pub planText : Plan → List ℕ
+planText p = planLine (length (p .rows)) ++ nodesText p (length (p .rows))
+
+-- A plan file: its listing, or the one line that it is refused with.
+unfoldable pub listing : List ℕ → List ℕ
+listing f =
+    elim (fileCheck f) [
+      | refused r ↦ refusedLine r
+      | accepted ↦ planText (planIn f)
+    ]
+
+-- The answer: the text's length, or 10 where it does not fit. Its buffer then is `left` of plan_file's specs/Answers.
+unfoldable pub listAnswer : List ℕ → ℕ → Answer ℕ
+listAnswer f room = giving (demand (leb (length (listing f)) room) (at 10 0 0)) (length (listing f))
+
+abbrev pub listedGives : Listed → Answer ℕ
+listedGives (Text n) = gives n
+listedGives (Refused r) = refuses (numbered r)

@@ -1,0 +1,237 @@
+// The listing of a plan file, into a lent buffer. Each function writes from a position on, and answers the position
+// after what it wrote.
+ghost use mathlib.Core.Path.{_≡_};
+ghost use Prim.Native.Nat.{ℕ, _+_, _*_, _≤_, _<_};
+ghost use lib.ListN.{length, take};
+ghost use Rattle.task_model.specs.Refusals.{numbered, accepted};
+ghost use Rattle.task_model.specs.Limits.{AllHold};
+ghost use Rattle.task_model.specs.Words.{entriesOf};
+ghost use mathlib.Core.List.{_++_};
+ghost use Rattle.text.specs.Text.{Wrote, Upto};
+ghost use Rattle.text.specs.Decimal.{decimal};
+ghost use Rattle.plan_file.specs.Check.{fileCheck};
+ghost use Rattle.plan_file.specs.Decoding.{planIn, nodeCount};
+ghost use Rattle.plan_file.specs.Find.{rowIn, nodeOfRow};
+ghost use Rattle.level_timing.specs.Levels.{NeverFalls};
+ghost use Rattle.listing.specs.Lines.{planLine, nodeLine, noMapLine, entryLine, refusedLine};
+ghost use Rattle.listing.specs.Listing.{entryText, entriesText, nodeText, nodesText, listing, listAnswer, listedGives};
+ghost use Rattle.plan_file.specs.Answers.{left};
+use completion::Timing;
+use level_map::Mapped;
+use task_model::Checked;
+use task_model::Refusal;
+use text::put_bytes;
+use text::put_field;
+
+// Three labelled numbers, one after the other.
+fn put_three(
+    out: &mut [u8],
+    at: usize,
+    a: &[u8],
+    x: u64,
+    b: &[u8],
+    y: u64,
+    c: &[u8],
+    z: u64,
+) -> usize
+    requires { ⌜ at + (length (now a ++ decimal x) + length (now b ++ decimal y) + length (now c ++ decimal z)) ≤ length (now out) ⌝ }
+    ensures { λ end.
+        ⌜ Wrote (now (out .entry)) at
+        (now (a .entry) ++ decimal x ++ (now (b .entry) ++ decimal y) ++ (now (c .entry) ++ decimal z))
+        (now (out .exit)) end ⌝ }
+{
+    let first = put_field(out, at, a, x);
+    let second = put_field(out, first, b, y);
+    put_field(out, second, c, z)
+}
+
+fn put_plan_line(out: &mut [u8], at: usize, nodes: u8) -> usize
+    requires { ⌜ at + 9 ≤ length (now out) ⌝ }
+    ensures { λ end. ⌜ Upto (now (out .entry)) at 9 (planLine nodes) (now (out .exit)) end ⌝ }
+{
+    let next = put_field(out, at, b"plan ", nodes as u64);
+    put_bytes(out, next, b"\n")
+}
+
+fn put_node_line(out: &mut [u8], at: usize, number: u16, used: u8, levels: u8) -> usize
+    requires { ⌜ at + 29 ≤ length (now out) ⌝ }
+    ensures { λ end. ⌜ Upto (now (out .entry)) at 29 (nodeLine number used levels) (now (out .exit)) end ⌝ }
+{
+    let next = put_three(
+        out,
+        at,
+        b"node ",
+        number as u64,
+        b" levels ",
+        used as u64,
+        b" of ",
+        levels as u64,
+    );
+    put_bytes(out, next, b"\n")
+}
+
+fn put_no_map_line(out: &mut [u8], at: usize, number: u16) -> usize
+    requires { ⌜ at + 18 ≤ length (now out) ⌝ }
+    ensures { λ end. ⌜ Upto (now (out .entry)) at 18 (noMapLine number) (now (out .exit)) end ⌝ }
+{
+    let next = put_field(out, at, b"node ", number as u64);
+    put_bytes(out, next, b" no map\n")
+}
+
+fn put_entry_line(
+    out: &mut [u8],
+    at: usize,
+    number: u16,
+    level: u8,
+    time: u32,
+    rounds: u32,
+) -> usize
+    requires { ⌜ at + 56 ≤ length (now out) ⌝ }
+    ensures { λ end. ⌜ Upto (now (out .entry)) at 56 (entryLine number level time rounds) (now (out .exit)) end ⌝ }
+{
+    let times = put_three(
+        out,
+        at,
+        b"entry ",
+        number as u64,
+        b" level ",
+        level as u64,
+        b" time ",
+        time as u64,
+    );
+    let next = put_field(out, times, b" rounds ", rounds as u64);
+    put_bytes(out, next, b"\n")
+}
+
+fn put_refused_line(out: &mut [u8], at: usize, r: Refusal) -> usize
+    requires { ⌜ at + 64 ≤ length (now out) ⌝ }
+    ensures { λ end. ⌜ Upto (now (out .entry)) at 64 (refusedLine (numbered r)) (now (out .exit)) end ⌝ }
+{
+    let n = task_model::numbers_of(r);
+    let next = put_three(
+        out,
+        at,
+        b"refused ",
+        n.number as u64,
+        b" row ",
+        n.row as u64,
+        b" entry ",
+        n.entry as u64,
+    );
+    put_bytes(out, next, b"\n")
+}
+
+// The line of the entry at `i` under the levels of a map.
+fn put_entry(
+    words: &[u32; 320],
+    count: usize,
+    levels: &[u8; 64],
+    i: usize,
+    out: &mut [u8],
+    at: usize,
+) -> usize
+    requires { ⌜ AllHold (entriesOf (now words) count) ⌝ ∗ ⌜ (i < count) × (count ≤ 64) ⌝ ∗ ⌜ NeverFalls count (now levels) ⌝
+        ∗ ⌜ at + 56 ≤ length (now out) ⌝ }
+    ensures { λ end.
+        ⌜ Upto (now (out .entry)) at 56 (entryText (entriesOf (now (words .entry)) count) (now (levels .entry)) i)
+        (now (out .exit)) end ⌝ }
+{
+    let Timing::OnTime { time, rounds } = level_timing::time_under(words, count, levels, i) else {
+        return at;
+    };
+    let e = task_model::entry_at(words, i);
+    put_entry_line(out, at, e.number, levels[i], time, rounds)
+}
+
+// The lines of a node's entries, in listed order.
+fn put_entries(
+    words: &[u32; 320],
+    count: usize,
+    levels: &[u8; 64],
+    out: &mut [u8],
+    at: usize,
+) -> usize
+    requires { ⌜ AllHold (entriesOf (now words) count) ⌝ ∗ ⌜ count ≤ 64 ⌝ ∗ ⌜ NeverFalls count (now levels) ⌝
+        ∗ ⌜ at + 56 * count ≤ length (now out) ⌝ }
+    ensures { λ end.
+        ⌜ Upto (now (out .entry)) at (56 * count)
+        (entriesText (entriesOf (now (words .entry)) count) (now (levels .entry)) count) (now (out .exit)) end ⌝ }
+{
+    let mut next = at;
+    for i in 0..count {
+        next = put_entry(words, count, levels, i, out, next);
+    }
+    next
+}
+
+// A node: its line and those of its entries, or that it has no map.
+fn put_node(file: &[u8], row: usize, out: &mut [u8], at: usize) -> usize
+    requires { ⌜ (fileCheck (now file) ≡ accepted) × (row < nodeCount (now file)) ⌝ ∗ ⌜ at + 3613 ≤ length (now out) ⌝ }
+    ensures { λ end.
+        ⌜ Upto (now (out .entry)) at 3613
+        (nodeText (rowIn (planIn (now (file .entry)) .rows) row .number) (nodeOfRow (planIn (now (file .entry))) row))
+        (now (out .exit)) end ⌝ }
+{
+    let mut words = [0u32; 320];
+    let mut levels = [0u8; 64];
+    let r = plan_file::load_node(file, row, &mut words);
+    let count = r.count as usize;
+    let mapped = level_map::map_node(&words, count, r.levels, &mut levels);
+    let Mapped::Levels(used) = mapped else {
+        return put_no_map_line(out, at, r.number);
+    };
+    let next = put_node_line(out, at, r.number, used, r.levels);
+    put_entries(&words, count, &levels, out, next)
+}
+
+// The first `nodes` nodes, in contents order.
+fn put_nodes(file: &[u8], nodes: usize, out: &mut [u8], at: usize) -> usize
+    requires { ⌜ (fileCheck (now file) ≡ accepted) × (nodes ≤ nodeCount (now file)) ⌝
+        ∗ ⌜ at + 3613 * nodes ≤ length (now out) ⌝ }
+    ensures { λ end.
+        ⌜ Upto (now (out .entry)) at (3613 * nodes) (nodesText (planIn (now (file .entry))) nodes) (now (out .exit)) end ⌝ }
+{
+    let mut next = at;
+    for row in 0..nodes {
+        next = put_node(file, row, out, next);
+    }
+    next
+}
+
+// The listing of a file, or the one line that it is refused with.
+fn put_listing(file: &[u8], out: &mut [u8]) -> usize
+    requires { ⌜ 115625 ≤ length (now out) ⌝ }
+    ensures { λ end. ⌜ Upto (now (out .entry)) 0 115625 (listing (now (file .entry))) (now (out .exit)) end ⌝ }
+{
+    let checked = plan_file::check_file(file);
+    if let Checked::Refused(r) = checked {
+        return put_refused_line(out, 0, r);
+    }
+    let nodes = plan_file::node_count(file);
+    let next = put_plan_line(out, 0, nodes as u8);
+    put_nodes(file, nodes, out, next)
+}
+
+// The most bytes that a listing can have: 9 for its first line, 29 for each of 32 nodes, 56 for each of 2,048 entries.
+pub const MOST_TEXT: usize = 115625;
+
+// How long the text is that was written, or that it does not fit.
+pub enum Listed {
+    Text(usize),
+    Refused(Refusal),
+}
+
+// Lists a plan file, or writes the one line that it is refused with, from the start of `out`. Refuses only a buffer that
+// is too short for the text (10), and leaves it untouched then; `MOST_TEXT` bytes always suffice.
+pub fn list_plan(file: &[u8], out: &mut [u8]) -> Listed
+    ensures { λ a. ⌜ listedGives a ≡ listAnswer (now (file .entry)) (length (now (out .entry))) ⌝ }
+    ensures { λ a. ⌜ now (out .exit) ≡ left (listedGives a) (listing (now (file .entry))) (now (out .entry)) ⌝ }
+{
+    let mut text = [0u8; 115625];
+    let n = put_listing(file, &mut text);
+    if out.len() < n {
+        return Listed::Refused(Refusal::ShortBuffer);
+    }
+    put_bytes(out, 0, &text[..n]);
+    Listed::Text(n)
+}

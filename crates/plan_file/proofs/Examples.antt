@@ -1,0 +1,64 @@
+-- Case P as a file, and the examples of the table of refusals.
+use Prim.Native.Nat.{ℕ}
+use mathlib.Core.Path.{_≡_, refl}
+use mathlib.Core.List.{List, [], _∷_, _++_}
+use lib.ListN.{set}
+use Rattle.task_model.specs.Refusals.{at, accepted, refused}
+use Rattle.task_model.specs.Checks.{kindTest, timesTest, entryCheck, entriesCheck, sizeTest}
+use Rattle.task_model.specs.Words.{entryFrom}
+use Rattle.plan_file.specs.Plan.{entryCount, rowOf}
+use Rattle.plan_file.specs.Encoding.{low, headerBytes, rowBytes, entryBytes, contentsBytes, bodiesBytes, encoding}
+use Rattle.plan_file.specs.Decoding.{wordAt, wordsFrom, rowsFrom, entriesAt, planIn}
+use Rattle.plan_file.specs.Check.{
+  openingTest,
+  countTest,
+  zerosTest,
+  rowTest,
+  contentsCheck,
+  nodesCheck,
+  headerCheck,
+  layoutCheck,
+  fileCheck,
+}
+use Rattle.plan_file.specs.Find.{rowOfNumber, findCheck}
+
+-- One node, number 7, 2 levels, three entries of kind 1, with C/T/D 20/100/100, 30/145/145 and 68/150/150.
+abbrev caseP : List ℕ
+caseP =
+    0x4C ∷ 0x4D ∷ 0x50 ∷ 0x31 ∷ 1 ∷ 0 ∷ 0 ∷ 0
+    ∷ 7 ∷ 0 ∷ 2 ∷ 3 ∷ 16 ∷ 0 ∷ 0 ∷ 0
+    ∷ 1 ∷ 0 ∷ 1 ∷ 0 ∷ 20 ∷ 0 ∷ 0 ∷ 0 ∷ 100 ∷ 0 ∷ 0 ∷ 0 ∷ 100 ∷ 0 ∷ 0 ∷ 0 ∷ 0 ∷ 0 ∷ 0 ∷ 0
+    ∷ 2 ∷ 0 ∷ 1 ∷ 0 ∷ 30 ∷ 0 ∷ 0 ∷ 0 ∷ 145 ∷ 0 ∷ 0 ∷ 0 ∷ 145 ∷ 0 ∷ 0 ∷ 0 ∷ 0 ∷ 0 ∷ 0 ∷ 0
+    ∷ 3 ∷ 0 ∷ 1 ∷ 0 ∷ 68 ∷ 0 ∷ 0 ∷ 0 ∷ 150 ∷ 0 ∷ 0 ∷ 0 ∷ 150 ∷ 0 ∷ 0 ∷ 0 ∷ 0 ∷ 0 ∷ 0 ∷ 0 ∷ []
+
+pub record Table : Type 0 where
+  pub taken : fileCheck caseP ≡ accepted
+  pub again : encoding (planIn caseP) ≡ caseP
+  pub emptyFile : fileCheck [] ≡ refused (at 1 0 0)
+  pub firstByte : fileCheck (set caseP 0 0) ≡ refused (at 2 0 0)
+  pub count33 : fileCheck (set caseP 4 33) ≡ refused (at 3 0 0)
+  pub levels0 : fileCheck (set caseP 10 0) ≡ refused (at 4 0 0)
+  pub offset17 : fileCheck (set caseP 12 17) ≡ refused (at 5 0 0)
+  pub oneMore : fileCheck (caseP ++ (0 ∷ [])) ≡ refused (at 6 0 0)
+  pub kind3 : fileCheck (set caseP 18 3) ≡ refused (at 7 0 0)
+  pub deadline5 : fileCheck (set (set caseP 40 6) 48 5) ≡ refused (at 8 0 1)
+  pub ask8 : findCheck caseP 8 ≡ refused (at 9 0 0)
+  pub ask7 : findCheck caseP 7 ≡ accepted
+
+pub table : Table
+unfolding kindTest timesTest entryCheck entriesCheck sizeTest entryFrom entryCount rowOf low headerBytes rowBytes entryBytes contentsBytes bodiesBytes encoding wordAt wordsFrom rowsFrom entriesAt openingTest countTest zerosTest rowTest contentsCheck nodesCheck headerCheck layoutCheck fileCheck rowOfNumber findCheck
+table =
+    record {
+      taken = refl;
+      again = refl;
+      emptyFile = refl;
+      firstByte = refl;
+      count33 = refl;
+      levels0 = refl;
+      offset17 = refl;
+      oneMore = refl;
+      kind3 = refl;
+      deadline5 = refl;
+      ask8 = refl;
+      ask7 = refl;
+    }

@@ -1,0 +1,50 @@
+-- What an accepted file says, and the file's checks one after another.
+use Prim.Native.Nat.{ℕ, _+_, _*_}
+use mathlib.Core.Path.{_≡_}
+use mathlib.Core.List.{List}
+use lib.ListN.{length}
+use borrow.Author.Tests.{eqb-true}
+use Rattle.task_model.specs.Refusals.{Numbered, accepted, refused}
+use Rattle.plan_file.specs.declared.Row.{Row}
+use Rattle.plan_file.specs.Plan.{entryCount}
+use Rattle.plan_file.specs.Encoding.{bodiesStart}
+use Rattle.plan_file.specs.Decoding.{nodeCount, rowsIn, entriesIn}
+use Rattle.plan_file.specs.Check.{headerCheck, contentsCheck, layoutCheck, nodesCheck, fileCheck}
+use Rattle.plan_file.proofs.Outcomes.{both-accepted, demanded}
+use Rattle.plan_file.proofs.Header.{HeaderHolds, header-holds}
+
+pub layout-holds : (f : List ℕ) (i least required : ℕ) (rows : List Row) → layoutCheck f i least required rows ≡ accepted
+    → (contentsCheck f i least required rows ≡ accepted) × (length f ≡ required + entryCount rows * 20)
+unfolding layoutCheck
+layout-holds f i least required rows p =
+    let q = both-accepted _ _ p in (q .0, eqb-true _ _ (demanded _ _ (q .1)))
+
+module _ (f : List ℕ) where
+  pub file-header : (r : Numbered) → headerCheck f ≡ refused r → fileCheck f ≡ refused r
+  unfolding fileCheck
+  file-header r p = rw p
+
+  module _ (h : headerCheck f ≡ accepted) where
+    pub file-layout : (r : Numbered) → layoutCheck f 0 0 (bodiesStart (nodeCount f)) (rowsIn f) ≡ refused r
+        → fileCheck f ≡ refused r
+    unfolding fileCheck
+    file-layout r p = rw (h, p)
+
+    pub file-bodies : layoutCheck f 0 0 (bodiesStart (nodeCount f)) (rowsIn f) ≡ accepted
+        → fileCheck f ≡ nodesCheck 0 (rowsIn f) (entriesIn f)
+    unfolding fileCheck
+    file-bodies p = rw (h, p)
+
+  pub record FileHolds : Type 0 where
+    pub header : HeaderHolds f
+    pub contents : contentsCheck f 0 0 (bodiesStart (nodeCount f)) (rowsIn f) ≡ accepted
+    pub ends : length f ≡ bodiesStart (nodeCount f) + entryCount (rowsIn f) * 20
+    pub bodies : nodesCheck 0 (rowsIn f) (entriesIn f) ≡ accepted
+
+  pub file-holds : fileCheck f ≡ accepted → FileHolds
+  unfolding fileCheck
+  file-holds p =
+      let p1 = both-accepted _ _ p in
+      let p2 = both-accepted _ _ (p1 .1) in
+      let l = layout-holds f _ _ _ _ (p2 .0) in
+      record { header = header-holds f (p1 .0); contents = l .0; ends = l .1; bodies = p2 .1 }

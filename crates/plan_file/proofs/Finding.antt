@@ -1,0 +1,78 @@
+-- Laws of the search for a row by its number.
+use Prim.Native.Nat.{ℕ, zero, suc, _+_, _-_, _≤_, _<_}
+use mathlib.Core.Path.{_≡_, _∙_, ap}
+use mathlib.Core.Logic.{_⊎_, inl, inr, ⊎-elim}
+use mathlib.Core.List.{List, [], _∷_}
+use native.Mathlib.Omega.{arith}
+use lib.ListN.{length}
+use lib.Dec.{eqb}
+use borrow.Author.Tests.{eq-eqb, ne-eqb, eqb-true, eqb-false}
+use Rattle.task_model.specs.Refusals.{accepted}
+use Rattle.task_model.proofs.Laws.{true-or-false}
+use Rattle.plan_file.specs.declared.Row.{Row}
+use Rattle.plan_file.specs.Decoding.{rowAt, rowsFrom}
+use Rattle.plan_file.specs.Check.{demand, rowTest, rowsCheck}
+use Rattle.plan_file.specs.Find.{rowIn, rowOfNumber}
+use Rattle.plan_file.proofs.Outcomes.{both-accepted, demanded}
+use Rattle.plan_file.proofs.Tests.{row-holds}
+use Rattle.plan_file.proofs.Contents.{rows-first, rows-end}
+
+pub found-here : (number : ℕ) (r : Row) (rs : List Row) → r .number ≡ number → rowOfNumber number (r ∷ rs) ≡ 0
+unfolding rowOfNumber
+found-here number r rs p = rw (eq-eqb (r .number) number p, rowOfNumber)
+
+pub found-later : (number : ℕ) (r : Row) (rs : List Row) → (r .number ≡ number → ⊥)
+    → rowOfNumber number (r ∷ rs) ≡ suc (rowOfNumber number rs)
+unfolding rowOfNumber
+found-later number r rs p = rw (ne-eqb (r .number) number p, rowOfNumber)
+
+-- the search from row `i` on, of `n`
+module _ (f : List ℕ) (number i n : ℕ) where
+  pub search-found : i < n → rowAt f i .number ≡ number → i + rowOfNumber number (rowsFrom f i (n - i)) ≡ i
+  search-found h p = rw (rows-first f i n h, found-here number (rowAt f i) _ p) (omega arith)
+
+  pub search-next : i < n → (rowAt f i .number ≡ number → ⊥)
+      → i + rowOfNumber number (rowsFrom f i (n - i)) ≡ i + 1 + rowOfNumber number (rowsFrom f (i + 1) (n - (i + 1)))
+  search-next h p = rw (rows-first f i n h, found-later number (rowAt f i) _ p) (omega arith)
+
+  pub search-end : n ≤ i → i + rowOfNumber number (rowsFrom f i (n - i)) ≡ i
+  unfolding rowOfNumber
+  search-end h = rw (rows-end f i n h) (omega arith)
+
+-- in rows within the checks the numbers rise, so a number is found where it stands
+not-below : (k least : ℕ) (rs : List Row) → rowsCheck k least rs ≡ accepted → (i : ℕ) → i < length rs → least ≤ rowIn rs i .number
+unfolding rowsCheck
+not-below k least [] a i h = absurd (omega arith)
+not-below k least (r ∷ rs) a zero h =
+    row-holds least r (demanded _ _ (both-accepted (demand (rowTest least r) _) _ a .0)) .rises
+not-below k least (r ∷ rs) a (suc i) h =
+    let p = both-accepted (demand (rowTest least r) _) _ a in
+    omega (
+      arith,
+      row-holds least r (demanded _ _ (p .0)) .rises,
+      not-below (suc k) (suc (r .number)) rs (p .1) i (omega arith),
+    )
+
+pub found-at : (k least : ℕ) (rs : List Row) → rowsCheck k least rs ≡ accepted → (number i : ℕ) → i < length rs
+    → rowIn rs i .number ≡ number → rowOfNumber number rs ≡ i
+unfolding rowsCheck
+found-at k least [] a number i h e = absurd (omega arith)
+found-at k least (r ∷ rs) a number zero h e = found-here number r rs e
+found-at k least (r ∷ rs) a number (suc i) h e =
+    let p = both-accepted (demand (rowTest least r) _) _ a in
+    found-later number r rs (λ q. omega (arith, not-below (suc k) (suc (r .number)) rs (p .1) i (omega arith)))
+    ∙ ap suc (found-at (suc k) (suc (r .number)) rs (p .1) number i (omega arith) e)
+
+same-or-not : (a b : ℕ) → (a ≡ b) ⊎ (a ≡ b → ⊥)
+same-or-not a b = ⊎-elim (λ p. inl (eqb-true a b p)) (λ p. inr (eqb-false a b p)) (true-or-false (eqb a b))
+
+-- a row that is found has the number
+pub found-number : (rs : List Row) (number : ℕ) → rowOfNumber number rs < length rs
+    → rowIn rs (rowOfNumber number rs) .number ≡ number
+found-number [] number h = absurd (omega arith)
+found-number (r ∷ rs) number h =
+    ⊎-elim
+    (λ (e : r .number ≡ number). rw (found-here number r rs e) e)
+    (λ (e : r .number ≡ number → ⊥).
+    let n = found-later number r rs e in rw n (found-number rs number (omega (arith, n))))
+    (same-or-not (r .number) number)

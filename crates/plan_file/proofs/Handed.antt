@@ -1,0 +1,66 @@
+-- The writer's checks one after another.
+use Prim.Native.Nat.{ℕ, _*_, _≤_}
+use mathlib.Core.Path.{_≡_, _∙_, sym, ap}
+use mathlib.Core.Bool.{true, false}
+use mathlib.Core.List.{List}
+use lib.ListN.{length}
+use lib.Dec.{eqb}
+use borrow.Author.Tests.{le-leb, leb-true, eqb-true}
+use Rattle.task_model.specs.declared.Entry.{Entry}
+use Rattle.task_model.specs.Refusals.{Numbered, at, Outcome, accepted, refused}
+use Rattle.task_model.proofs.Laws.{and-true, decided}
+use Rattle.plan_file.specs.declared.Row.{Row}
+use Rattle.plan_file.specs.Plan.{entryCount}
+use Rattle.plan_file.specs.Check.{_andThen_, demand, countTest, rowsCheck, nodesCheck, handedCheck}
+use Rattle.plan_file.proofs.Outcomes.{both-accepted, then-assoc, demanded}
+
+pub count-true : (n : ℕ) → 1 ≤ n → n ≤ 32 → countTest n ≡ true
+unfolding countTest
+count-true n h1 h2 = rw (le-leb 1 n h1, le-leb n 32 h2)
+
+pub count-hold : (n : ℕ) → countTest n ≡ true → (1 ≤ n) × (n ≤ 32)
+unfolding countTest
+count-hold n p = let q = and-true _ _ p in (leb-true _ _ (q .0), leb-true _ _ (q .1))
+
+pub count-false : (n : ℕ) → (1 ≤ n → n ≤ 32 → ⊥) → countTest n ≡ false
+count-false n out = decided (countTest n) (count-hold n) (λ h. out (h .0) (h .1))
+
+-- the rows' own check, and then that of the words
+abbrev pub tally : List Row → ℕ → Outcome
+tally rows words = rowsCheck 0 0 rows andThen demand (eqb words (entryCount rows * 5)) (at 6 0 0)
+
+pub tally-holds : (rows : List Row) (words : ℕ) → tally rows words ≡ accepted
+    → (rowsCheck 0 0 rows ≡ accepted) × (words ≡ entryCount rows * 5)
+tally-holds rows words p =
+    let q = both-accepted (rowsCheck 0 0 rows) _ p in (q .0, eqb-true _ _ (demanded _ _ (q .1)))
+
+module _ (rows : List Row) (entries : List Entry) (words : ℕ) where
+  regrouped : handedCheck rows entries words
+      ≡ demand (countTest (length rows)) (at 3 0 0) andThen (tally rows words andThen nodesCheck 0 rows entries)
+  unfolding handedCheck
+  regrouped = ap (λ o. demand (countTest (length rows)) (at 3 0 0) andThen o) (sym (then-assoc (rowsCheck 0 0 rows) _ _))
+
+  pub handed-count : countTest (length rows) ≡ false → handedCheck rows entries words ≡ refused (at 3 0 0)
+  handed-count p = regrouped ∙ rw p
+
+  module _ (h : countTest (length rows) ≡ true) where
+    pub handed-tally : (r : Numbered) → tally rows words ≡ refused r → handedCheck rows entries words ≡ refused r
+    handed-tally r p = regrouped ∙ rw (h, p)
+
+    pub handed-nodes : tally rows words ≡ accepted → handedCheck rows entries words ≡ nodesCheck 0 rows entries
+    handed-nodes p = regrouped ∙ rw (h, p)
+
+  pub record HandedHolds : Type 0 where
+    pub some : 1 ≤ length rows
+    pub few : length rows ≤ 32
+    pub rowsHold : rowsCheck 0 0 rows ≡ accepted
+    pub counts : words ≡ entryCount rows * 5
+    pub nodes : nodesCheck 0 rows entries ≡ accepted
+
+  pub handed-holds : handedCheck rows entries words ≡ accepted → HandedHolds
+  handed-holds p =
+      let p1 = both-accepted (demand (countTest (length rows)) (at 3 0 0)) _ (sym regrouped ∙ p) in
+      let p2 = both-accepted (tally rows words) _ (p1 .1) in
+      let n = count-hold _ (demanded _ _ (p1 .0)) in
+      let t = tally-holds rows words (p2 .0) in
+      record { some = n .0; few = n .1; rowsHold = t .0; counts = t .1; nodes = p2 .1 }

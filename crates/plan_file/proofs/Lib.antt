@@ -1,0 +1,30 @@
+-- Laws that the functions' proofs and other crates cite, and the theorems of plan files.
+-- Checks one after another, and what their tests say.
+pub mod Outcomes
+pub mod Tests
+-- Words, and stores into buffers.
+pub mod Words
+pub mod Buffers
+-- The parts of a file: its header, its rows, its entries, and the whole.
+pub mod Header
+pub mod Contents
+pub mod Bodies
+pub mod File
+pub mod Nodes
+pub mod Memory
+-- The parts of a plan that the writer is handed, and what it stores.
+pub mod Encoding
+pub mod Rows
+pub mod Listed
+pub mod Handed
+-- What the reader, the finder and the writer answer.
+pub mod Finding
+pub mod Reading
+pub mod Writing
+-- Reader and writer are inverse.
+pub mod Encoded
+pub mod Decoded
+pub mod Bytes
+pub mod Fits
+pub mod Theorems
+pub mod Examples

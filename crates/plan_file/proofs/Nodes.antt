@@ -1,0 +1,140 @@
+-- Laws of the nodes of an accepted file: where a row's body lies, and which entries it has.
+use Prim.Native.Nat.{ℕ, zero, suc, _+_, _-_, _*_, _≤_, _<_}
+use mathlib.Core.Path.{_≡_, _∙_, sym, ap}
+use mathlib.Core.List.{List, [], _∷_}
+use native.Mathlib.Omega.{arith}
+use native.Mathlib.Nat.{add-zero, zero-add}
+use lib.ListN.{length, take, drop}
+use lib.Seq.{drop-drop}
+use borrow.Author.Tests.{eqb-true}
+use Rattle.task_model.specs.declared.Entry.{Entry}
+use Rattle.task_model.specs.Refusals.{accepted}
+use Rattle.task_model.specs.Limits.{Node, NodeHolds}
+use Rattle.task_model.specs.Checks.{entriesCheck}
+use Rattle.task_model.proofs.Theorems.{entries-accepted}
+use Rattle.plan_file.specs.declared.Row.{Row}
+use Rattle.plan_file.specs.Plan.{entryCount}
+use Rattle.plan_file.specs.Encoding.{bodiesStart}
+use Rattle.plan_file.specs.Decoding.{nodeCount, rowAt, offsetAt, rowsFrom, rowsIn, entriesAt, entriesIn, planIn}
+use Rattle.plan_file.specs.Check.{contentsCheck, nodesCheck, fileCheck}
+use Rattle.plan_file.specs.Find.{rowIn, nodeOfRow}
+use Rattle.plan_file.proofs.Outcomes.{both-accepted, demanded}
+use Rattle.plan_file.proofs.Tests.{RowHolds, row-holds}
+use Rattle.plan_file.proofs.Contents.{length-rows}
+use Rattle.plan_file.proofs.Bodies.{length-entries-at, take-entries, drop-entries}
+use Rattle.plan_file.proofs.File.{FileHolds, file-holds}
+
+pub row-get : (f : List ℕ) (j n i : ℕ) → i < n → rowIn (rowsFrom f j n) i ≡ rowAt f (j + i)
+unfolding rowsFrom
+row-get f j zero i h = absurd (omega arith)
+row-get f j (suc n) zero h = rw add-zero
+row-get f j (suc n) (suc i) h =
+    let e : j + suc i ≡ suc j + i = omega arith in rw e (row-get f (suc j) n i (omega arith))
+
+-- the rows before row `i`, it, and those after it
+pub count-split : (rs : List Row) (i : ℕ) → i < length rs
+    → entryCount rs ≡ entryCount (take i rs) + (rowIn rs i .count + entryCount (drop (suc i) rs))
+unfolding entryCount
+count-split [] i h = absurd (omega arith)
+count-split (r ∷ rs) zero h = omega arith
+count-split (r ∷ rs) (suc i) h = omega (arith, count-split rs i (omega arith))
+
+-- what an accepted first row says
+pub record RowPlaced (f : List ℕ) (i least required : ℕ) (r : Row) (rs : List Row) : Type 0 where
+  pub holds : RowHolds least r
+  pub placed : offsetAt f i ≡ required
+  pub rest : contentsCheck f (suc i) (suc (r .number)) (required + r .count * 20) rs ≡ accepted
+
+pub row-placed : (f : List ℕ) (i least required : ℕ) (r : Row) (rs : List Row)
+    → contentsCheck f i least required (r ∷ rs) ≡ accepted → RowPlaced f i least required r rs
+unfolding contentsCheck
+row-placed f i least required r rs p =
+    let p1 = both-accepted _ _ p in
+    let p2 = both-accepted _ _ (p1 .1) in
+    record {
+      holds = row-holds least r (demanded _ _ (p1 .0));
+      placed = eqb-true _ _ (demanded _ _ (p2 .0));
+      rest = p2 .1;
+    }
+
+-- every row of accepted contents has the required offset, and is within the limits
+pub placed-at : (f : List ℕ) (j least required : ℕ) (rs : List Row) → contentsCheck f j least required rs ≡ accepted
+    → (i : ℕ) → i < length rs
+    → (offsetAt f (j + i) ≡ required + entryCount (take i rs) * 20) × RowHolds 0 (rowIn rs i)
+unfolding entryCount
+placed-at f j least required [] p i h = absurd (omega arith)
+placed-at f j least required (r ∷ rs) p zero h =
+    let q = row-placed f j least required r rs p in
+    let e : required + 0 * 20 ≡ required = omega arith in
+    ((rw (add-zero, e) (q .placed)), record { rises = omega arith; someLevels = q .holds .someLevels; fewLevels = q .holds .fewLevels; fewEntries = q .holds .fewEntries })
+placed-at f j least required (r ∷ rs) p (suc i) h =
+    let q = row-placed f j least required r rs p in
+    let t = placed-at f (suc j) (suc (r .number)) (required + r .count * 20) rs (q .rest) i (omega arith) in
+    let e : j + suc i ≡ suc j + i = omega arith in
+    ((rw e (t .0 ∙ omega arith)), t .1)
+
+-- every row of accepted bodies has accepted entries
+nodes-each : (k : ℕ) (rs : List Row) (es : List Entry) → nodesCheck k rs es ≡ accepted → (i : ℕ) → i < length rs
+    → entriesCheck (k + i) 0 (take (rowIn rs i .count) (drop (entryCount (take i rs)) es)) ≡ accepted
+unfolding nodesCheck entryCount
+nodes-each k [] es a i h = absurd (omega arith)
+nodes-each k (r ∷ rs) es a zero h = rw add-zero (both-accepted _ _ a .0)
+nodes-each k (r ∷ rs) es a (suc i) h =
+    let e : k + suc i ≡ suc k + i = omega arith in
+    rw (e, ← drop-drop (entryCount (take i rs)) (r .count) es)
+    (nodes-each (suc k) rs (drop (r .count) es) (both-accepted (entriesCheck k 0 (take (r .count) es)) _ a .1) i (omega arith))
+
+-- the node of row `i` of an accepted file
+module _ (f : List ℕ) (a : fileCheck f ≡ accepted) (i : ℕ) (h : i < nodeCount f) where
+  held : FileHolds f
+  held = file-holds f a
+
+  inside : i < length (rowsIn f)
+  inside = omega (arith, length-rows f 0 (nodeCount f))
+
+  at-row : rowIn (rowsIn f) i ≡ rowAt f i
+  at-row = row-get f 0 (nodeCount f) i h ∙ ap (rowAt f) (zero-add i)
+
+  pub node-offset : offsetAt f i ≡ bodiesStart (nodeCount f) + entryCount (take i (rowsIn f)) * 20
+  node-offset = ap (offsetAt f) (sym (zero-add i)) ∙ placed-at f 0 0 _ (rowsIn f) (held .contents) i inside .0
+
+  pub row-limits : RowHolds 0 (rowAt f i)
+  row-limits = rw (← at-row) (placed-at f 0 0 _ (rowsIn f) (held .contents) i inside .1)
+
+  pub node-few : rowAt f i .count ≤ 64
+  node-few = row-limits .fewEntries
+
+  -- the row lies in the file
+  pub row-inside : bodiesStart (i + 1) ≤ length f
+  row-inside = omega (arith, held .header .contents)
+
+  pub node-inside : offsetAt f i + rowAt f i .count * 20 ≤ length f
+  node-inside =
+      omega (arith, node-offset, held .ends, count-split (rowsIn f) i inside, ap (λ (r : Row). r .count) at-row)
+
+  pub node-at : nodeOfRow (planIn f) i
+      ≡ record { levels = rowAt f i .levels; entries = entriesAt f (offsetAt f i) (rowAt f i .count) }
+  unfolding nodeOfRow
+  node-at =
+      rw (
+        count-split (rowsIn f) i inside,
+        drop-entries f (bodiesStart (nodeCount f)) (entryCount (take i (rowsIn f))),
+        take-entries,
+        ← node-offset,
+        at-row,
+      )
+
+  pub node-length : length (nodeOfRow (planIn f) i .entries) ≡ rowAt f i .count
+  node-length =
+      ap (λ (n : Node). length (n .entries)) node-at ∙ length-entries-at f (offsetAt f i) (rowAt f i .count)
+
+  -- its node is within every limit of a node
+  pub node-holds : NodeHolds (nodeOfRow (planIn f) i)
+  unfolding nodeOfRow
+  node-holds =
+      record {
+        someLevels = rw at-row (row-limits .someLevels);
+        fewLevels = rw at-row (row-limits .fewLevels);
+        fewEntries = omega (arith, node-length, node-few);
+        each = entries-accepted (0 + i) 0 _ .0 (nodes-each 0 (rowsIn f) (entriesIn f) (held .bodies) i inside);
+      }

@@ -1,0 +1,30 @@
+-- Laws of checks that follow one another.
+use mathlib.Core.Path.{_≡_, refl}
+use mathlib.Core.Bool.{Bool, true, false}
+use Rattle.task_model.specs.Refusals.{Numbered, Outcome, accepted, refused}
+use Rattle.task_model.proofs.Theorems.{not-both}
+use Rattle.plan_file.specs.Check.{_andThen_, demand}
+
+pub then-refused : (a b : Outcome) (r : Numbered) → a ≡ refused r → a andThen b ≡ refused r
+then-refused a b r p = rw p
+
+pub then-accepted : (a b : Outcome) → a ≡ accepted → a andThen b ≡ b
+then-accepted a b p = rw p
+
+pub both-accepted : (a b : Outcome) → a andThen b ≡ accepted → (a ≡ accepted) × (b ≡ accepted)
+both-accepted accepted b p = (refl, p)
+both-accepted (refused r) b p = absurd (not-both p refl)
+
+pub then-assoc : (a b c : Outcome) → (a andThen b) andThen c ≡ a andThen (b andThen c)
+then-assoc accepted b c = refl
+then-assoc (refused r) b c = refl
+
+pub demand-accepts : (b : Bool) (r : Numbered) → b ≡ true → demand b r ≡ accepted
+demand-accepts b r p = rw p
+
+pub demand-refuses : (b : Bool) (r : Numbered) → b ≡ false → demand b r ≡ refused r
+demand-refuses b r p = rw p
+
+pub demanded : (b : Bool) (r : Numbered) → demand b r ≡ accepted → b ≡ true
+demanded true r p = refl
+demanded false r p = absurd (not-both p refl)

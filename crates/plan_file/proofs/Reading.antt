@@ -1,0 +1,72 @@
+-- What the reader and the finder answer, check by check.
+use Prim.Native.Nat.{ℕ, _*_, _≤_, _<_}
+use mathlib.Core.Path.{_≡_}
+use mathlib.Core.List.{List}
+use native.Mathlib.Omega.{arith}
+use lib.ListN.{length}
+use borrow.Author.Tests.{le-leb, lt-leb, lt-ltb, le-ltb}
+use Rattle.task_model.specs.Refusals.{Numbered, at, accepted, refused}
+use Rattle.plan_file.specs.Plan.{entryCount}
+use Rattle.plan_file.specs.Encoding.{bodiesStart}
+use Rattle.plan_file.specs.Decoding.{nodeCount, rowAt, offsetAt, rowsIn, entriesIn}
+use Rattle.plan_file.specs.Check.{fileCheck}
+use Rattle.plan_file.specs.Find.{rowOfNumber, findCheck}
+use Rattle.plan_file.specs.Answers.{gives, refuses, readAnswer, findAnswer}
+use Rattle.plan_file.proofs.Contents.{length-rows}
+use Rattle.plan_file.proofs.Bodies.{length-entries-at}
+use Rattle.plan_file.proofs.Nodes.{node-at}
+
+module _ (f : List ℕ) (rows words : ℕ) where
+  pub read-refused : (r : Numbered) → fileCheck f ≡ refused r → readAnswer f rows words ≡ refuses r
+  unfolding readAnswer
+  read-refused r p = rw p
+
+  module _ (a : fileCheck f ≡ accepted) where
+    pub read-few-rows : rows < nodeCount f → readAnswer f rows words ≡ refuses (at 10 0 0)
+    unfolding readAnswer
+    read-few-rows h = rw (a, lt-leb (length (rowsIn f)) rows (omega (arith, length-rows f 0 (nodeCount f))))
+
+    pub read-few-words : nodeCount f ≤ rows → words < entryCount (rowsIn f) * 5 → readAnswer f rows words ≡ refuses (at 10 0 0)
+    unfolding readAnswer
+    read-few-words h l =
+        rw (
+          a,
+          le-leb (length (rowsIn f)) rows (omega (arith, length-rows f 0 (nodeCount f))),
+          lt-leb (length (entriesIn f) * 5) words (omega (arith, length-entries-at f (bodiesStart (nodeCount f)) (entryCount (rowsIn f)))),
+        )
+
+    pub read-filled : nodeCount f ≤ rows → entryCount (rowsIn f) * 5 ≤ words
+        → readAnswer f rows words ≡ gives (record { rows = nodeCount f; entries = entryCount (rowsIn f) })
+    unfolding readAnswer
+    read-filled h l =
+        rw (
+          a,
+          length-rows f 0 (nodeCount f),
+          length-entries-at f (bodiesStart (nodeCount f)) (entryCount (rowsIn f)),
+          le-leb (nodeCount f) rows h,
+          le-leb (entryCount (rowsIn f) * 5) words l,
+        )
+
+module _ (f : List ℕ) (number : ℕ) where
+  pub find-refused : (r : Numbered) → fileCheck f ≡ refused r → findAnswer f number ≡ refuses r
+  unfolding findAnswer findCheck
+  find-refused r p = rw p
+
+  module _ (a : fileCheck f ≡ accepted) where
+    pub find-missing : nodeCount f ≤ rowOfNumber number (rowsIn f) → findAnswer f number ≡ refuses (at 9 0 0)
+    unfolding findAnswer findCheck
+    find-missing h =
+        rw (a, le-ltb (rowOfNumber number (rowsIn f)) (length (rowsIn f)) (omega (arith, length-rows f 0 (nodeCount f))))
+
+    pub find-found : (i : ℕ) → i ≡ rowOfNumber number (rowsIn f) → i < nodeCount f
+        → findAnswer f number ≡ gives (record { levels = rowAt f i .levels; count = rowAt f i .count })
+    unfolding findAnswer findCheck
+    find-found i e h =
+        rw (
+          a,
+          ← e,
+          length-rows f 0 (nodeCount f),
+          lt-ltb i (nodeCount f) h,
+          node-at f a i h,
+          length-entries-at f (offsetAt f i) (rowAt f i .count),
+        )

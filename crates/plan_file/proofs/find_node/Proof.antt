@@ -1,0 +1,73 @@
+use mathlib.Core.Path.{_≡_, _∙_, refl, sym, ap}
+use borrow.Author.Needs.{needs}
+use Rattle.task_model.specs.Refusals.{outcome, accepted}
+use Rattle.plan_file.specs.Find.{rowOfNumber}
+use Rattle.plan_file.specs.Decoding.{rowsIn}
+use Rattle.plan_file.specs.Check.{fileCheck}
+use Rattle.plan_file.proofs.Reading.{find-refused, find-missing, find-found}
+use Rattle.plan_file.proofs.File.{file-holds}
+use Rattle.plan_file.proofs.find_node.Statement.{statement}
+use Rattle.plan_file.proofs.find_node.Tie as tie
+
+check-file-requires : tie.Need-check-file-requires
+check-file-requires c κs = search needs
+
+enum-known-checked : tie.Need-enum-known-checked
+enum-known-checked c = search needs
+
+-- the file is accepted
+told : (c : tie.After-enum-told) → fileCheck (c .before .before .before .before .args .file .now) ≡ accepted
+told c = sym (c .before .before .check-file .ensures) ∙ ap outcome (c .enum-told .given .1)
+
+-- the row that is sought
+sought : (c : tie.After-row-of-number) → c .row-of-number .result ≡ rowOfNumber (c .before .before .before .before .before .before .args .number) (rowsIn (c .before .before .before .before .before .before .args .file .now))
+sought c = rw (← c .before .node-count .ensures .0) (c .row-of-number .ensures)
+
+returns : tie.Need-returns
+returns c = (sym (find-refused _ _ _ (sym (c .before .before .before .check-file .ensures) ∙ ap outcome (c .before .checked .given .1))), (refl, tt))
+
+enum-told : tie.Need-enum-told
+enum-told c = search needs
+
+node-count-requires : tie.Need-node-count-requires
+node-count-requires c κs = file-holds _ (told c) .header .long
+
+row-of-number-requires : tie.Need-row-of-number-requires
+row-of-number-requires c κs = rw (c .node-count .ensures .0) (file-holds _ (told (c .before)) .header .contents)
+
+returns-2 : tie.Need-returns-2
+returns-2 c = (
+  sym
+      (find-missing _ _ (told (c .before .before .before))
+      (rw (← c .before .before .node-count .ensures .0) (rw (← c .before .row-of-number .ensures) (c .if1 .taken)))),
+  (refl, tt),
+)
+
+load-node-requires : tie.Need-load-node-requires
+load-node-requires c κs = (told (c .before .before .before .before), (rw (← c .before .before .before .node-count .ensures .0) (c .before .if1 .left)))
+
+cast-t12 : tie.Need-cast-t12
+cast-t12 c = search needs
+
+returns-3 : tie.Need-returns-3
+returns-3 c =
+    let e = sought (c .before .before .before .before) in (
+      rw (c .before .load-node .ensures .row)
+          (sym (find-found _ _ (told (c .before .before .before .before .before .before)) _ e (rw (← c .before .before .before .before .before .node-count .ensures .0) (c .before .before .before .if1 .left)))),
+      ((rw (← e) (c .before .load-node .ensures .words)), (rw (← e) (c .before .load-node .ensures .node))),
+    )
+
+pub find-node-spec : {M : Type 1} → statement M
+find-node-spec =
+    tie.close
+    (tie.spec
+    check-file-requires
+    enum-known-checked
+    returns
+    enum-told
+    node-count-requires
+    row-of-number-requires
+    returns-2
+    load-node-requires
+    cast-t12
+    returns-3)

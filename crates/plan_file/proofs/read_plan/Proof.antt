@@ -1,0 +1,101 @@
+use Prim.Native.Nat.{_+_, _*_, _-_, _/_}
+use mathlib.Core.Path.{_≡_, _∙_, refl, sym, ap}
+use native.Mathlib.Omega.{arith}
+use lib.ListN.{length}
+use borrow.Author.Needs.{needs}
+use Rattle.task_model.specs.Refusals.{outcome, accepted}
+use Rattle.plan_file.specs.Decoding.{nodeCount, rowsIn}
+use Rattle.plan_file.specs.Encoding.{bodiesStart}
+use Rattle.plan_file.specs.Check.{fileCheck}
+use Rattle.plan_file.specs.Plan.{entryCount}
+use Rattle.plan_file.proofs.Memory.{words-of-entries}
+use Rattle.plan_file.proofs.Buffers.{over-start}
+use Rattle.plan_file.proofs.Reading.{read-refused, read-few-rows, read-few-words, read-filled}
+use Rattle.plan_file.proofs.File.{file-holds}
+use Rattle.plan_file.proofs.read_plan.Statement.{statement}
+use Rattle.plan_file.proofs.read_plan.Tie as tie
+
+check-file-requires : tie.Need-check-file-requires
+check-file-requires c κs = search needs
+
+enum-known-checked : tie.Need-enum-known-checked
+enum-known-checked c = search needs
+
+-- the file is accepted
+told : (c : tie.After-enum-told) → fileCheck (c .before .before .before .before .before .before .args .file .now) ≡ accepted
+told c = sym (c .before .before .check-file .ensures) ∙ ap outcome (c .enum-told .given .1)
+
+-- how many words the entries have
+counted : (c : tie.After-node-count)
+    → (length (c .before .before .before .before .before .before .before .args .file .now) - (8 + c .node-count .result * 8)) / 4 ≡ entryCount (rowsIn (c .before .before .before .before .before .before .before .args .file .now)) * 5
+counted c = omega (arith, c .node-count .ensures .0, file-holds _ (told (c .before)) .ends)
+
+returns : tie.Need-returns
+returns c = (sym (read-refused _ _ _ _ (sym (c .before .before .before .check-file .ensures) ∙ ap outcome (c .before .checked .given .1))), (refl, refl))
+
+enum-told : tie.Need-enum-told
+enum-told c = search needs
+
+node-count-requires : tie.Need-node-count-requires
+node-count-requires c κs = file-holds _ (told c) .header .long
+
+mul-start : tie.Need-mul-start
+mul-start c = search needs
+
+add-start : tie.Need-add-start
+add-start c = search needs
+
+sub-words : tie.Need-sub-words
+sub-words c = omega (arith, (file-holds _ (told (c .before))) .header .contents)
+
+returns-2 : tie.Need-returns-2
+returns-2 c = (sym (read-few-rows _ _ _ (told (c .before .before)) (rw (← c .before .node-count .ensures .0) (c .if1 .taken))), (refl, refl))
+
+returns-3 : tie.Need-returns-3
+returns-3 c = (sym (read-few-words _ _ _ (told (c .before .before .before)) (omega arith) (omega (arith, counted (c .before .before)))), (refl, refl))
+
+copy-rows-requires : tie.Need-copy-rows-requires
+copy-rows-requires c κs = (omega (arith, (file-holds _ (told (c .before .before .before .before))) .header .contents), c .before .before .if1 .left)
+
+copy-words-requires : tie.Need-copy-words-requires
+copy-words-requires c κs = omega (arith, counted (c .before .before .before .before .before .before .before), (file-holds _ (told (c .before .before .before .before .before .before .before .before))) .ends)
+
+same-length : tie.Need-same-length
+same-length c = search needs
+
+same-length-2 : tie.Need-same-length-2
+same-length-2 c = search needs
+
+returns-4 : tie.Need-returns-4
+returns-4 c =
+    let n = c .before .before .before .before .before .before .before .before .before .before .node-count .ensures .0 in
+    let f = c .before .before .before .before .before .before .before .before .before .before .before .before .before .before .before .before .before .args .file .now in
+    let w = counted (c .before .before .before .before .before .before .before .before .before .before) in
+    let q : (length f - (8 + c .before .before .before .before .before .before .before .before .before .before .node-count .result * 8)) / 4 / 5 ≡ entryCount (rowsIn f) = omega (arith, w) in (
+      rw (q, n) (sym (read-filled _ _ _ (told (c .before .before .before .before .before .before .before .before .before .before .before)) (omega arith) (omega arith))),
+      (
+        (rw n at (c .before .before .before .before .before .before .copy-rows .ensures)) ∙ over-start _ _,
+        rw (words-of-entries f (λ i. c .before .before .before .before .before .before .before .before .before .before .before .before .before .before .before .before .shared-slice-known .given i .fits) (bodiesStart (nodeCount f)) (entryCount (rowsIn f)))
+            ((rw (w, n) at (c .before .before .copy-words .ensures)) ∙ over-start _ _),
+      ),
+    )
+
+pub read-plan-spec : {M : Type 1} → statement M
+read-plan-spec =
+    tie.close
+    (tie.spec
+    check-file-requires
+    enum-known-checked
+    returns
+    enum-told
+    node-count-requires
+    mul-start
+    add-start
+    sub-words
+    returns-2
+    returns-3
+    copy-rows-requires
+    copy-words-requires
+    same-length
+    same-length-2
+    returns-4)

@@ -1,0 +1,32 @@
+use mathlib.Core.Path.{_∙_, refl, sym, ap}
+use native.Mathlib.Omega.{arith}
+use borrow.Author.Needs.{needs}
+use Rattle.plan_file.specs.Encoding.{low}
+use Rattle.plan_file.specs.Buffers.{over}
+use Rattle.plan_file.proofs.Words.{row-bytes}
+use Rattle.plan_file.proofs.Buffers.{over-next}
+use Rattle.plan_file.proofs.store.put_row.Statement.{statement}
+use Rattle.plan_file.proofs.store.put_row.Tie as tie
+
+put-word-requires : tie.Need-put-word-requires
+put-word-requires c κs = search needs
+
+add-put-word : tie.Need-add-put-word
+add-put-word c = search needs
+
+put-word-requires-2 : tie.Need-put-word-requires-2
+put-word-requires-2 c κs = search needs
+
+same-length : tie.Need-same-length
+same-length c = search needs
+
+returns : tie.Need-returns
+unfolding low
+returns c =
+    c .before .before .put-word2 .ensures
+    ∙ rw (c .before .before .before .before .before .before .put-word .ensures)
+    (over-next _ _ 4 (low 4 _) (low 4 _) refl (omega arith) ∙ ap (over _ _) (sym (row-bytes _ _)))
+
+pub put-row-spec : {M : Type 1} → statement M
+put-row-spec =
+    tie.close (tie.spec put-word-requires add-put-word put-word-requires-2 same-length returns)

@@ -1,0 +1,94 @@
+-- What the reader, the writer and the finder answer, and what they leave in lent buffers.
+use Prim.Native.Nat.{ℕ, _+_, _*_}
+use mathlib.Core.Bool.{Bool, _&&_}
+use mathlib.Core.Path.{_≡_}
+use mathlib.Core.List.{List, _++_}
+use lib.ListN.{length, drop}
+use lib.Dec.{leb}
+use Rattle.task_model.specs.Refusals.{Numbered, at, numbered, Outcome, accepted, refused}
+use Rattle.task_model.specs.Limits.{Node}
+use Rattle.task_model.specs.Words.{nodeOf}
+use Rattle.plan_file.specs.declared.Row.{Row}
+use Rattle.plan_file.specs.declared.ReadPlan.{ReadPlan}
+use Rattle.plan_file.specs.declared.ReadPlan.the-variants as read
+use Rattle.plan_file.specs.declared.Written.{Written}
+use Rattle.plan_file.specs.declared.Written.the-variants as written
+use Rattle.plan_file.specs.declared.FoundNode.{FoundNode}
+use Rattle.plan_file.specs.declared.FoundNode.the-variants as found
+use Rattle.plan_file.specs.Plan.{Plan, wordsOf, planOf}
+use Rattle.plan_file.specs.Encoding.{encoding}
+use Rattle.plan_file.specs.Decoding.{rowAt, planIn}
+use Rattle.plan_file.specs.Check.{_andThen_, demand, fileCheck, wordsCheck}
+use Rattle.plan_file.specs.Find.{nodeOfRow, findCheck, nodeFound}
+
+-- An answer: what is given, or the refusal's number, row and entry.
+pub data Answer (A : Type 0) : Type 0 where
+  gives : A → Answer A
+  refuses : Numbered → Answer A
+
+-- What is given where nothing is refused.
+abbrev pub giving : {A : Type 0} → Outcome → A → Answer A
+giving accepted a = gives a
+giving (refused r) a = refuses r
+
+-- A lent buffer as a call leaves it: what is given from its start on, and what lies beyond kept; a refusal leaves it untouched.
+abbrev pub left : {A : Type 0} → Answer A → List ℕ → List ℕ → List ℕ
+left (gives a) new old = new ++ drop (length new) old
+left (refuses r) new old = old
+
+-- A pair of numbers that an answer gives.
+pub record Sizes : Type 0 where
+  pub rows : ℕ
+  pub entries : ℕ
+
+-- The buffers are long enough: a word for each row, five for each entry.
+abbrev pub roomTest : Plan → ℕ → ℕ → Bool
+roomTest p rowRoom wordRoom = leb (length (p .rows)) rowRoom && leb (length (p .entries) * 5) wordRoom
+
+-- The reader: the file's checks, then 10 where a lent buffer is too short.
+unfoldable pub readAnswer : List ℕ → ℕ → ℕ → Answer Sizes
+readAnswer f rowRoom wordRoom =
+    giving
+    (fileCheck f andThen demand (roomTest (planIn f) rowRoom wordRoom) (at 10 0 0))
+    (record { rows = length (planIn f .rows); entries = length (planIn f .entries) })
+
+abbrev pub readGives : ReadPlan → Answer Sizes
+readGives (read.Filled rows entries) = gives (record { rows = rows; entries = entries })
+readGives (read.Refused r) = refuses (numbered r)
+
+-- The writer: its checks, then 10 where the lent buffer is too short for the file.
+unfoldable pub writeAnswer : List ℕ → List ℕ → ℕ → Answer ℕ
+writeAnswer rows words room =
+    giving
+    (wordsCheck rows words
+    andThen demand (leb (length (encoding (planOf rows words))) room) (at 10 0 0))
+    (length (encoding (planOf rows words)))
+
+abbrev pub writeGives : Written → Answer ℕ
+writeGives (written.Length n) = gives n
+writeGives (written.Refused r) = refuses (numbered r)
+
+-- The finder gives a node's levels and how many entries it has.
+pub record Shape : Type 0 where
+  pub levels : ℕ
+  pub count : ℕ
+
+unfoldable pub findAnswer : List ℕ → ℕ → Answer Shape
+findAnswer f number =
+    giving (findCheck f number) (record { levels = nodeFound f number .levels; count = length (nodeFound f number .entries) })
+
+abbrev pub findGives : FoundNode → Answer Shape
+findGives (found.Found levels count) = gives (record { levels = levels; count = count })
+findGives (found.Refused r) = refuses (numbered r)
+
+-- Where a node is given, the words hold it as a node lies in memory.
+abbrev pub Holding : Answer Shape → List ℕ → Node → Type 0
+Holding (gives s) words n = nodeOf words (s .count) (s .levels) ≡ n
+Holding (refuses r) words n = Unit
+
+-- A node is loaded: the row is given; its entries' words stand from the start on, with all beyond them kept; and the
+-- words hold the node of that row.
+pub record Loaded (f : List ℕ) (i : ℕ) (r : Row) (old new : List ℕ) : Type 0 where
+  pub row : r ≡ rowAt f i
+  pub words : new ≡ wordsOf (nodeOfRow (planIn f) i .entries) ++ drop (length (wordsOf (nodeOfRow (planIn f) i .entries))) old
+  pub node : nodeOf new (r .count) (r .levels) ≡ nodeOfRow (planIn f) i

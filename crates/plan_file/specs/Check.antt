@@ -1,0 +1,99 @@
+-- The checks of a plan file, and the writer's of a plan, each in its order.
+use Prim.Native.Nat.{ℕ, suc, _+_, _*_}
+use mathlib.Core.Bool.{Bool, true, false, _&&_}
+use mathlib.Core.List.{List, [], _∷_}
+use lib.ListN.{length, getD, take, drop}
+use lib.Dec.{leb, eqb}
+use Rattle.task_model.specs.declared.Entry.{Entry}
+use Rattle.task_model.specs.Refusals.{Numbered, at, Outcome, accepted, refused}
+use Rattle.task_model.specs.Checks.{sizeTest, entriesCheck}
+use Rattle.plan_file.specs.declared.Row.{Row}
+use Rattle.plan_file.specs.Plan.{Plan, entryCount, planOf}
+use Rattle.plan_file.specs.Encoding.{opening, bodiesStart}
+use Rattle.plan_file.specs.Decoding.{nodeCount, offsetAt, rowsIn, entriesIn}
+
+infixr 20 _andThen_
+-- One check after another: the first refusal that is met.
+abbrev pub _andThen_ : Outcome → Outcome → Outcome
+refused r andThen next = refused r
+accepted andThen next = next
+
+-- A check of one fact: refused as said where the fact does not hold.
+abbrev pub demand : Bool → Numbered → Outcome
+demand true r = accepted
+demand false r = refused r
+
+-- Byte `i` of a file is that of the opening.
+abbrev pub opensAt : List ℕ → ℕ → Bool
+opensAt f i = eqb (getD f i 0) (getD opening i 0)
+
+unfoldable pub openingTest : List ℕ → Bool
+openingTest f = opensAt f 0 && opensAt f 1 && opensAt f 2 && opensAt f 3
+
+-- 1 to 32 nodes.
+unfoldable pub countTest : ℕ → Bool
+countTest nodes = leb 1 nodes && leb nodes 32
+
+-- The three bytes after the node count are zero.
+unfoldable pub zerosTest : List ℕ → Bool
+zerosTest f = eqb (getD f 5 0) 0 && eqb (getD f 6 0) 0 && eqb (getD f 7 0) 0
+
+-- A row: its number is not below the least that may follow, it has 1 to 64 levels and up to 64 entries.
+unfoldable pub rowTest : ℕ → Row → Bool
+rowTest least r = leb least (r .number) && sizeTest (r .levels) (r .count)
+
+-- Row by row from index `i` on (4). The next number is above this one; the first may be 0.
+unfoldable pub rowsCheck : ℕ → ℕ → List Row → Outcome
+rowsCheck i least [] = accepted
+rowsCheck i least (r ∷ rs) = demand (rowTest least r) (at 4 i 0) andThen rowsCheck (suc i) (suc (r .number)) rs
+
+-- The same in a file: 4, then 5. The next body begins where this one ends, 20 bytes to an entry.
+unfoldable pub contentsCheck : List ℕ → ℕ → ℕ → ℕ → List Row → Outcome
+contentsCheck f i least required [] = accepted
+contentsCheck f i least required (r ∷ rs) =
+    demand (rowTest least r) (at 4 i 0)
+    andThen demand (eqb (offsetAt f i) required) (at 5 i 0)
+    andThen contentsCheck f (suc i) (suc (r .number)) (required + r .count * 20) rs
+
+-- Entry by entry of each row from index `i` on: 7 and 8, with the row and the position in its node.
+unfoldable pub nodesCheck : ℕ → List Row → List Entry → Outcome
+nodesCheck i [] es = accepted
+nodesCheck i (r ∷ rs) es = entriesCheck i 0 (take (r .count) es) andThen nodesCheck (suc i) rs (drop (r .count) es)
+
+-- A file: 8 bytes (1), opening bytes (2), node count and zero bytes (3), the contents' length (1).
+unfoldable pub headerCheck : List ℕ → Outcome
+headerCheck f =
+    demand (leb 8 (length f)) (at 1 0 0)
+    andThen demand (openingTest f) (at 2 0 0)
+    andThen demand (countTest (nodeCount f) && zerosTest f) (at 3 0 0)
+    andThen demand (leb (bodiesStart (nodeCount f)) (length f)) (at 1 0 0)
+
+-- Then row by row 4 and 5, and the file's length (6): it ends with the last body.
+unfoldable pub layoutCheck : List ℕ → ℕ → ℕ → ℕ → List Row → Outcome
+layoutCheck f i least required rows =
+    contentsCheck f i least required rows
+    andThen demand (eqb (length f) (required + entryCount rows * 20)) (at 6 0 0)
+
+-- Then entry by entry 7 and 8.
+unfoldable pub fileCheck : List ℕ → Outcome
+fileCheck f =
+    headerCheck f
+    andThen layoutCheck f 0 0 (bodiesStart (nodeCount f)) (rowsIn f)
+    andThen nodesCheck 0 (rowsIn f) (entriesIn f)
+
+-- The writer, on rows and on entries that lie in `words` words: node count (3), row by row 4, more or fewer entries
+-- than the rows count (6; a part of an entry counts as more), entry by entry 7 and 8.
+unfoldable pub handedCheck : List Row → List Entry → ℕ → Outcome
+handedCheck rows entries words =
+    demand (countTest (length rows)) (at 3 0 0)
+    andThen rowsCheck 0 0 rows
+    andThen demand (eqb words (entryCount rows * 5)) (at 6 0 0)
+    andThen nodesCheck 0 rows entries
+
+-- A plan is accepted exactly when the writer's checks find nothing to refuse.
+abbrev pub planCheck : Plan → Outcome
+planCheck p = handedCheck (p .rows) (p .entries) (length (p .entries) * 5)
+
+-- The same of a plan as it lies in memory.
+abbrev pub wordsCheck : List ℕ → List ℕ → Outcome
+wordsCheck rows words = handedCheck (planOf rows words .rows) (planOf rows words .entries) (length words)

@@ -1,0 +1,53 @@
+-- The plan that an accepted file holds.
+use Prim.Native.Nat.{ℕ, zero, suc, _+_, _*_}
+use mathlib.Core.List.{List, [], _∷_}
+use lib.ListN.{getD}
+use Rattle.task_model.specs.declared.Entry.{Entry}
+use Rattle.task_model.specs.Words.{entryFrom}
+use Rattle.plan_file.specs.declared.Row.{Row}
+use Rattle.plan_file.specs.Plan.{Plan, entryCount, rowOf}
+use Rattle.plan_file.specs.Encoding.{bodiesStart}
+
+-- The number that four bytes from byte `k` on hold, low byte first: a word.
+unfoldable pub wordAt : List ℕ → ℕ → ℕ
+wordAt f k = getD f k 0 + getD f (k + 1) 0 * 256 + getD f (k + 2) 0 * 65536 + getD f (k + 3) 0 * 16777216
+
+-- `n` words from byte `k` on.
+unfoldable pub wordsFrom : List ℕ → ℕ → ℕ → List ℕ
+wordsFrom f k zero = []
+wordsFrom f k (suc n) = wordAt f k ∷ wordsFrom f (k + 4) n
+
+-- The node count, in the byte after the opening ones.
+abbrev pub nodeCount : List ℕ → ℕ
+nodeCount f = getD f 4 0
+
+-- Row `i` of the contents has two words. The first, read as in memory, has number, levels and entry count.
+abbrev pub rowAt : List ℕ → ℕ → Row
+rowAt f i = rowOf (wordAt f (8 + i * 8))
+
+-- The second is the offset of its body.
+abbrev pub offsetAt : List ℕ → ℕ → ℕ
+offsetAt f i = wordAt f (8 + i * 8 + 4)
+
+-- The rows from index `i` on, `n` of them.
+unfoldable pub rowsFrom : List ℕ → ℕ → ℕ → List Row
+rowsFrom f i zero = []
+rowsFrom f i (suc n) = rowAt f i ∷ rowsFrom f (suc i) n
+
+abbrev pub rowsIn : List ℕ → List Row
+rowsIn f = rowsFrom f 0 (nodeCount f)
+
+-- The entry that 20 bytes from byte `k` on hold: five words, read as in memory.
+abbrev pub entryIn : List ℕ → ℕ → Entry
+entryIn f k = entryFrom (wordsFrom f k 5) 0
+
+-- The entries from byte `k` on, `n` of them.
+unfoldable pub entriesAt : List ℕ → ℕ → ℕ → List Entry
+entriesAt f k zero = []
+entriesAt f k (suc n) = entryIn f k ∷ entriesAt f (k + 20) n
+
+abbrev pub entriesIn : List ℕ → List Entry
+entriesIn f = entriesAt f (bodiesStart (nodeCount f)) (entryCount (rowsIn f))
+
+abbrev pub planIn : List ℕ → Plan
+planIn f = record { rows = rowsIn f; entries = entriesIn f }

@@ -1,0 +1,54 @@
+-- The plan file of a plan: contents first, then bodies; numbers are unsigned, low byte first.
+use Prim.Native.Nat.{ℕ, zero, suc, _+_, _*_, _/_, _%_, _<_}
+use mathlib.Core.List.{List, [], _∷_, _++_}
+use lib.ListN.{length, getD}
+use Rattle.task_model.specs.declared.Entry.{Entry}
+use Rattle.plan_file.specs.declared.Row.{Row}
+use Rattle.plan_file.specs.Plan.{Plan}
+
+-- The `k` bytes of a number, low byte first.
+unfoldable pub low : ℕ → ℕ → List ℕ
+low zero n = []
+low (suc k) n = n % 256 ∷ low k (n / 256)
+
+-- The four bytes that a file opens with.
+abbrev pub opening : List ℕ
+opening = 0x4C ∷ 0x4D ∷ 0x50 ∷ 0x31 ∷ []
+
+-- The opening bytes, one byte with the node count, three zero bytes.
+unfoldable pub headerBytes : ℕ → List ℕ
+headerBytes nodes = opening ++ low 1 nodes ++ (0 ∷ 0 ∷ 0 ∷ [])
+
+-- A row: node number (2), levels (1), entry count (1), offset of its body from the file's start (4).
+unfoldable pub rowBytes : ℕ → Row → List ℕ
+rowBytes offset r = low 2 (r .number) ++ low 1 (r .levels) ++ low 1 (r .count) ++ low 4 offset
+
+-- An entry: entry number (2), kind (1), r (1), C, T, D, B (4 each).
+unfoldable pub entryBytes : Entry → List ℕ
+entryBytes e =
+    low 2 (e .number) ++ low 1 (e .kind) ++ low 1 (e .calls)
+    ++ low 4 (e .wcet) ++ low 4 (e .period) ++ low 4 (e .deadline) ++ low 4 (e .blocking)
+
+-- Where the first body begins: right after the header and a row of 8 bytes for each node.
+abbrev pub bodiesStart : ℕ → ℕ
+bodiesStart nodes = 8 + nodes * 8
+
+-- The contents: each body begins where the one before it ends, 20 bytes to an entry.
+unfoldable pub contentsBytes : ℕ → List Row → List ℕ
+contentsBytes offset [] = []
+contentsBytes offset (r ∷ rs) = rowBytes offset r ++ contentsBytes (offset + r .count * 20) rs
+
+unfoldable pub bodiesBytes : List Entry → List ℕ
+bodiesBytes [] = []
+bodiesBytes (e ∷ es) = entryBytes e ++ bodiesBytes es
+
+-- The whole file.
+unfoldable pub encoding : Plan → List ℕ
+encoding p =
+    headerBytes (length (p .rows))
+    ++ contentsBytes (bodiesStart (length (p .rows))) (p .rows)
+    ++ bodiesBytes (p .entries)
+
+-- A file is a list of bytes.
+abbrev pub Bytes : List ℕ → Type 0
+Bytes f = (i : ℕ) → getD f i 0 < 256

@@ -1,0 +1,8 @@
+-- What a reader of the plan file must believe.
+pub mod Plan
+pub mod Encoding
+pub mod Decoding
+pub mod Check
+pub mod Find
+pub mod Buffers
+pub mod Answers

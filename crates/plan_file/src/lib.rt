@@ -1,0 +1,219 @@
+// Plan files: checking, reading, writing, and finding a node.
+//
+// In memory a plan is words of 32 bits: one for a row, which is the first four bytes of its row in the file, and five for
+// an entry, which are its 20 bytes, both low byte first (specs/Plan.antt). So the fields keep the file's widths.
+mod check;
+mod read;
+mod store;
+
+use check::check_bodies;
+use check::check_header;
+use check::check_layout;
+use check::check_nodes;
+use check::check_rows;
+use read::copy_rows;
+use read::copy_words;
+use read::row_of;
+use read::wide;
+use read::word_at;
+use store::put_bodies;
+use store::put_contents;
+use store::put_header;
+use task_model::Checked;
+use task_model::Refusal;
+ghost use mathlib.Core.Path.{_≡_};
+ghost use mathlib.Core.List.{map};
+ghost use lib.ListN.{length};
+ghost use Prim.Native.Nat.{_+_, _≤_, _<_};
+ghost use Rattle.task_model.specs.Refusals.{outcome, accepted};
+ghost use Rattle.plan_file.specs.Plan.{rowWord, wordsOf, planOf};
+ghost use Rattle.plan_file.specs.Encoding.{bodiesStart, encoding};
+ghost use Rattle.plan_file.specs.Decoding.{nodeCount, rowAt, rowsFrom, planIn};
+ghost use Rattle.plan_file.specs.Check.{fileCheck, wordsCheck};
+ghost use Rattle.plan_file.specs.Find.{rowOfNumber, nodeFound};
+ghost use Rattle.plan_file.specs.Answers.{left, Loaded, Holding, readGives, readAnswer, writeGives, writeAnswer, findGives, findAnswer};
+
+// The four bytes that a plan file opens with.
+const OPENING: [u8; 4] = *b"LMP1";
+
+// A row of the contents without its offset.
+pub struct Row {
+    pub number: u16,
+    pub levels: u8,
+    pub count: u8,
+}
+
+// How many rows and entries were filled, or why none were.
+pub enum ReadPlan {
+    Filled { rows: usize, entries: usize },
+    Refused(Refusal),
+}
+
+// The file's length, or why none was written.
+pub enum Written {
+    Length(usize),
+    Refused(Refusal),
+}
+
+// The levels and the entry count of the node, or why none is given.
+pub enum FoundNode {
+    Found { levels: u8, count: usize },
+    Refused(Refusal),
+}
+
+// The row at an index of a file's contents.
+pub fn row_at(file: &[u8], row: usize) -> Row
+    requires { ⌜ bodiesStart (row + 1) ≤ length (now file) ⌝ }
+    ensures { λ r. ⌜ r ≡ rowAt (now (file .entry)) row ⌝ }
+{
+    row_of(word_at(file, 8 + row * 8))
+}
+
+// The node count, in the byte after the opening ones.
+pub fn node_count(file: &[u8]) -> usize
+    requires { ⌜ 8 ≤ length (now file) ⌝ }
+    ensures { λ n. ⌜ (n ≡ nodeCount (now (file .entry))) × (n < 256) ⌝ }
+{
+    wide(file[4]) as usize
+}
+
+// The index of the row with a number, or the node count where none has it.
+fn row_of_number(file: &[u8], number: u16, nodes: usize) -> usize
+    requires { ⌜ bodiesStart nodes ≤ length (now file) ⌝ }
+    ensures { λ i. ⌜ i ≡ rowOfNumber number (rowsFrom (now (file .entry)) 0 nodes) ⌝ }
+{
+    let mut row: usize = 0;
+    while row < nodes {
+        let r = row_at(file, row);
+        if r.number == number {
+            return row;
+        }
+        row += 1;
+    }
+    nodes
+}
+
+// Accepts a plan file, or refuses it as the first of its checks that is met does.
+pub fn check_file(file: &[u8]) -> Checked
+    ensures { λ a. ⌜ outcome a ≡ fileCheck (now (file .entry)) ⌝ }
+{
+    let header = check_header(file);
+    let Checked::Accepted = header else {
+        return header;
+    };
+    let nodes = node_count(file);
+    let layout = check_layout(file, nodes);
+    let Checked::Accepted = layout else {
+        return layout;
+    };
+    check_bodies(file, nodes)
+}
+
+// Accepts rows and entries as the writer takes them, or refuses them as the first of its checks that is met does.
+pub fn check_plan(rows: &[u32], entries: &[u32]) -> Checked
+    ensures { λ a. ⌜ outcome a ≡ wordsCheck (now (rows .entry)) (now (entries .entry)) ⌝ }
+{
+    if rows.len() < 1 {
+        return Checked::Refused(Refusal::NodeCount);
+    }
+    if 32 < rows.len() {
+        return Checked::Refused(Refusal::NodeCount);
+    }
+    let counted = check_rows(rows, entries.len());
+    let Checked::Accepted = counted else {
+        return counted;
+    };
+    check_nodes(rows, entries)
+}
+
+// Writes a plan as a file from the buffer's start. Refuses as check_plan does, then a buffer that is too short (10).
+pub fn write_plan(rows: &[u32], entries: &[u32], file: &mut [u8]) -> Written
+    ensures { λ a. ⌜ writeGives a ≡ writeAnswer (now (rows .entry)) (now (entries .entry)) (length (now (file .entry))) ⌝ }
+    ensures { λ a.
+        ⌜ now (file .exit) ≡
+        left (writeGives a) (encoding (planOf (now (rows .entry)) (now (entries .entry)))) (now (file .entry)) ⌝ }
+{
+    let checked = check_plan(rows, entries);
+    if let Checked::Refused(r) = checked {
+        return Written::Refused(r);
+    }
+    let start = 8 + rows.len() * 8;
+    let length = start + entries.len() * 4;
+    if file.len() < length {
+        return Written::Refused(Refusal::ShortBuffer);
+    }
+    put_header(file, rows.len());
+    put_contents(file, rows);
+    put_bodies(file, start, entries, entries.len() / 5);
+    Written::Length(length)
+}
+
+// Reads a file's plan into buffers: a word for each row, five for each entry. Refuses as check_file does, then a buffer
+// that is too short (10).
+pub fn read_plan(file: &[u8], rows: &mut [u32], entries: &mut [u32]) -> ReadPlan
+    ensures { λ a.
+        ⌜ readGives a ≡ readAnswer (now (file .entry)) (length (now (rows .entry))) (length (now (entries .entry))) ⌝ }
+    ensures { λ a.
+        ⌜ now (rows .exit) ≡
+        left (readGives a) (map rowWord (planIn (now (file .entry)) .rows)) (now (rows .entry)) ⌝ }
+    ensures { λ a.
+        ⌜ now (entries .exit) ≡
+        left (readGives a) (wordsOf (planIn (now (file .entry)) .entries)) (now (entries .entry)) ⌝ }
+{
+    let checked = check_file(file);
+    if let Checked::Refused(r) = checked {
+        return ReadPlan::Refused(r);
+    }
+    let nodes = node_count(file);
+    let start = 8 + nodes * 8;
+    let words = (file.len() - start) / 4;
+    if rows.len() < nodes {
+        return ReadPlan::Refused(Refusal::ShortBuffer);
+    }
+    if entries.len() < words {
+        return ReadPlan::Refused(Refusal::ShortBuffer);
+    }
+    copy_rows(file, rows, nodes);
+    copy_words(file, start, entries, words);
+    ReadPlan::Filled {
+        rows: nodes,
+        entries: words / 5,
+    }
+}
+
+// Copies the entries of a row of an accepted file to the array's start, as a node is lent, and gives the row.
+pub fn load_node(file: &[u8], row: usize, words: &mut [u32; 320]) -> Row
+    requires { ⌜ (fileCheck (now file) ≡ accepted) × (row < nodeCount (now file)) ⌝ }
+    ensures { λ r.
+        ⌜ Loaded (now (file .entry)) row r (now (words .entry)) (now (words .exit)) ⌝ }
+{
+    let r = row_at(file, row);
+    let start = word_at(file, 8 + row * 8 + 4) as usize;
+    copy_words(file, start, words, r.count as usize * 5);
+    r
+}
+
+// Finds the node with a number, and copies its entries to the array's start, as a node is lent. Refuses as check_file
+// does, then a number that no node has (9).
+pub fn find_node(file: &[u8], number: u16, words: &mut [u32; 320]) -> FoundNode
+    ensures { λ a. ⌜ findGives a ≡ findAnswer (now (file .entry)) number ⌝ }
+    ensures { λ a.
+        ⌜ now (words .exit) ≡
+        left (findGives a) (wordsOf (nodeFound (now (file .entry)) number .entries)) (now (words .entry)) ⌝ }
+    ensures { λ a. ⌜ Holding (findGives a) (now (words .exit)) (nodeFound (now (file .entry)) number) ⌝ }
+{
+    let checked = check_file(file);
+    if let Checked::Refused(r) = checked {
+        return FoundNode::Refused(r);
+    }
+    let nodes = node_count(file);
+    let row = row_of_number(file, number, nodes);
+    if nodes <= row {
+        return FoundNode::Refused(Refusal::NoSuchNode);
+    }
+    let r = load_node(file, row, words);
+    FoundNode::Found {
+        levels: r.levels,
+        count: r.count as usize,
+    }
+}

@@ -1,0 +1,88 @@
+// Stores the parts of a plan file into a buffer.
+use super::OPENING;
+use super::read::row_of;
+ghost use mathlib.Core.Path.{_≡_};
+ghost use mathlib.Core.List.{map};
+ghost use lib.ListN.{length};
+ghost use Prim.Native.Nat.{_+_, _*_, _≤_};
+ghost use Rattle.task_model.specs.Words.{entryFrom, entriesFrom};
+ghost use Rattle.plan_file.specs.Plan.{rowOf};
+ghost use Rattle.plan_file.specs.Encoding.{low, bodiesStart, headerBytes, rowBytes, contentsBytes, bodiesBytes, entryBytes};
+ghost use Rattle.plan_file.specs.Buffers.{over};
+
+// Stores a word as four bytes, low byte first.
+fn put_word(file: &mut [u8], k: usize, word: u32)
+    requires { ⌜ k + 4 ≤ length (now file) ⌝ }
+    ensures { λ _. ⌜ now (file .exit) ≡ over (now (file .entry)) k (low 4 word) ⌝ }
+{
+    file[k] = (word % 256) as u8;
+    file[k + 1] = (word / 256 % 256) as u8;
+    file[k + 2] = (word / 65536 % 256) as u8;
+    file[k + 3] = (word / 16777216 % 256) as u8;
+}
+
+// Stores a row, given as its word, with its offset.
+fn put_row(file: &mut [u8], k: usize, word: u32, offset: u32)
+    requires { ⌜ k + 8 ≤ length (now file) ⌝ }
+    ensures { λ _. ⌜ now (file .exit) ≡ over (now (file .entry)) k (rowBytes offset (rowOf word)) ⌝ }
+{
+    put_word(file, k, word);
+    put_word(file, k + 4, offset);
+}
+
+// Stores the entry that five words hold from word `j` on.
+fn put_entry(file: &mut [u8], k: usize, words: &[u32], j: usize)
+    requires { ⌜ (k + 20 ≤ length (now file)) × (j + 5 ≤ length (now words)) ⌝ }
+    ensures { λ _. ⌜ now (file .exit) ≡ over (now (file .entry)) k (entryBytes (entryFrom (now (words .entry)) j)) ⌝ }
+{
+    put_word(file, k, words[j]);
+    put_word(file, k + 4, words[j + 1]);
+    put_word(file, k + 8, words[j + 2]);
+    put_word(file, k + 12, words[j + 3]);
+    put_word(file, k + 16, words[j + 4]);
+}
+
+// Stores the opening bytes, the node count and three zero bytes.
+pub(crate) fn put_header(file: &mut [u8], nodes: usize)
+    requires { ⌜ 8 ≤ length (now file) ⌝ }
+    ensures { λ _. ⌜ now (file .exit) ≡ over (now (file .entry)) 0 (headerBytes nodes) ⌝ }
+{
+    file[0] = OPENING[0];
+    file[1] = OPENING[1];
+    file[2] = OPENING[2];
+    file[3] = OPENING[3];
+    file[4] = (nodes % 256) as u8;
+    file[5] = 0;
+    file[6] = 0;
+    file[7] = 0;
+}
+
+// Stores the contents, each row with its offset.
+pub(crate) fn put_contents(file: &mut [u8], rows: &[u32])
+    requires { ⌜ (length (now rows) ≤ 32) × (bodiesStart (length (now rows)) ≤ length (now file)) ⌝ }
+    ensures { λ _.
+        ⌜ now (file .exit) ≡
+        over (now (file .entry)) 8
+        (contentsBytes (bodiesStart (length (now (rows .entry)))) (map rowOf (now (rows .entry)))) ⌝ }
+{
+    let mut offset: u32 = 8 + rows.len() as u32 * 8;
+    let mut row: usize = 0;
+    while row < rows.len() {
+        let word = rows[row];
+        put_row(file, 8 + row * 8, word, offset);
+        offset += row_of(word).count as u32 * 20;
+        row += 1;
+    }
+}
+
+// Stores the bodies from byte `start` on.
+pub(crate) fn put_bodies(file: &mut [u8], start: usize, words: &[u32], count: usize)
+    requires { ⌜ (start + count * 20 ≤ length (now file)) × (count * 5 ≤ length (now words)) ⌝ }
+    ensures { λ _. ⌜ now (file .exit) ≡ over (now (file .entry)) start (bodiesBytes (entriesFrom (now (words .entry)) 0 count)) ⌝ }
+{
+    let mut j: usize = 0;
+    while j < count {
+        put_entry(file, start + j * 20, words, j * 5);
+        j += 1;
+    }
+}

@@ -1,0 +1,2 @@
+-- What a reader of the mapping from a file must believe.
+pub mod Mapping

@@ -1,0 +1,59 @@
+//! Where the parts of a plan file lie.
+
+use crate::model::{Entry, Row, MAX_ENTRIES, MAX_NODES};
+
+/// The bytes that open a plan file.
+pub const OPENING_BYTES: [u8; 4] = [0x4C, 0x4D, 0x50, 0x31];
+/// Bytes before the contents.
+pub const HEAD_BYTES: usize = 8;
+/// Bytes of one row of the contents.
+pub const ROW_BYTES: usize = 8;
+/// Bytes of one entry in a body.
+pub const ENTRY_BYTES: usize = 20;
+/// Bytes of the longest plan file.
+pub const LONGEST: usize = HEAD_BYTES + MAX_NODES * (ROW_BYTES + MAX_ENTRIES * ENTRY_BYTES);
+
+/// Where the contents of `nodes` rows end and the first body begins.
+pub fn contents_end(nodes: usize) -> usize {
+    HEAD_BYTES + nodes * ROW_BYTES
+}
+
+/// Where a body of `entries` entries ends that begins at `offset`.
+pub fn body_end(offset: usize, entries: u8) -> usize {
+    offset + usize::from(entries) * ENTRY_BYTES
+}
+
+/// The row at `index`, with the offset that stands beside it.
+pub fn row_at(file: &[u8], index: usize) -> (Row, u64) {
+    let at = contents_end(index);
+    let bytes = &file[at..at + ROW_BYTES];
+    let row = Row {
+        number: low_first(&bytes[0..2]) as u16,
+        levels: bytes[2],
+        entries: bytes[3],
+    };
+    (row, low_first(&bytes[4..8]))
+}
+
+/// The entry at `position` of the body that begins at `offset`.
+pub fn entry_at(file: &[u8], offset: usize, position: usize) -> Entry {
+    let at = offset + position * ENTRY_BYTES;
+    let bytes = &file[at..at + ENTRY_BYTES];
+    Entry {
+        number: low_first(&bytes[0..2]) as u16,
+        kind: bytes[2],
+        r: bytes[3],
+        c: low_first(&bytes[4..8]),
+        t: low_first(&bytes[8..12]),
+        d: low_first(&bytes[12..16]),
+        b: low_first(&bytes[16..20]),
+    }
+}
+
+/// An unsigned number, low byte first.
+fn low_first(bytes: &[u8]) -> u64 {
+    bytes
+        .iter()
+        .rev()
+        .fold(0, |high, &low| high * 256 + u64::from(low))
+}

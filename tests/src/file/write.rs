@@ -1,0 +1,87 @@
+//! The writer.
+
+use super::layout::{body_end, contents_end, ENTRY_BYTES, OPENING_BYTES, ROW_BYTES};
+use crate::limits::{check_entry, check_row};
+use crate::model::{Entry, Plan, Row, MAX_NODES};
+use crate::refusal::{Refusal, BUFFER, COUNT, LENGTH};
+
+/// The writer's checks of a plan: 3, 4, 6, then 7 with 8 entry by entry.
+pub fn check_parts(rows: &[Row], entries: &[Entry]) -> Result<(), Refusal> {
+    if rows.is_empty() || rows.len() > MAX_NODES {
+        return Err(Refusal::plain(COUNT));
+    }
+    let mut last = None;
+    for (index, row) in rows.iter().enumerate() {
+        check_row(row, last, index)?;
+        last = Some(row.number);
+    }
+    let counted: usize = rows.iter().map(|row| usize::from(row.entries)).sum();
+    if entries.len() != counted {
+        return Err(Refusal::plain(LENGTH));
+    }
+    for (entry, (row, position)) in entries.iter().zip(places(rows)) {
+        check_entry(entry, row, position)?;
+    }
+    Ok(())
+}
+
+/// Writes the file from the buffer's start and gives its length.
+///
+/// Bytes beyond are kept; a refused call keeps them all.
+pub fn write(rows: &[Row], entries: &[Entry], buffer: &mut [u8]) -> Result<usize, Refusal> {
+    check_parts(rows, entries)?;
+    let file = bytes_of(rows, entries);
+    let Some(target) = buffer.get_mut(..file.len()) else {
+        return Err(Refusal::plain(BUFFER));
+    };
+    target.copy_from_slice(&file);
+    Ok(file.len())
+}
+
+/// The file of a plan that the writer accepts.
+pub fn encode(plan: &Plan) -> Result<Vec<u8>, Refusal> {
+    let (rows, entries) = (plan.rows(), plan.entries());
+    check_parts(&rows, &entries)?;
+    Ok(bytes_of(&rows, &entries))
+}
+
+/// Row and position of each entry that the rows count.
+fn places(rows: &[Row]) -> impl Iterator<Item = (usize, usize)> + '_ {
+    rows.iter()
+        .enumerate()
+        .flat_map(|(index, row)| (0..usize::from(row.entries)).map(move |at| (index, at)))
+}
+
+fn bytes_of(rows: &[Row], entries: &[Entry]) -> Vec<u8> {
+    let mut file = OPENING_BYTES.to_vec();
+    file.extend([rows.len() as u8, 0, 0, 0]);
+    let mut offset = contents_end(rows.len());
+    for row in rows {
+        file.extend(row_bytes(row, offset));
+        offset = body_end(offset, row.entries);
+    }
+    file.extend(entries.iter().flat_map(entry_bytes));
+    file
+}
+
+fn row_bytes(row: &Row, offset: usize) -> [u8; ROW_BYTES] {
+    let [number_low, number_high] = row.number.to_le_bytes();
+    let [o0, o1, o2, o3] = (offset as u32).to_le_bytes();
+    let Row {
+        levels, entries, ..
+    } = *row;
+    [number_low, number_high, levels, entries, o0, o1, o2, o3]
+}
+
+/// The bytes of one entry; ticks beyond four bytes lose what lies above.
+pub fn entry_bytes(entry: &Entry) -> [u8; ENTRY_BYTES] {
+    let mut bytes = [0; ENTRY_BYTES];
+    bytes[0..2].copy_from_slice(&entry.number.to_le_bytes());
+    bytes[2] = entry.kind;
+    bytes[3] = entry.r;
+    let ticks = [entry.c, entry.t, entry.d, entry.b];
+    for (field, value) in bytes[4..].chunks_exact_mut(4).zip(ticks) {
+        field.copy_from_slice(&(value as u32).to_le_bytes());
+    }
+    bytes
+}

@@ -1,0 +1,13 @@
+//! Lent buffers with known contents.
+
+use crate::rng::Rng;
+
+/// Bytes that differ from their neighbours, to show what a call has kept.
+pub fn known(length: usize) -> Vec<u8> {
+    (0..length).map(|at| at as u8 ^ 0xA5).collect()
+}
+
+/// A length for a buffer that needs `needed` bytes: exact, longer or short.
+pub fn room(rng: &mut Rng, needed: usize) -> usize {
+    rng.pick(&[needed, needed, needed + 3, needed.saturating_sub(1), 0])
+}

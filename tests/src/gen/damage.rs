@@ -1,0 +1,264 @@
+//! Damaged files, each with the refusal that is due.
+
+use super::faults::{break_kind, break_row, break_ticks};
+use crate::file::{
+    body_end, contents_end, encode, entry_at, entry_bytes, row_at, ENTRY_BYTES, HEAD_BYTES,
+    OPENING_BYTES,
+};
+use crate::model::{Entry, Plan, MAX_NODES};
+use crate::refusal::{Refusal, COUNT, CUT_OFF, KIND, LENGTH, OFFSET, OPENING, ROW, TICKS};
+use crate::rng::Rng;
+
+/// The check that a fault aims at.
+#[derive(Clone, Copy, Debug, PartialEq, Eq)]
+pub enum Aim {
+    /// 1: fewer than 8 bytes.
+    Head,
+    /// 2.
+    Opening,
+    /// 3.
+    Count,
+    /// 1: the contents cut off.
+    Contents,
+    /// 4.
+    Row,
+    /// 5.
+    Offset,
+    /// 6.
+    Length,
+    /// 7.
+    Kind,
+    /// 8.
+    Ticks,
+}
+
+/// Every aim.
+pub const AIMS: [Aim; 9] = [
+    Aim::Head,
+    Aim::Opening,
+    Aim::Count,
+    Aim::Contents,
+    Aim::Row,
+    Aim::Offset,
+    Aim::Length,
+    Aim::Kind,
+    Aim::Ticks,
+];
+
+/// A damaged file.
+#[derive(Clone, Debug)]
+pub struct Damaged {
+    /// Its bytes.
+    pub file: Vec<u8>,
+    /// The first check that it meets.
+    pub due: Refusal,
+}
+
+/// The plan's file with one fault for each aim, put in in that order.
+///
+/// The plan must have an entry.
+pub fn damage(rng: &mut Rng, plan: &Plan, aims: &[Aim]) -> Damaged {
+    let mut work = Work::new(plan);
+    let faults: Vec<Fault> = aims.iter().map(|&aim| work.put_in(rng, aim)).collect();
+    let first = faults.iter().min_by_key(|fault| fault.rank);
+    let due = first.expect("there is an aim").refusal;
+    Damaged {
+        file: work.finish(),
+        due,
+    }
+}
+
+/// The file cut at every length, the full one left out.
+pub fn truncations(file: &[u8]) -> impl Iterator<Item = &[u8]> {
+    (0..file.len()).map(|length| &file[..length])
+}
+
+/// The file with one byte changed, at every place and to every value.
+pub fn byte_changes(file: &[u8]) -> impl Iterator<Item = (usize, Vec<u8>)> + '_ {
+    let changes = (0..file.len()).flat_map(|at| (0..=255).map(move |byte| (at, byte)));
+    changes
+        .filter(|&(at, byte)| file[at] != byte)
+        .map(|(at, byte)| {
+            let mut changed = file.to_vec();
+            changed[at] = byte;
+            (at, changed)
+        })
+}
+
+/// Where a check stands in the order: stage, row, entry, step at the place.
+type Rank = (u8, usize, usize, u8);
+
+struct Fault {
+    rank: Rank,
+    refusal: Refusal,
+}
+
+impl Fault {
+    fn plain(stage: u8, number: u8) -> Fault {
+        Fault {
+            rank: (stage, 0, 0, 0),
+            refusal: Refusal::plain(number),
+        }
+    }
+
+    fn in_contents(row: usize, step: u8, number: u8) -> Fault {
+        Fault {
+            rank: (4, row, 0, step),
+            refusal: Refusal::at_row(number, row),
+        }
+    }
+
+    fn in_body(row: usize, entry: usize, step: u8, number: u8) -> Fault {
+        Fault {
+            rank: (6, row, entry, step),
+            refusal: Refusal::at_entry(number, row, entry),
+        }
+    }
+}
+
+/// A file under damage; changes of its length wait for the end.
+struct Work<'a> {
+    plan: &'a Plan,
+    file: Vec<u8>,
+    cut: Option<usize>,
+    more: usize,
+}
+
+impl Work<'_> {
+    fn new(plan: &Plan) -> Work<'_> {
+        Work {
+            plan,
+            file: encode(plan).expect("only good plans are damaged"),
+            cut: None,
+            more: 0,
+        }
+    }
+
+    /// A cut leaves nothing to append to.
+    fn finish(mut self) -> Vec<u8> {
+        match self.cut {
+            Some(length) => self.file.truncate(length),
+            None => self.file.resize(self.file.len() + self.more, 0),
+        }
+        self.file
+    }
+
+    fn put_in(&mut self, rng: &mut Rng, aim: Aim) -> Fault {
+        match aim {
+            Aim::Head => {
+                self.cut_to(rng.index(HEAD_BYTES));
+                Fault::plain(0, CUT_OFF)
+            }
+            Aim::Opening => self.break_opening(rng),
+            Aim::Count => self.break_count(rng),
+            Aim::Contents => {
+                self.cut_to(rng.count(HEAD_BYTES, self.contents_end() - 1));
+                Fault::plain(3, CUT_OFF)
+            }
+            Aim::Row => self.break_row(rng),
+            Aim::Offset => self.break_offset(rng),
+            Aim::Length => self.break_length(rng),
+            Aim::Kind => {
+                let (row, entry) = self.break_entry(rng, break_kind);
+                Fault::in_body(row, entry, 0, KIND)
+            }
+            Aim::Ticks => {
+                let (row, entry) = self.break_entry(rng, break_ticks);
+                Fault::in_body(row, entry, 1, TICKS)
+            }
+        }
+    }
+
+    fn contents_end(&self) -> usize {
+        contents_end(self.plan.nodes.len())
+    }
+
+    /// Where the body of the row belongs.
+    fn body_of(&self, row: usize) -> usize {
+        let before = &self.plan.nodes[..row];
+        before.iter().fold(self.contents_end(), |at, node| {
+            body_end(at, node.row().entries)
+        })
+    }
+
+    fn cut_to(&mut self, length: usize) {
+        self.cut = Some(self.cut.map_or(length, |cut| cut.min(length)));
+    }
+
+    fn break_opening(&mut self, rng: &mut Rng) -> Fault {
+        let at = rng.index(OPENING_BYTES.len());
+        self.file[at] = rng.pick(&[
+            0,
+            OPENING_BYTES[at] ^ 0x20,
+            OPENING_BYTES[at].wrapping_add(1),
+        ]);
+        Fault::plain(1, OPENING)
+    }
+
+    fn break_count(&mut self, rng: &mut Rng) -> Fault {
+        if rng.chance(1, 2) {
+            self.file[4] = rng.pick(&[0, MAX_NODES as u8 + 1, 255]);
+        } else {
+            self.file[rng.count(5, 7)] = rng.byte(1, 255);
+        }
+        Fault::plain(2, COUNT)
+    }
+
+    fn break_row(&mut self, rng: &mut Rng) -> Fault {
+        let index = rng.index(self.plan.nodes.len());
+        let last = index
+            .checked_sub(1)
+            .map(|last| self.plan.nodes[last].number);
+        let at = contents_end(index);
+        let mut row = row_at(&self.file, index).0;
+        break_row(rng, &mut row, last);
+        self.file[at..at + 2].copy_from_slice(&row.number.to_le_bytes());
+        self.file[at + 2] = row.levels;
+        self.file[at + 3] = row.entries;
+        Fault::in_contents(index, 0, ROW)
+    }
+
+    fn break_offset(&mut self, rng: &mut Rng) -> Fault {
+        let index = rng.index(self.plan.nodes.len());
+        let required = self.body_of(index) as u32;
+        let at = contents_end(index) + 4;
+        let wrong = rng.pick(&[
+            0,
+            required - 1,
+            required + 1,
+            required + ENTRY_BYTES as u32,
+            required + (1 << 24),
+            u32::MAX,
+        ]);
+        self.file[at..at + 4].copy_from_slice(&wrong.to_le_bytes());
+        Fault::in_contents(index, 1, OFFSET)
+    }
+
+    fn break_length(&mut self, rng: &mut Rng) -> Fault {
+        if rng.chance(1, 2) {
+            self.cut_to(rng.count(self.contents_end(), self.file.len() - 1));
+        } else {
+            self.more = rng.count(1, 2 * ENTRY_BYTES);
+        }
+        Fault::plain(5, LENGTH)
+    }
+
+    /// Breaks an entry somewhere and gives its row and position.
+    fn break_entry(
+        &mut self,
+        rng: &mut Rng,
+        break_one: fn(&mut Rng, &mut Entry),
+    ) -> (usize, usize) {
+        let filled: Vec<usize> = (0..self.plan.nodes.len())
+            .filter(|&row| !self.plan.nodes[row].entries.is_empty())
+            .collect();
+        let row = rng.pick(&filled);
+        let position = rng.index(self.plan.nodes[row].entries.len());
+        let body = self.body_of(row);
+        let mut entry = entry_at(&self.file, body, position);
+        break_one(rng, &mut entry);
+        let at = body + position * ENTRY_BYTES;
+        self.file[at..at + ENTRY_BYTES].copy_from_slice(&entry_bytes(&entry));
+        (row, position)
+    }
+}

@@ -1,0 +1,10 @@
+//! Generated nodes, plans, damaged files and rows of session operations.
+
+pub mod budget;
+pub mod buffers;
+pub mod damage;
+pub mod entries;
+pub mod faults;
+pub mod ops;
+pub mod parts;
+pub mod plans;

@@ -1,0 +1,87 @@
+//! Rows of session operations, refused ones included.
+
+use super::entries;
+use super::faults::{break_kind, break_ticks};
+use crate::model::{Entry, MAX_LEVELS};
+use crate::rng::Rng;
+use crate::session::{Op, Session};
+
+/// How a row of operations goes.
+#[derive(Clone, Copy, Debug, PartialEq, Eq)]
+pub enum Course {
+    /// A short list that is changed all over.
+    Short,
+    /// A list that grows until it is full.
+    Growing,
+}
+
+/// The next operation on the session.
+pub fn next_op(rng: &mut Rng, session: &Session, course: Course) -> Op {
+    let len = session.entries().len();
+    let growing = course == Course::Growing || len < 3;
+    let inserts = if growing { 10 } else { 3 };
+    // Mapping a long list takes long.
+    let maps = if len <= 12 || rng.chance(1, 40) { 4 } else { 0 };
+    let removes = if course == Course::Growing { 1 } else { 3 };
+    let weights = [inserts, removes, 3, 1, 4, maps];
+    match weighted(rng, &weights) {
+        0 => Op::Insert(position(rng, len + 1), entry(rng, course)),
+        1 => Op::Remove(position(rng, len)),
+        2 => Op::Replace(position(rng, len), entry(rng, course)),
+        3 => Op::SetLevels(levels(rng)),
+        4 => group(rng, len),
+        _ => Op::Map,
+    }
+}
+
+/// A level count, now and then outside the limits.
+pub fn levels(rng: &mut Rng) -> usize {
+    let inside = rng.count(1, MAX_LEVELS);
+    rng.pick(&[inside, inside, 1, 2, 3, 4, 64, 0, 65, 256, 257, usize::MAX])
+}
+
+/// Mostly a position below `end`, else one just outside or far outside.
+fn position(rng: &mut Rng, end: usize) -> usize {
+    if end > 0 && !rng.chance(1, 10) {
+        rng.index(end)
+    } else {
+        rng.pick(&[end, end, end + 1, usize::MAX])
+    }
+}
+
+/// First, last and entry; now and then in a wrong order.
+fn group(rng: &mut Rng, len: usize) -> Op {
+    let mut places = [position(rng, len), position(rng, len), position(rng, len)];
+    if !rng.chance(1, 5) {
+        places.sort();
+    }
+    Op::Time(places[0], places[2], places[1])
+}
+
+fn entry(rng: &mut Rng, course: Course) -> Entry {
+    let mut entry = match course {
+        Course::Short => entries::tiny(rng, 4)[0],
+        Course::Growing => entries::light(rng, 1)[0],
+    };
+    match rng.below(16) {
+        0 => break_kind(rng, &mut entry),
+        1 => break_ticks(rng, &mut entry),
+        2 => {
+            break_kind(rng, &mut entry);
+            break_ticks(rng, &mut entry);
+        }
+        _ => {}
+    }
+    entry
+}
+
+fn weighted(rng: &mut Rng, weights: &[u64]) -> usize {
+    let mut left = rng.below(weights.iter().sum());
+    for (choice, &weight) in weights.iter().enumerate() {
+        if left < weight {
+            return choice;
+        }
+        left -= weight;
+    }
+    unreachable!("the draw is below the sum");
+}

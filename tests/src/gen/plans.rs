@@ -1,0 +1,134 @@
+//! Whole plans.
+
+use super::entries;
+use crate::model::{Entry, Node, Plan, MAX_ENTRIES, MAX_NODES};
+use crate::rng::Rng;
+
+/// A few nodes of a few entries with small numbers, some empty.
+pub fn small(rng: &mut Rng) -> Plan {
+    let nodes = rng.count(1, 4);
+    plan(rng, nodes, |rng| {
+        let count = rng.count(0, 6);
+        match rng.below(3) {
+            0 => entries::tiny(rng, count),
+            1 => entries::scattered(rng, count),
+            _ => entries::at_limits(rng, count),
+        }
+    })
+}
+
+/// A small plan with at least one entry.
+pub fn filled(rng: &mut Rng) -> Plan {
+    loop {
+        let plan = small(rng);
+        if !plan.entries().is_empty() {
+            return plan;
+        }
+    }
+}
+
+/// Nodes whose wide groups pass after narrow ones failed.
+pub fn wide(rng: &mut Rng) -> Plan {
+    let nodes = rng.count(1, 3);
+    plan(rng, nodes, |rng| {
+        let count = rng.count(3, 8);
+        entries::wide(rng, count)
+    })
+}
+
+/// Nodes whose deadlines lie at completion times.
+pub fn tight(rng: &mut Rng) -> Plan {
+    let nodes = rng.count(1, 3);
+    plan(rng, nodes, |rng| {
+        let count = rng.count(1, 10);
+        let loose = match rng.below(2) {
+            0 => entries::tiny(rng, count),
+            _ => entries::realistic(rng, count),
+        };
+        entries::tighten(rng, loose)
+    })
+}
+
+/// A station: 1 to 32 nodes of 3 to 20 entries.
+pub fn station(rng: &mut Rng) -> Plan {
+    let nodes = rng.count(1, MAX_NODES);
+    plan(rng, nodes, |rng| {
+        let count = rng.count(3, 20);
+        entries::realistic(rng, count)
+    })
+}
+
+/// One node of 64 entries.
+pub fn full_node(rng: &mut Rng) -> Plan {
+    plan(rng, 1, |rng| {
+        let entries = match rng.below(3) {
+            0 => entries::light(rng, MAX_ENTRIES),
+            1 => entries::tiny(rng, MAX_ENTRIES),
+            _ => entries::many(rng, MAX_ENTRIES),
+        };
+        if rng.chance(1, 2) {
+            entries::tighten(rng, entries)
+        } else {
+            entries
+        }
+    })
+}
+
+/// 32 nodes, each with few entries, or none.
+pub fn many_nodes(rng: &mut Rng) -> Plan {
+    plan(rng, MAX_NODES, |rng| {
+        let count = rng.count(0, 5);
+        entries::scattered(rng, count)
+    })
+}
+
+/// The longest plan: 32 nodes of 64 entries.
+pub fn longest(rng: &mut Rng) -> Plan {
+    plan(rng, MAX_NODES, |rng| entries::light(rng, MAX_ENTRIES))
+}
+
+/// Nodes with numbers at both ends of the limits.
+pub fn at_limits(rng: &mut Rng) -> Plan {
+    let nodes = rng.count(1, 5);
+    plan(rng, nodes, |rng| {
+        let count = rng.count(1, 6);
+        entries::at_limits(rng, count)
+    })
+}
+
+fn plan(rng: &mut Rng, nodes: usize, mut draw: impl FnMut(&mut Rng) -> Vec<Entry>) -> Plan {
+    let numbers = rising(rng, nodes);
+    let nodes = numbers
+        .into_iter()
+        .map(|number| {
+            let entries = draw(rng);
+            Node {
+                number,
+                levels: levels_for(rng, entries.len()),
+                entries,
+            }
+        })
+        .collect();
+    Plan { nodes }
+}
+
+/// Level counts about what the entries need, and both ends.
+fn levels_for(rng: &mut Rng, count: usize) -> u8 {
+    let near = rng.count(1, count.clamp(1, 63) + 1) as u8;
+    rng.pick(&[1, 2, 3, near, near, near, 64])
+}
+
+/// Node numbers that rise strictly; 0 and 65,535 are met.
+fn rising(rng: &mut Rng, count: usize) -> Vec<u16> {
+    let mut number = rng.pick(&[0, 0, 7, 900]);
+    let step = rng.pick(&[1, 300, 2_000]);
+    let mut numbers = Vec::new();
+    for _ in 0..count {
+        numbers.push(number);
+        number += rng.range(1, step) as u16;
+    }
+    if rng.chance(1, 4) {
+        *numbers.last_mut().expect("a plan has a node") = u16::MAX;
+    }
+    numbers
+}

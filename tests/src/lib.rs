@@ -1,0 +1,28 @@
+//! A second implementation of the planner, to hold the proved one against.
+//!
+//! It is written from the scope paper alone and takes the plainest way to
+//! each answer: time is no object here, agreement with the paper is.
+//! Every capability is a function over numbers and byte slices.
+//!
+//! - [`mod@file`], [`map`], [`listing`] and [`session`] answer as the paper says;
+//!   [`timing`] and [`assignments`] are what their answers are made of.
+//! - [`cases`] has the paper's own nodes, [`gen`] generated ones, with
+//!   [`options`] for the seed and the size of a run.
+
+#![deny(unsafe_code)]
+#![warn(missing_docs)]
+
+pub mod assignments;
+pub mod cases;
+pub mod file;
+pub mod gen;
+pub mod limits;
+pub mod listing;
+pub mod map;
+pub mod model;
+pub mod options;
+pub mod refusal;
+pub mod rng;
+pub mod session;
+pub mod tally;
+pub mod timing;

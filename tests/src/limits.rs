@@ -1,0 +1,122 @@
+//! The checks of one entry, one row and one level count.
+//!
+//! File, writer and session share them; each keeps its own order.
+
+use crate::model::{Entry, Row, MAX_ENTRIES, MAX_LEVELS, MAX_R, MAX_TICKS, SECTION, TASK};
+use crate::refusal::{Refusal, KIND, ROW, TICKS};
+
+/// Checks 7 and 8 on the entry at `position` of row `row`.
+pub fn check_entry(entry: &Entry, row: usize, position: usize) -> Result<(), Refusal> {
+    if !kind_fits(entry) {
+        return Err(Refusal::at_entry(KIND, row, position));
+    }
+    if !ticks_fit(entry) {
+        return Err(Refusal::at_entry(TICKS, row, position));
+    }
+    Ok(())
+}
+
+/// Check 4 on the row at `index`; `last` is the number of the row before it.
+pub fn check_row(row: &Row, last: Option<u16>, index: usize) -> Result<(), Refusal> {
+    let rises = last.is_none_or(|number| row.number > number);
+    let few = usize::from(row.entries) <= MAX_ENTRIES;
+    if rises && few && levels_fit(usize::from(row.levels)) {
+        Ok(())
+    } else {
+        Err(Refusal::at_row(ROW, index))
+    }
+}
+
+/// Check 4 on a session's level count.
+pub fn check_levels(levels: usize) -> Result<(), Refusal> {
+    if levels_fit(levels) {
+        Ok(())
+    } else {
+        Err(Refusal::at_row(ROW, 0))
+    }
+}
+
+fn levels_fit(levels: usize) -> bool {
+    (1..=MAX_LEVELS).contains(&levels)
+}
+
+fn kind_fits(entry: &Entry) -> bool {
+    match entry.kind {
+        TASK => entry.r <= MAX_R,
+        SECTION => entry.r == 0,
+        _ => false,
+    }
+}
+
+fn ticks_fit(entry: &Entry) -> bool {
+    let Entry { c, t, d, b, .. } = *entry;
+    1 <= c && c <= d && d <= t && t <= MAX_TICKS && b <= MAX_TICKS
+}
+
+#[cfg(test)]
+mod tests {
+    use super::*;
+
+    const TOP: u64 = MAX_TICKS;
+
+    fn ticks(c: u64, t: u64, d: u64, b: u64) -> bool {
+        check_entry(&Entry::task(1, c, t, d).blocked(b), 2, 3).is_ok()
+    }
+
+    #[test]
+    fn ticks_at_the_limits() {
+        assert!(ticks(1, 1, 1, 0));
+        assert!(ticks(TOP, TOP, TOP, TOP));
+        assert!(!ticks(0, 1, 1, 0));
+        assert!(!ticks(2, 2, 1, 0));
+        assert!(!ticks(1, 1, 2, 0));
+        assert!(!ticks(1, TOP + 1, 1, 0));
+        assert!(!ticks(1, 1, 1, TOP + 1));
+        assert!(!ticks(1, u64::MAX, 1, 0));
+    }
+
+    #[test]
+    fn kinds_at_the_limits() {
+        let entry = |kind, r| Entry {
+            kind,
+            r,
+            ..Entry::task(1, 1, 1, 1)
+        };
+        let number = |kind, r| check_entry(&entry(kind, r), 0, 0).map_err(|e| e.number);
+        assert_eq!(number(TASK, MAX_R), Ok(()));
+        assert_eq!(number(SECTION, 0), Ok(()));
+        assert_eq!(number(TASK, MAX_R + 1), Err(KIND));
+        assert_eq!(number(SECTION, 1), Err(KIND));
+        assert_eq!(number(0, 0), Err(KIND));
+        assert_eq!(number(3, 0), Err(KIND));
+    }
+
+    #[test]
+    fn kind_comes_before_ticks() {
+        let both = Entry {
+            kind: 3,
+            ..Entry::task(1, 6, 5, 5)
+        };
+        assert_eq!(check_entry(&both, 2, 3), Err(Refusal::at_entry(KIND, 2, 3)));
+    }
+
+    #[test]
+    fn rows_at_the_limits() {
+        let row = |number, levels, entries| Row {
+            number,
+            levels,
+            entries,
+        };
+        assert!(check_row(&row(0, 1, 0), None, 0).is_ok());
+        assert!(check_row(&row(9, 64, 64), Some(8), 1).is_ok());
+        for (bad, last) in [
+            (row(8, 1, 0), Some(8)),
+            (row(7, 1, 0), Some(8)),
+            (row(9, 0, 0), None),
+            (row(9, 65, 0), None),
+            (row(9, 1, 65), None),
+        ] {
+            assert_eq!(check_row(&bad, last, 5), Err(Refusal::at_row(ROW, 5)));
+        }
+    }
+}

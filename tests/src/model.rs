@@ -1,0 +1,130 @@
+//! What a plan is: entries, nodes, and the rows of its contents.
+
+/// Most nodes of a plan.
+pub const MAX_NODES: usize = 32;
+/// Most entries of a node.
+pub const MAX_ENTRIES: usize = 64;
+/// Most levels of a node.
+pub const MAX_LEVELS: usize = 64;
+/// Most remote sections an entry calls in a period.
+pub const MAX_R: u8 = 15;
+/// Largest period, and largest blocking.
+pub const MAX_TICKS: u64 = 1_000_000_000;
+/// Kind byte of a task.
+pub const TASK: u8 = 1;
+/// Kind byte of a global critical section.
+pub const SECTION: u8 = 2;
+
+/// A task or a global critical section.
+///
+/// The ticks are kept wide, so that values far outside the limits can be
+/// turned back like near ones.
+#[derive(Clone, Copy, Debug, Default, PartialEq, Eq, Hash)]
+pub struct Entry {
+    /// Entry number.
+    pub number: u16,
+    /// 1 for a task, 2 for a global critical section.
+    pub kind: u8,
+    /// Remote sections called in a period.
+    pub r: u8,
+    /// Longest run.
+    pub c: u64,
+    /// Period.
+    pub t: u64,
+    /// Deadline.
+    pub d: u64,
+    /// Blocking.
+    pub b: u64,
+}
+
+impl Entry {
+    /// A task with the given C, T and D; r and B are 0.
+    pub const fn task(number: u16, c: u64, t: u64, d: u64) -> Entry {
+        Entry {
+            number,
+            kind: TASK,
+            r: 0,
+            c,
+            t,
+            d,
+            b: 0,
+        }
+    }
+
+    /// The same entry with blocking `b`.
+    pub const fn blocked(self, b: u64) -> Entry {
+        Entry { b, ..self }
+    }
+
+    /// The same entry with `r` remote sections.
+    pub const fn calling(self, r: u8) -> Entry {
+        Entry { r, ..self }
+    }
+}
+
+/// A node's line in the contents, without the offset of its body.
+#[derive(Clone, Copy, Debug, Default, PartialEq, Eq, Hash)]
+pub struct Row {
+    /// Node number.
+    pub number: u16,
+    /// Level count.
+    pub levels: u8,
+    /// Entry count.
+    pub entries: u8,
+}
+
+/// One controller with its entries, most urgent first.
+#[derive(Clone, Debug, PartialEq, Eq)]
+pub struct Node {
+    /// Node number.
+    pub number: u16,
+    /// Level count.
+    pub levels: u8,
+    /// Entries, most urgent first.
+    pub entries: Vec<Entry>,
+}
+
+impl Node {
+    /// The node's row in the contents.
+    pub fn row(&self) -> Row {
+        let entries = u8::try_from(self.entries.len()).expect("a row counts at most 255 entries");
+        Row {
+            number: self.number,
+            levels: self.levels,
+            entries,
+        }
+    }
+}
+
+/// Nodes in the order of the contents.
+#[derive(Clone, Debug, Default, PartialEq, Eq)]
+pub struct Plan {
+    /// The nodes.
+    pub nodes: Vec<Node>,
+}
+
+impl Plan {
+    /// The rows of the contents.
+    pub fn rows(&self) -> Vec<Row> {
+        self.nodes.iter().map(Node::row).collect()
+    }
+
+    /// All entries in one list, node after node.
+    pub fn entries(&self) -> Vec<Entry> {
+        self.nodes.iter().flat_map(|n| n.entries.clone()).collect()
+    }
+
+    /// The plan of these rows; `entries` must be as many as they count.
+    pub fn from_parts(rows: &[Row], entries: &[Entry]) -> Plan {
+        let mut rest = entries.iter().copied();
+        let nodes = rows
+            .iter()
+            .map(|row| Node {
+                number: row.number,
+                levels: row.levels,
+                entries: rest.by_ref().take(usize::from(row.entries)).collect(),
+            })
+            .collect();
+        Plan { nodes }
+    }
+}

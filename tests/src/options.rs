@@ -1,0 +1,26 @@
+//! How large a run is, and from which seed.
+//!
+//! Unset, a run is the fixed one. `MAIPLUR_SEED` gives another seed and
+//! `MAIPLUR_SCALE` multiplies the number of generated plans.
+
+use crate::rng::Rng;
+
+/// A generator for one part of the run; parts don't share their numbers.
+pub fn rng(part: u64) -> Rng {
+    let mut seeds = Rng::new(setting("MAIPLUR_SEED", 1));
+    Rng::new(seeds.word() ^ part)
+}
+
+/// How often to do what the fixed run does `fixed` times.
+pub fn times(fixed: u64) -> u64 {
+    fixed * setting("MAIPLUR_SCALE", 1)
+}
+
+fn setting(name: &str, unset: u64) -> u64 {
+    match std::env::var(name) {
+        Ok(text) => text
+            .parse()
+            .unwrap_or_else(|_| panic!("{name} is a number")),
+        Err(_) => unset,
+    }
+}

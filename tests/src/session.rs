@@ -1,0 +1,135 @@
+//! The session: one node, changed step by step.
+
+use crate::limits::{check_entry, check_levels};
+use crate::map::map_into;
+use crate::model::{Entry, MAX_ENTRIES};
+use crate::refusal::{Refusal, FULL, POSITION};
+use crate::timing::{completion_in_group, Timing};
+
+/// The open session.
+#[derive(Clone, Debug, PartialEq, Eq)]
+pub struct Session {
+    levels: u8,
+    entries: Vec<Entry>,
+}
+
+/// One operation on an open session.
+#[derive(Clone, Copy, Debug, PartialEq, Eq)]
+pub enum Op {
+    /// Insert the entry before the position.
+    Insert(usize, Entry),
+    /// Remove the entry at the position.
+    Remove(usize),
+    /// Replace the entry at the position.
+    Replace(usize, Entry),
+    /// Set the level count.
+    SetLevels(usize),
+    /// Map into the lent buffer.
+    Map,
+    /// Time an entry in a group: first, last and entry position.
+    Time(usize, usize, usize),
+}
+
+/// The answer of an operation that wasn't refused.
+#[derive(Clone, Copy, Debug, PartialEq, Eq)]
+pub enum Reply {
+    /// The contents were changed.
+    Changed,
+    /// The node was mapped, with this many levels used.
+    Mapped(u8),
+    /// The entry was timed.
+    Timed(Timing),
+}
+
+impl Session {
+    /// An empty session. Checks 4.
+    pub fn open(levels: usize) -> Result<Session, Refusal> {
+        check_levels(levels)?;
+        Ok(Session {
+            levels: levels as u8,
+            entries: Vec::new(),
+        })
+    }
+
+    /// The level count.
+    pub fn levels(&self) -> u8 {
+        self.levels
+    }
+
+    /// The entries, most urgent first.
+    pub fn entries(&self) -> &[Entry] {
+        &self.entries
+    }
+
+    /// Inserts before `position`, or appends. Checks 12, 13, 7, 8.
+    pub fn insert(&mut self, position: usize, entry: Entry) -> Result<(), Refusal> {
+        if position > self.entries.len() {
+            return Err(Refusal::plain(POSITION));
+        }
+        if self.entries.len() == MAX_ENTRIES {
+            return Err(Refusal::plain(FULL));
+        }
+        check_entry(&entry, 0, position)?;
+        self.entries.insert(position, entry);
+        Ok(())
+    }
+
+    /// Removes the entry at `position`. Checks 12.
+    pub fn remove(&mut self, position: usize) -> Result<(), Refusal> {
+        self.check_position(position)?;
+        self.entries.remove(position);
+        Ok(())
+    }
+
+    /// Replaces the entry at `position`. Checks 12, 7, 8.
+    pub fn replace(&mut self, position: usize, entry: Entry) -> Result<(), Refusal> {
+        self.check_position(position)?;
+        check_entry(&entry, 0, position)?;
+        self.entries[position] = entry;
+        Ok(())
+    }
+
+    /// Sets the level count. Checks 4.
+    pub fn set_levels(&mut self, levels: usize) -> Result<(), Refusal> {
+        check_levels(levels)?;
+        self.levels = levels as u8;
+        Ok(())
+    }
+
+    /// Maps into a lent buffer and gives the levels used. Checks 10, 11.
+    pub fn map(&self, buffer: &mut [u8]) -> Result<u8, Refusal> {
+        map_into(&self.entries, self.levels, buffer)
+    }
+
+    /// Times `entry` in the group `first..=last`. Checks 12.
+    pub fn time(&self, first: usize, last: usize, entry: usize) -> Result<Timing, Refusal> {
+        if first <= entry && entry <= last && last < self.entries.len() {
+            Ok(completion_in_group(&self.entries, first, last, entry))
+        } else {
+            Err(Refusal::plain(POSITION))
+        }
+    }
+
+    /// Any operation; only `Op::Map` looks at the buffer.
+    pub fn apply(&mut self, op: &Op, buffer: &mut [u8]) -> Result<Reply, Refusal> {
+        match *op {
+            Op::Insert(position, entry) => self.insert(position, entry)?,
+            Op::Remove(position) => self.remove(position)?,
+            Op::Replace(position, entry) => self.replace(position, entry)?,
+            Op::SetLevels(levels) => self.set_levels(levels)?,
+            Op::Map => return self.map(buffer).map(Reply::Mapped),
+            Op::Time(first, last, entry) => {
+                return self.time(first, last, entry).map(Reply::Timed);
+            }
+        }
+        Ok(Reply::Changed)
+    }
+
+    fn check_position(&self, position: usize) -> Result<(), Refusal> {
+        if position < self.entries.len() {
+            Ok(())
+        } else {
+            Err(Refusal::plain(POSITION))
+        }
+    }
+}

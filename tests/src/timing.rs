@@ -1,0 +1,102 @@
+//! The completion time test, by levels.
+//!
+//! `levels` gives a level to every entry of the node; a smaller level is more
+//! urgent. With ticks inside the limits and t at most D, each term of the
+//! demand is at most t + C, so 64 bits hold every sum.
+
+use crate::model::Entry;
+use std::cmp::Ordering;
+
+/// The answer for one entry.
+#[derive(Clone, Copy, Debug, PartialEq, Eq)]
+pub enum Timing {
+    /// The entry ends by its deadline.
+    OnTime {
+        /// Completion time.
+        time: u64,
+        /// Evaluations of the demand.
+        rounds: u64,
+    },
+    /// The entry doesn't.
+    Late {
+        /// Evaluations of the demand.
+        rounds: u64,
+    },
+}
+
+impl Timing {
+    /// Whether the entry ends by its deadline.
+    pub fn is_on_time(&self) -> bool {
+        matches!(self, Timing::OnTime { .. })
+    }
+
+    /// How often the demand was evaluated.
+    pub fn rounds(&self) -> u64 {
+        match *self {
+            Timing::OnTime { rounds, .. } | Timing::Late { rounds } => rounds,
+        }
+    }
+}
+
+/// The demand of entry `i` at time `t`, which is at least 1.
+pub fn demand(entries: &[Entry], levels: &[u8], i: usize, t: u64) -> u64 {
+    let own = &entries[i];
+    let most_runs = u64::from(own.r) + 1;
+    let mut sum = own.c + own.b;
+    for (j, other) in entries.iter().enumerate() {
+        match levels[j].cmp(&levels[i]) {
+            Ordering::Less => sum += other.c * t.div_ceil(other.t),
+            Ordering::Equal if j != i => sum += other.c * t.div_ceil(other.t).min(most_runs),
+            _ => {}
+        }
+    }
+    sum
+}
+
+/// The time at which the test of entry `i` starts.
+pub fn start(entries: &[Entry], levels: &[u8], i: usize) -> u64 {
+    let runs: u64 = (0..entries.len())
+        .filter(|&j| levels[j] <= levels[i])
+        .map(|j| entries[j].c)
+        .sum();
+    entries[i].b + runs
+}
+
+/// The completion time test of entry `i`.
+pub fn completion(entries: &[Entry], levels: &[u8], i: usize) -> Timing {
+    let mut rounds = 0;
+    let mut t = start(entries, levels, i);
+    while t <= entries[i].d {
+        let needed = demand(entries, levels, i, t);
+        rounds += 1;
+        match needed.cmp(&t) {
+            Ordering::Equal => return Timing::OnTime { time: t, rounds },
+            Ordering::Greater => t = needed,
+            Ordering::Less => unreachable!("the demand starts above t and never falls"),
+        }
+    }
+    Timing::Late { rounds }
+}
+
+/// The paper's bound on the rounds of entry `i`.
+pub fn rounds_bound(entries: &[Entry], levels: &[u8], i: usize) -> u64 {
+    let further: u64 = (0..entries.len())
+        .filter(|&j| j != i && levels[j] <= levels[i])
+        .map(|j| entries[i].d.div_ceil(entries[j].t) - 1)
+        .sum();
+    1 + further
+}
+
+/// Levels that set the group `first..=last` apart from what comes before it
+/// and what comes after it.
+pub fn group_levels(count: usize, first: usize, last: usize) -> Vec<u8> {
+    (0..count)
+        .map(|j| 1 + u8::from(j >= first) + u8::from(j > last))
+        .collect()
+}
+
+/// The test of entry `i` in the group `first..=last`; entries before the
+/// group are more urgent.
+pub fn completion_in_group(entries: &[Entry], first: usize, last: usize, i: usize) -> Timing {
+    completion(entries, &group_levels(entries.len(), first, last), i)
+}

@@ -1,0 +1,185 @@
+//! The order of the checks of a call, and what a refused call leaves.
+
+use oracle::cases;
+use oracle::file::encode;
+use oracle::gen::buffers::known;
+use oracle::gen::damage::{damage, AIMS};
+use oracle::gen::plans;
+use oracle::map::{map_entries, map_node};
+use oracle::model::{Entry, Plan};
+use oracle::options::{rng, times};
+use oracle::refusal::{Refusal, BUFFER, FULL, KIND, NO_MAP, NO_NODE, POSITION, TICKS};
+use oracle::session::Session;
+
+#[test]
+fn mapping_a_file_checks_file_then_9_10_11() {
+    let mut rng = rng(80);
+    // Case F has no map, so each fault that is left out shows the next one.
+    let plan = Plan {
+        nodes: vec![cases::f()],
+    };
+    let good = encode(&plan).unwrap();
+    for aim in AIMS {
+        let bad = damage(&mut rng, &plan, &[aim]);
+        for number in [7, 8, 65_536 + 7] {
+            for room in [0, 2, 3, 9] {
+                let mut buffer = known(room);
+                let answer = map_node(&bad.file, number, &mut buffer);
+                assert_eq!(answer, Err(bad.due));
+                let due = match (number, room) {
+                    (7, 0..3) => BUFFER,
+                    (7, _) => NO_MAP,
+                    _ => NO_NODE,
+                };
+                let answer = map_node(&good, number, &mut buffer);
+                assert_eq!(answer, Err(Refusal::plain(due)));
+                assert_eq!(buffer, known(room));
+            }
+        }
+    }
+}
+
+#[test]
+fn mapping_fills_from_the_start_and_keeps_the_rest() {
+    let mut rng = rng(81);
+    let mut mapped = 0;
+    for _ in 0..times(500) {
+        let plan = plans::small(&mut rng);
+        let file = encode(&plan).unwrap();
+        for node in &plan.nodes {
+            let count = node.entries.len();
+            let map = map_entries(&node.entries, node.levels);
+            for room in [count, count + 5] {
+                let mut buffer = known(room);
+                let answer = map_node(&file, u64::from(node.number), &mut buffer);
+                let Some(map) = &map else {
+                    assert_eq!(answer, Err(Refusal::plain(NO_MAP)));
+                    assert_eq!(buffer, known(room));
+                    continue;
+                };
+                assert_eq!(answer, Ok(map.used));
+                assert_eq!(buffer[..count], map.levels);
+                assert_eq!(buffer[count..], known(room)[count..]);
+                mapped += 1;
+            }
+        }
+    }
+    assert!(mapped > times(300), "{mapped}");
+}
+
+#[test]
+fn empty_node_needs_no_buffer() {
+    assert_eq!(map_node(&cases::file(cases::e()), 7, &mut []), Ok(0));
+    assert_eq!(Session::open(1).unwrap().map(&mut []), Ok(0));
+}
+
+const GOOD: Entry = Entry::task(1, 1, 900, 900);
+const BAD_TICKS: Entry = Entry::task(1, 6, 9, 5);
+const BAD_KIND: Entry = Entry { kind: 3, ..GOOD };
+const BAD_BOTH: Entry = Entry {
+    kind: 3,
+    ..BAD_TICKS
+};
+
+/// A session with so many good entries.
+fn session_of(count: usize) -> Session {
+    let mut session = Session::open(2).unwrap();
+    for position in 0..count {
+        session.insert(position, GOOD).unwrap();
+    }
+    session
+}
+
+/// The refusal due for an entry at this position of a session.
+fn of_entry(entry: Entry, position: usize) -> Option<Refusal> {
+    match (entry == GOOD, entry.kind) {
+        (true, _) => None,
+        (false, 3) => Some(Refusal::at_entry(KIND, 0, position)),
+        (false, _) => Some(Refusal::at_entry(TICKS, 0, position)),
+    }
+}
+
+#[test]
+fn insert_checks_12_13_7_8() {
+    for count in [0, 1, 63, 64] {
+        for position in [0, count / 2, count, count + 1, 64, 65, usize::MAX] {
+            for entry in [GOOD, BAD_TICKS, BAD_KIND, BAD_BOTH] {
+                let mut session = session_of(count);
+                let due = if position > count {
+                    Some(Refusal::plain(POSITION))
+                } else if count == 64 {
+                    Some(Refusal::plain(FULL))
+                } else {
+                    of_entry(entry, position)
+                };
+                assert_eq!(session.insert(position, entry).err(), due);
+                let unchanged = session == session_of(count);
+                assert_eq!(unchanged, due.is_some());
+            }
+        }
+    }
+}
+
+#[test]
+fn replace_checks_12_7_8() {
+    for count in [0, 1, 64] {
+        for position in [0, count / 2, count, count + 1, 64, usize::MAX] {
+            for entry in [GOOD, BAD_TICKS, BAD_KIND, BAD_BOTH] {
+                let mut session = session_of(count);
+                let due = if position >= count {
+                    Some(Refusal::plain(POSITION))
+                } else {
+                    of_entry(entry, position)
+                };
+                assert_eq!(session.replace(position, entry).err(), due);
+                assert_eq!(session, session_of(count));
+            }
+        }
+    }
+}
+
+#[test]
+fn timing_checks_12() {
+    let session = session_of(4);
+    for first in 0..6 {
+        for last in 0..6 {
+            for entry in 0..6 {
+                let inside = first <= entry && entry <= last && last < 4;
+                let answer = session.time(first, last, entry);
+                assert_eq!(answer.is_ok(), inside);
+                assert!(inside || answer == Err(Refusal::plain(POSITION)));
+            }
+        }
+    }
+    let far = session.time(0, usize::MAX, 0);
+    assert_eq!(far, Err(Refusal::plain(POSITION)));
+}
+
+#[test]
+fn levels_are_checked_by_4() {
+    for levels in [0, 65, 255, 256, 257, usize::MAX] {
+        let mut session = session_of(2);
+        let due = Err(Refusal::at_row(4, 0));
+        assert_eq!(Session::open(levels).map(|_| ()), due);
+        assert_eq!(session.set_levels(levels), due);
+        assert_eq!(session, session_of(2));
+    }
+    for levels in 1..=64 {
+        let mut session = session_of(2);
+        assert_eq!(session.set_levels(levels), Ok(()));
+        assert_eq!(usize::from(session.levels()), levels);
+    }
+}
+
+#[test]
+fn session_map_checks_10_then_11() {
+    let mut session = Session::open(1).unwrap();
+    for (position, entry) in cases::f().entries.into_iter().enumerate() {
+        session.insert(position, entry).unwrap();
+    }
+    for (room, due) in [(0, BUFFER), (2, BUFFER), (3, NO_MAP), (4, NO_MAP)] {
+        let mut buffer = known(room);
+        assert_eq!(session.map(&mut buffer), Err(Refusal::plain(due)));
+        assert_eq!(buffer, known(room));
+    }
+}

@@ -1,0 +1,157 @@
+//! The generated plans are what they are meant to be.
+
+use oracle::file::encode;
+use oracle::gen::budget::{fits, rounds_ceiling, ROUNDS};
+use oracle::gen::entries::{self, wide_passes_after_narrow};
+use oracle::gen::plans;
+use oracle::map::map_entries;
+use oracle::model::{Entry, Node, Plan, MAX_TICKS};
+use oracle::options::{rng, times};
+use oracle::rng::Rng;
+use oracle::timing::completion;
+
+type Draw = fn(&mut Rng) -> Plan;
+
+const ALL: [(&str, Draw); 8] = [
+    ("small", plans::small),
+    ("wide", plans::wide),
+    ("tight", plans::tight),
+    ("station", plans::station),
+    ("full node", plans::full_node),
+    ("many nodes", plans::many_nodes),
+    ("longest", plans::longest),
+    ("at limits", plans::at_limits),
+];
+
+fn drawn(part: u64, count: u64, draw: Draw) -> Vec<Plan> {
+    let mut rng = rng(part);
+    (0..count).map(|_| draw(&mut rng)).collect()
+}
+
+fn nodes(plans: &[Plan]) -> impl Iterator<Item = &Node> {
+    plans.iter().flat_map(|plan| &plan.nodes)
+}
+
+#[test]
+fn plans_are_good_and_short_to_test() {
+    for (part, (name, draw)) in (100..).zip(ALL) {
+        for plan in drawn(part, times(100), draw) {
+            assert!(encode(&plan).is_ok(), "{name}");
+            for node in &plan.nodes {
+                let ceiling = rounds_ceiling(&node.entries);
+                assert!(ceiling <= ROUNDS, "{name}: {ceiling} rounds");
+            }
+        }
+    }
+}
+
+#[test]
+fn the_ceiling_is_one() {
+    let mut rng = rng(110);
+    for _ in 0..times(500) {
+        let count = rng.count(1, 12);
+        let entries = match rng.below(3) {
+            0 => entries::realistic(&mut rng, count),
+            1 => entries::at_limits(&mut rng, count.min(6)),
+            _ => entries::scattered(&mut rng, count),
+        };
+        let mut levels: Vec<u8> = entries.iter().map(|_| rng.byte(1, 4)).collect();
+        levels.sort();
+        for i in 0..entries.len() {
+            let rounds = completion(&entries, &levels, i).rounds();
+            assert!(rounds <= rounds_ceiling(&entries));
+        }
+    }
+    // Short periods under a long deadline are what the budget is for.
+    let long = [
+        Entry::task(1, 1, 2, 2),
+        Entry::task(2, 1, MAX_TICKS, MAX_TICKS),
+    ];
+    assert!(!fits(&long));
+}
+
+#[test]
+fn same_seed_same_plans() {
+    for (_, draw) in ALL {
+        let mut first = Rng::new(5);
+        let mut again = Rng::new(5);
+        let mut other = Rng::new(6);
+        let plan = draw(&mut first);
+        assert_eq!(plan, draw(&mut again));
+        assert_ne!(plan, draw(&mut other));
+    }
+}
+
+#[test]
+fn wide_groups_pass_after_narrow_ones_failed() {
+    let plans = drawn(120, times(500), plans::wide);
+    let mut mapped = 0;
+    for node in nodes(&plans) {
+        assert!(wide_passes_after_narrow(&node.entries));
+        mapped += u64::from(map_entries(&node.entries, node.levels).is_some());
+    }
+    assert!(mapped > times(300), "{mapped}");
+}
+
+#[test]
+fn stations_are_as_described() {
+    let plans = drawn(121, times(100), plans::station);
+    assert!(plans
+        .iter()
+        .all(|plan| (1..=32).contains(&plan.nodes.len())));
+    assert!(plans.iter().any(|plan| plan.nodes.len() <= 2));
+    assert!(plans.iter().any(|plan| plan.nodes.len() >= 31));
+    for node in nodes(&plans) {
+        assert!((3..=20).contains(&node.entries.len()));
+        // In millionths; runs are whole, which moves the load a little.
+        let load: u64 = node.entries.iter().map(|e| e.c * 1_000_000 / e.t).sum();
+        assert!((250_000..=960_000).contains(&load), "{load}");
+    }
+}
+
+#[test]
+fn full_nodes_use_few_and_many_levels() {
+    let plans = drawn(122, times(150), plans::full_node);
+    let used: Vec<u8> = nodes(&plans)
+        .filter_map(|node| map_entries(&node.entries, node.levels))
+        .map(|map| map.used)
+        .collect();
+    assert!(nodes(&plans).all(|node| node.entries.len() == 64));
+    assert!(used.iter().any(|&levels| levels <= 2), "{used:?}");
+    assert!(used.iter().any(|&levels| levels >= 20), "{used:?}");
+}
+
+#[test]
+fn both_ends_of_the_limits_are_met() {
+    let plans = drawn(123, times(300), plans::at_limits);
+    let all: Vec<Entry> = plans.iter().flat_map(Plan::entries).collect();
+    let met = |what: fn(&Entry) -> bool| all.iter().filter(|e| what(e)).count() as u64;
+    for (name, count) in [
+        ("C = D = T", met(|e| e.c == e.d && e.d == e.t)),
+        ("all 1", met(|e| e.c == 1 && e.d == 1 && e.t == 1)),
+        ("all 10^9", met(|e| e.c == MAX_TICKS && e.t == MAX_TICKS)),
+        ("C 1 in T 10^9", met(|e| e.c == 1 && e.t == MAX_TICKS)),
+        ("B 10^9", met(|e| e.b == MAX_TICKS)),
+        ("r 15", met(|e| e.r == 15)),
+        ("kind 2", met(|e| e.kind == 2)),
+    ] {
+        assert!(count > times(10), "{name}: {count}");
+    }
+}
+
+#[test]
+fn counts_and_numbers_reach_their_ends() {
+    let mut plans = drawn(124, times(200), plans::many_nodes);
+    plans.extend(drawn(125, times(200), plans::small));
+    assert!(plans.iter().any(|plan| plan.nodes.len() == 32));
+    assert!(plans.iter().any(|plan| plan.nodes.len() == 1));
+    for what in [
+        |node: &Node| node.number == 0,
+        |node: &Node| node.number == u16::MAX,
+        |node: &Node| node.levels == 1,
+        |node: &Node| node.levels == 64,
+        |node: &Node| node.entries.is_empty(),
+    ] {
+        assert!(nodes(&plans).any(what));
+    }
+}

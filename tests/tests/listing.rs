@@ -1,0 +1,154 @@
+//! The listing, byte for byte.
+
+use oracle::cases::{self, P_LISTING};
+use oracle::file::{encode, LONGEST};
+use oracle::gen::damage::{damage, AIMS};
+use oracle::gen::plans;
+use oracle::listing::{list, MAX_INPUT};
+use oracle::map::map_node;
+use oracle::model::{Entry, Node, Plan};
+use oracle::options::{rng, times};
+use oracle::timing::{completion_in_group, Timing};
+
+fn numbered(number: u16, node: Node) -> Node {
+    Node { number, ..node }
+}
+
+#[test]
+fn case_p() {
+    assert_eq!(list(&cases::file(cases::p())), P_LISTING);
+}
+
+#[test]
+fn file_of_case_p() {
+    let bytes: Vec<u8> = [
+        &[0x4C, 0x4D, 0x50, 0x31, 1, 0, 0, 0][..],
+        &[7, 0, 2, 3, 16, 0, 0, 0],
+        &[
+            1, 0, 1, 0, 20, 0, 0, 0, 100, 0, 0, 0, 100, 0, 0, 0, 0, 0, 0, 0,
+        ],
+        &[
+            2, 0, 1, 0, 30, 0, 0, 0, 145, 0, 0, 0, 145, 0, 0, 0, 0, 0, 0, 0,
+        ],
+        &[
+            3, 0, 1, 0, 68, 0, 0, 0, 150, 0, 0, 0, 150, 0, 0, 0, 0, 0, 0, 0,
+        ],
+    ]
+    .concat();
+    assert_eq!(cases::file(cases::p()), bytes);
+}
+
+#[test]
+fn node_without_a_map() {
+    assert_eq!(list(&cases::file(cases::f())), "plan 1\nnode 7 no map\n");
+}
+
+#[test]
+fn empty_node() {
+    let listing = list(&cases::file(cases::e()));
+    assert_eq!(listing, "plan 1\nnode 7 levels 0 of 3\n");
+}
+
+#[test]
+fn nodes_follow_in_contents_order() {
+    let nodes = vec![
+        numbered(0, cases::e()),
+        numbered(300, cases::f()),
+        numbered(65_535, cases::v()),
+    ];
+    let expected = "\
+plan 3
+node 0 levels 0 of 3
+node 300 no map
+node 65535 levels 1 of 2
+entry 1 level 1 time 5 rounds 1
+entry 2 level 1 time 16 rounds 2
+";
+    assert_eq!(list(&encode(&Plan { nodes }).unwrap()), expected);
+}
+
+#[test]
+fn refused_line() {
+    let good = [Entry::task(1, 1, 9, 9), Entry::task(2, 5, 9, 5)];
+    let mut file = cases::file(cases::node(1, &good));
+    file[16 + 20 + 4] = 6;
+    assert_eq!(list(&file), "refused 8 row 0 entry 1\n");
+    assert_eq!(list(&[]), "refused 1 row 0 entry 0\n");
+}
+
+/// Case P's file with `edit` made, and then filled up to `length`.
+fn padded(length: usize, edit: fn(&mut Vec<u8>)) -> String {
+    let mut file = cases::file(cases::p());
+    edit(&mut file);
+    file.resize(length, 0);
+    list(&file)
+}
+
+#[test]
+fn longest_input_and_one_byte_more() {
+    for length in [MAX_INPUT - 1, MAX_INPUT, MAX_INPUT + 1, 3 * MAX_INPUT] {
+        assert_eq!(padded(length, |_| ()), "refused 6 row 0 entry 0\n");
+        // A later fault doesn't show, an earlier one does.
+        let kind = padded(length, |file| file[18] = 3);
+        assert_eq!(kind, "refused 6 row 0 entry 0\n");
+        let offset = padded(length, |file| file[12] = 17);
+        assert_eq!(offset, "refused 5 row 0 entry 0\n");
+        let count = padded(length, |file| file[4] = 33);
+        assert_eq!(count, "refused 3 row 0 entry 0\n");
+    }
+    // No plan file comes near the program's limit.
+    assert_eq!(LONGEST, 41_224);
+}
+
+/// A node's lines, put together from the other calls.
+fn node_lines(file: &[u8], node: &Node) -> Vec<String> {
+    let (number, available) = (node.number, node.levels);
+    let mut levels = vec![0; node.entries.len()];
+    let Ok(used) = map_node(file, u64::from(number), &mut levels) else {
+        return vec![format!("node {number} no map")];
+    };
+    let mut lines = vec![format!("node {number} levels {used} of {available}")];
+    for (i, (entry, level)) in node.entries.iter().zip(&levels).enumerate() {
+        let first = levels.iter().position(|other| other == level).unwrap();
+        let last = levels.iter().rposition(|other| other == level).unwrap();
+        let timing = completion_in_group(&node.entries, first, last, i);
+        let Timing::OnTime { time, rounds } = timing else {
+            panic!("an entry of a map is late");
+        };
+        let number = entry.number;
+        lines.push(format!(
+            "entry {number} level {level} time {time} rounds {rounds}"
+        ));
+    }
+    lines
+}
+
+#[test]
+fn listings_say_what_the_other_calls_say() {
+    let mut rng = rng(140);
+    for round in 0..times(400) {
+        let plan = match round % 20 {
+            0 => plans::station(&mut rng),
+            1 => plans::full_node(&mut rng),
+            2..8 => plans::wide(&mut rng),
+            8..12 => plans::tight(&mut rng),
+            _ => plans::small(&mut rng),
+        };
+        let file = encode(&plan).unwrap();
+        let mut lines = vec![format!("plan {}", plan.nodes.len())];
+        lines.extend(plan.nodes.iter().flat_map(|node| node_lines(&file, node)));
+        assert_eq!(list(&file), lines.join("\n") + "\n");
+    }
+}
+
+#[test]
+fn refused_files_give_one_line() {
+    let mut rng = rng(141);
+    for aim in AIMS {
+        for _ in 0..times(20) {
+            let plan = plans::filled(&mut rng);
+            let damaged = damage(&mut rng, &plan, &[aim]);
+            assert_eq!(list(&damaged.file), format!("{}\n", damaged.due));
+        }
+    }
+}

@@ -1,0 +1,240 @@
+//! Wrong readings of the paper are told apart by the generated nodes.
+//!
+//! A generated set is worth its time only if a mapper with a likely mistake
+//! would be caught by it; here each mistake is made and caught many times.
+
+use oracle::assignments::{all_assignments, different_levels, is_map};
+use oracle::gen::entries::{tighten, tiny, wide};
+use oracle::map::{by_groupings, group_passes, map_entries, passes};
+use oracle::model::Entry;
+use oracle::options::{rng, times};
+use oracle::rng::Rng;
+
+type Demand = fn(&[Entry], &[u8], usize, u64) -> u64;
+
+/// Levels of a list whose groups begin at `starts`.
+fn levels_of(starts: &[usize], count: usize) -> Vec<u8> {
+    (0..count)
+        .map(|i| starts.iter().filter(|&&start| start <= i).count() as u8)
+        .collect()
+}
+
+/// The entries of a small node, and its level count.
+fn draw(rng: &mut Rng) -> (Vec<Entry>, u8) {
+    let count = rng.count(2, 7);
+    let entries = match rng.below(3) {
+        0 => tiny(rng, count),
+        1 => wide(rng, count),
+        _ => {
+            let loose = tiny(rng, count);
+            tighten(rng, loose)
+        }
+    };
+    (entries, rng.byte(1, 7))
+}
+
+/// How many generated nodes get another answer from the wrong mapper.
+fn told_apart(part: u64, wrong: impl Fn(&[Entry], u8) -> Option<Vec<u8>>) -> u64 {
+    let mut rng = rng(part);
+    let mut apart = 0;
+    for _ in 0..times(4_000) {
+        let (entries, levels) = draw(&mut rng);
+        let right = map_entries(&entries, levels).map(|map| map.levels);
+        apart += u64::from(wrong(&entries, levels) != right);
+    }
+    apart
+}
+
+/// Least t up to D whose demand, by the given reading, is at most t.
+fn least_time(demand: Demand, entries: &[Entry], levels: &[u8], i: usize) -> Option<u64> {
+    (1..=entries[i].d).find(|&t| demand(entries, levels, i, t) <= t)
+}
+
+/// The map by another reading of the demand, every grouping tried.
+fn map_by(demand: Demand, entries: &[Entry], levels: u8) -> Option<Vec<u8>> {
+    let count = entries.len();
+    let mut best: Option<(usize, Vec<u8>)> = None;
+    for cuts in 0..1u32 << (count - 1) {
+        let starts: Vec<usize> = (0..count)
+            .filter(|&i| i == 0 || cuts >> (i - 1) & 1 == 1)
+            .collect();
+        let map = levels_of(&starts, count);
+        let on_time = |i| least_time(demand, entries, &map, i).is_some();
+        if starts.len() > usize::from(levels) || !(0..count).all(on_time) {
+            continue;
+        }
+        // Levels read from the end, larger first: longer groups at the end.
+        let better = best.as_ref().is_none_or(|(used, kept)| {
+            let later = map.iter().rev().gt(kept.iter().rev());
+            starts.len() < *used || starts.len() == *used && later
+        });
+        if better {
+            best = Some((starts.len(), map));
+        }
+    }
+    best.map(|(_, map)| map)
+}
+
+/// C times `runs(other, on the same level)`, over own and more urgent levels.
+fn sum_of(entries: &[Entry], levels: &[u8], i: usize, runs: impl Fn(&Entry, bool) -> u64) -> u64 {
+    (0..entries.len())
+        .filter(|&j| j != i && levels[j] <= levels[i])
+        .map(|j| entries[j].c * runs(&entries[j], levels[j] == levels[i]))
+        .sum()
+}
+
+fn right(entries: &[Entry], levels: &[u8], i: usize, t: u64) -> u64 {
+    let own = &entries[i];
+    let most = u64::from(own.r) + 1;
+    let runs = |other: &Entry, same: bool| {
+        let all = t.div_ceil(other.t);
+        if same {
+            all.min(most)
+        } else {
+            all
+        }
+    };
+    own.c + own.b + sum_of(entries, levels, i, runs)
+}
+
+fn floor_on_own_level(entries: &[Entry], levels: &[u8], i: usize, t: u64) -> u64 {
+    let own = &entries[i];
+    let most = u64::from(own.r) + 1;
+    let runs = |other: &Entry, same: bool| {
+        if same {
+            (t / other.t).min(most)
+        } else {
+            t.div_ceil(other.t)
+        }
+    };
+    own.c + own.b + sum_of(entries, levels, i, runs)
+}
+
+fn one_run_on_own_level(entries: &[Entry], levels: &[u8], i: usize, t: u64) -> u64 {
+    let own = &entries[i];
+    let runs = |other: &Entry, same: bool| if same { 1 } else { t.div_ceil(other.t) };
+    own.c + own.b + sum_of(entries, levels, i, runs)
+}
+
+fn own_level_without_a_cap(entries: &[Entry], levels: &[u8], i: usize, t: u64) -> u64 {
+    let own = &entries[i];
+    own.c + own.b + sum_of(entries, levels, i, |other, _| t.div_ceil(other.t))
+}
+
+fn r_of_the_other(entries: &[Entry], levels: &[u8], i: usize, t: u64) -> u64 {
+    let own = &entries[i];
+    let runs = |other: &Entry, same: bool| {
+        let all = t.div_ceil(other.t);
+        if same {
+            all.min(u64::from(other.r) + 1)
+        } else {
+            all
+        }
+    };
+    own.c + own.b + sum_of(entries, levels, i, runs)
+}
+
+fn without_blocking(entries: &[Entry], levels: &[u8], i: usize, t: u64) -> u64 {
+    right(entries, levels, i, t) - entries[i].b
+}
+
+fn deadline_left_out(entries: &[Entry], levels: &[u8], i: usize, t: u64) -> u64 {
+    let needed = right(entries, levels, i, t);
+    needed + u64::from(needed == entries[i].d)
+}
+
+#[test]
+fn right_reading_is_never_told_apart() {
+    assert_eq!(told_apart(20, |e, l| map_by(right, e, l)), 0);
+}
+
+#[test]
+fn wrong_demands_are_told_apart() {
+    let readings: [(&str, Demand); 6] = [
+        ("floor", floor_on_own_level),
+        ("one run", one_run_on_own_level),
+        ("no cap", own_level_without_a_cap),
+        ("other's r", r_of_the_other),
+        ("no blocking", without_blocking),
+        ("before the deadline", deadline_left_out),
+    ];
+    for (part, (name, demand)) in (21..).zip(readings) {
+        let apart = told_apart(part, |e, l| map_by(demand, e, l));
+        println!("{name}: {apart}");
+        assert!(apart >= times(40), "{name}: {apart}");
+    }
+}
+
+/// Takes the last group from the end: as long as merging goes well.
+fn stops_at_a_failing_merge(entries: &[Entry], end: usize) -> Option<usize> {
+    let alone = end - 1;
+    let failing = (0..end)
+        .rev()
+        .find(|&start| !group_passes(entries, start, end));
+    match failing {
+        Some(start) if start == alone => None,
+        Some(start) => Some(start + 1),
+        None => Some(0),
+    }
+}
+
+/// As before, but gives up after two failing merges.
+fn stops_after_two(entries: &[Entry], end: usize) -> Option<usize> {
+    let mut failed = 0;
+    let mut longest = None;
+    for start in (0..end).rev() {
+        if group_passes(entries, start, end) {
+            longest = Some(start);
+        } else {
+            failed += 1;
+        }
+        if failed == 2 {
+            break;
+        }
+    }
+    longest
+}
+
+/// A map made group by group from the end.
+fn upward(
+    step: fn(&[Entry], usize) -> Option<usize>,
+    entries: &[Entry],
+    levels: u8,
+) -> Option<Vec<u8>> {
+    let mut starts = Vec::new();
+    let mut end = entries.len();
+    while end > 0 {
+        end = step(entries, end)?;
+        starts.push(end);
+    }
+    (starts.len() <= usize::from(levels)).then(|| levels_of(&starts, entries.len()))
+}
+
+#[test]
+fn hasty_searches_are_told_apart() {
+    type Step = fn(&[Entry], usize) -> Option<usize>;
+    let steps: [(&str, Step); 2] = [
+        ("first failing merge", stops_at_a_failing_merge),
+        ("two failing merges", stops_after_two),
+    ];
+    for (part, (name, step)) in (30..).zip(steps) {
+        let apart = told_apart(part, |e, l| upward(step, e, l));
+        println!("{name}: {apart}");
+        assert!(apart >= times(40), "{name}: {apart}");
+    }
+}
+
+/// The fewest levels, but the most urgent group longest.
+#[test]
+fn other_end_of_the_rule_is_told_apart() {
+    let apart = told_apart(40, |entries, levels| {
+        let used = by_groupings(entries, levels)?.used;
+        all_assignments(entries.len(), used)
+            .into_iter()
+            .filter(|one| is_map(one, used))
+            .filter(|one| different_levels(one) == used)
+            .find(|one| passes(entries, one))
+    });
+    println!("most urgent longest: {apart}");
+    assert!(apart >= times(40), "{apart}");
+}

@@ -1,0 +1,144 @@
+//! The thirteen examples of the table, by name.
+
+use oracle::cases;
+use oracle::file::{check, encode, write};
+use oracle::map::map_node;
+use oracle::model::{Entry, Node, Plan};
+use oracle::refusal::Refusal;
+use oracle::session::Session;
+
+const PLAIN: fn(u8) -> Refusal = Refusal::plain;
+
+/// Case P's file with one byte set.
+fn p_with(at: usize, byte: u8) -> Vec<u8> {
+    let mut file = cases::file(cases::p());
+    file[at] = byte;
+    file
+}
+
+#[test]
+fn example_1_empty_file() {
+    assert_eq!(check(&[]), Err(PLAIN(1)));
+}
+
+#[test]
+fn example_2_first_byte_00() {
+    assert_eq!(check(&p_with(0, 0)), Err(PLAIN(2)));
+}
+
+#[test]
+fn example_3_count_33() {
+    assert_eq!(check(&p_with(4, 33)), Err(PLAIN(3)));
+}
+
+#[test]
+fn example_4_levels_0() {
+    assert_eq!(check(&p_with(10, 0)), Err(Refusal::at_row(4, 0)));
+    assert_eq!(Session::open(0), Err(Refusal::at_row(4, 0)));
+}
+
+#[test]
+fn example_5_one_node_offset_17() {
+    assert_eq!(check(&p_with(12, 17)), Err(Refusal::at_row(5, 0)));
+}
+
+#[test]
+fn example_6_one_byte_more() {
+    let mut file = cases::file(cases::p());
+    file.push(0);
+    assert_eq!(check(&file), Err(PLAIN(6)));
+}
+
+#[test]
+fn example_7_kind_3() {
+    assert_eq!(check(&p_with(18, 3)), Err(Refusal::at_entry(7, 0, 0)));
+    assert_eq!(check(&p_with(58, 3)), Err(Refusal::at_entry(7, 0, 2)));
+}
+
+#[test]
+fn example_8_c_6_d_5() {
+    let plan = Plan {
+        nodes: vec![Node {
+            number: 7,
+            levels: 1,
+            entries: vec![Entry::task(1, 1, 9, 9), Entry::task(2, 6, 9, 5)],
+        }],
+    };
+    let refusal = Err(Refusal::at_entry(8, 0, 1));
+    assert_eq!(encode(&plan).map(|_| ()), refusal);
+    let mut file = encode(&Plan {
+        nodes: vec![cases::node(
+            1,
+            &[Entry::task(1, 1, 9, 9), Entry::task(2, 5, 9, 5)],
+        )],
+    })
+    .unwrap();
+    file[16 + 20 + 4] = 6;
+    assert_eq!(check(&file), refusal);
+}
+
+#[test]
+fn example_9_ask_for_8_plan_has_7() {
+    let file = cases::file(cases::p());
+    assert_eq!(map_node(&file, 8, &mut [0; 3]), Err(PLAIN(9)));
+    assert_eq!(map_node(&file, 7, &mut [0; 3]), Ok(2));
+}
+
+#[test]
+fn example_10_three_entries_two_bytes() {
+    let file = cases::file(cases::p());
+    let mut buffer = [0xAA; 2];
+    assert_eq!(map_node(&file, 7, &mut buffer), Err(PLAIN(10)));
+    assert_eq!(buffer, [0xAA; 2]);
+}
+
+#[test]
+fn example_11_case_f() {
+    let file = cases::file(cases::f());
+    let mut buffer = [0xAA; 3];
+    assert_eq!(map_node(&file, 7, &mut buffer), Err(PLAIN(11)));
+    assert_eq!(buffer, [0xAA; 3]);
+}
+
+#[test]
+fn example_12_remove_0_when_empty() {
+    let mut session = Session::open(3).unwrap();
+    assert_eq!(session.remove(0), Err(PLAIN(12)));
+}
+
+#[test]
+fn example_13_65th_insert() {
+    let mut session = Session::open(3).unwrap();
+    for position in 0..64 {
+        assert_eq!(session.insert(position, Entry::task(1, 1, 9, 9)), Ok(()));
+    }
+    let full = session.clone();
+    for position in 0..=64 {
+        assert_eq!(
+            session.insert(position, Entry::task(1, 6, 9, 5)),
+            Err(PLAIN(13))
+        );
+    }
+    assert_eq!(session.insert(65, Entry::task(1, 1, 9, 9)), Err(PLAIN(12)));
+    assert_eq!(session, full);
+}
+
+#[test]
+fn examples_of_the_writer() {
+    let (rows, entries) = (
+        Plan {
+            nodes: vec![cases::p()],
+        }
+        .rows(),
+        cases::p().entries,
+    );
+    let file = cases::file(cases::p());
+    let mut buffer = vec![0xAA; file.len() + 3];
+    let short = file.len() - 1;
+    assert_eq!(write(&[], &[], &mut buffer), Err(PLAIN(3)));
+    assert_eq!(write(&rows, &entries[1..], &mut buffer), Err(PLAIN(6)));
+    assert_eq!(write(&rows, &entries, &mut buffer[..short]), Err(PLAIN(10)));
+    assert!(buffer.iter().all(|&byte| byte == 0xAA));
+    assert_eq!(write(&rows, &entries, &mut buffer), Ok(file.len()));
+    assert_eq!(buffer, [file.as_slice(), &[0xAA; 3]].concat());
+}
