@@ -1,8 +1,20 @@
-.PHONY: test fmt
+PLAN ?= samples/p.plan
+
+.PHONY: list test samples fmt
+
+# Proves and builds the listing program, if that was not done yet, and lists a plan file.
+list:
+	@mkdir -p target
+	@rt check list_plan >target/list.log 2>&1 || { tail -n 20 target/list.log >&2; exit 1; }
+	@target/bin/list_plan <$(PLAN)
 
 # Everything that is proved and tested.
 test:
-	bash .ci/run
+	@bash .ci/run
+
+# Writes samples/ anew.
+samples:
+	cargo run --release --quiet --manifest-path tests/Cargo.toml --bin samples samples
 
 fmt:
 	rt fmt

@@ -2,3 +2,5 @@
 pub mod Lines
 pub mod Texts
 pub mod Mapped
+pub mod Cases
+pub mod Long

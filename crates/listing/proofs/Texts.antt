@@ -5,21 +5,23 @@ use mathlib.Core.Option.{none, some}
 use mathlib.Core.List.{List, [], _++_}
 use native.Mathlib.Numerals.{add-one}
 use native.Mathlib.Omega.{arith}
-use lib.ListN.{length}
+use lib.ListN.{length, drop}
 use borrow.Author.Tests.{le-leb, lt-leb}
 use Rattle.task_model.specs.declared.Entry.{Entry}
 use Rattle.task_model.specs.Refusals.{Numbered, at, accepted, refused}
 use Rattle.task_model.specs.Limits.{Node, entryAt}
 use Rattle.completion.specs.Test.{on-time, late, completionTest}
 use Rattle.plan_file.specs.Plan.{Plan}
-use Rattle.plan_file.specs.Answers.{gives, refuses}
+use Rattle.plan_file.specs.Answers.{gives, refuses, left}
 use Rattle.plan_file.specs.Check.{fileCheck}
 use Rattle.plan_file.specs.Decoding.{planIn}
 use Rattle.plan_file.specs.Find.{rowIn, nodeOfRow}
 use Rattle.level_map.specs.Assignments.{levelOf, levelsUsed}
 use Rattle.level_map.specs.Map.{theMap}
+use Rattle.listing.specs.declared.Listed.{Listed}
+use Rattle.listing.specs.declared.Listed.the-variants.{Text, Refused}
 use Rattle.listing.specs.Lines.{planLine, nodeLine, noMapLine, entryLine, refusedLine}
-use Rattle.listing.specs.Listing.{entryText, entriesText, nodeText, nodesText, planText, listing, listAnswer}
+use Rattle.listing.specs.Listing.{entryText, entriesText, nodeText, nodesText, planText, listing, listAnswer, listedGives}
 
 module _ (es : List Entry) (m : List ℕ) where
   pub entry-on-time : (i time rounds : ℕ) → completionTest es (levelOf m) i ≡ on-time time rounds
@@ -76,3 +78,16 @@ module _ (f : List ℕ) (room : ℕ) where
   pub text-short : room < length (listing f) → listAnswer f room ≡ refuses (at 10 0 0)
   unfolding listAnswer
   text-short h = rw (lt-leb (length (listing f)) room h)
+
+only-text : (a : Listed) (n : ℕ) → listedGives a ≡ gives n → a ≡ Text n
+only-text (Text m) n p = cc
+only-text (Refused r) n p = absurd (let z : _≡_ {A = ℕ} 0 1 = cc in omega arith)
+
+-- where the text fits, it is what the buffer begins with
+module _ (f old new : List ℕ) (a : Listed) (fits : length (listing f) ≤ length old) (p : listedGives a ≡ listAnswer f (length old))
+    (q : new ≡ left (listedGives a) (listing f) old) where
+  pub listed-size : a ≡ Text (length (listing f))
+  listed-size = only-text a (length (listing f)) (p ∙ text-fits f (length old) fits)
+
+  pub listed-text : new ≡ listing f ++ drop (length (listing f)) old
+  listed-text = q ∙ ap (λ o. left o (listing f) old) (p ∙ text-fits f (length old) fits)

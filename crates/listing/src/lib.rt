@@ -226,6 +226,7 @@ pub enum Listed {
 pub fn list_plan(file: &[u8], out: &mut [u8]) -> Listed
     ensures { λ a. ⌜ listedGives a ≡ listAnswer (now (file .entry)) (length (now (out .entry))) ⌝ }
     ensures { λ a. ⌜ now (out .exit) ≡ left (listedGives a) (listing (now (file .entry))) (now (out .entry)) ⌝ }
+    ensures { λ a. ⌜ length (listing (now (file .entry))) ≤ 115625 ⌝ }
 {
     let mut text = [0u8; 115625];
     let n = put_listing(file, &mut text);

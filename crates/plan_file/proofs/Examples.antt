@@ -23,7 +23,7 @@ use Rattle.plan_file.specs.Check.{
 use Rattle.plan_file.specs.Find.{rowOfNumber, findCheck}
 
 -- One node, number 7, 2 levels, three entries of kind 1, with C/T/D 20/100/100, 30/145/145 and 68/150/150.
-abbrev caseP : List ℕ
+abbrev pub caseP : List ℕ
 caseP =
     0x4C ∷ 0x4D ∷ 0x50 ∷ 0x31 ∷ 1 ∷ 0 ∷ 0 ∷ 0
     ∷ 7 ∷ 0 ∷ 2 ∷ 3 ∷ 16 ∷ 0 ∷ 0 ∷ 0

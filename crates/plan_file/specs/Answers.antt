@@ -36,7 +36,7 @@ abbrev pub left : {A : Type 0} → Answer A → List ℕ → List ℕ → List �
 left (gives a) new old = new ++ drop (length new) old
 left (refuses r) new old = old
 
--- A pair of numbers that an answer gives.
+-- How many rows and entries the reader fills.
 pub record Sizes : Type 0 where
   pub rows : ℕ
   pub entries : ℕ
@@ -52,11 +52,12 @@ readAnswer f rowRoom wordRoom =
     (fileCheck f andThen demand (roomTest (planIn f) rowRoom wordRoom) (at 10 0 0))
     (record { rows = length (planIn f .rows); entries = length (planIn f .entries) })
 
+-- Each case of the reader's answer.
 abbrev pub readGives : ReadPlan → Answer Sizes
 readGives (read.Filled rows entries) = gives (record { rows = rows; entries = entries })
 readGives (read.Refused r) = refuses (numbered r)
 
--- The writer: its checks, then 10 where the lent buffer is too short for the file.
+-- The writer: its checks, then 10 where the lent buffer is too short for the file. It gives the file's length.
 unfoldable pub writeAnswer : List ℕ → List ℕ → ℕ → Answer ℕ
 writeAnswer rows words room =
     giving
@@ -64,6 +65,7 @@ writeAnswer rows words room =
     andThen demand (leb (length (encoding (planOf rows words))) room) (at 10 0 0))
     (length (encoding (planOf rows words)))
 
+-- Each case of the writer's answer.
 abbrev pub writeGives : Written → Answer ℕ
 writeGives (written.Length n) = gives n
 writeGives (written.Refused r) = refuses (numbered r)
@@ -73,10 +75,12 @@ pub record Shape : Type 0 where
   pub levels : ℕ
   pub count : ℕ
 
+-- The finder: the file's checks, then 9.
 unfoldable pub findAnswer : List ℕ → ℕ → Answer Shape
 findAnswer f number =
     giving (findCheck f number) (record { levels = nodeFound f number .levels; count = length (nodeFound f number .entries) })
 
+-- Each case of the finder's answer.
 abbrev pub findGives : FoundNode → Answer Shape
 findGives (found.Found levels count) = gives (record { levels = levels; count = count })
 findGives (found.Refused r) = refuses (numbered r)

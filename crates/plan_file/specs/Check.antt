@@ -27,6 +27,7 @@ demand false r = refused r
 abbrev pub opensAt : List ℕ → ℕ → Bool
 opensAt f i = eqb (getD f i 0) (getD opening i 0)
 
+-- The four opening bytes.
 unfoldable pub openingTest : List ℕ → Bool
 openingTest f = opensAt f 0 && opensAt f 1 && opensAt f 2 && opensAt f 3
 
@@ -60,7 +61,7 @@ unfoldable pub nodesCheck : ℕ → List Row → List Entry → Outcome
 nodesCheck i [] es = accepted
 nodesCheck i (r ∷ rs) es = entriesCheck i 0 (take (r .count) es) andThen nodesCheck (suc i) rs (drop (r .count) es)
 
--- A file: 8 bytes (1), opening bytes (2), node count and zero bytes (3), the contents' length (1).
+-- A file is checked in this order: 8 bytes (1), opening bytes (2), node count and zero bytes (3), the contents' length (1).
 unfoldable pub headerCheck : List ℕ → Outcome
 headerCheck f =
     demand (leb 8 (length f)) (at 1 0 0)
@@ -74,7 +75,7 @@ layoutCheck f i least required rows =
     contentsCheck f i least required rows
     andThen demand (eqb (length f) (required + entryCount rows * 20)) (at 6 0 0)
 
--- Then entry by entry 7 and 8.
+-- Then entry by entry 7 and 8. These are all of a file's checks.
 unfoldable pub fileCheck : List ℕ → Outcome
 fileCheck f =
     headerCheck f

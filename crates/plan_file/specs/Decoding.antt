@@ -21,7 +21,8 @@ wordsFrom f k (suc n) = wordAt f k ∷ wordsFrom f (k + 4) n
 abbrev pub nodeCount : List ℕ → ℕ
 nodeCount f = getD f 4 0
 
--- Row `i` of the contents has two words. The first, read as in memory, has number, levels and entry count.
+-- Row `i` of the contents has two words. The first, read as in memory, has number, levels and entry count (the theorem
+-- `row-fields` gives each by its bytes).
 abbrev pub rowAt : List ℕ → ℕ → Row
 rowAt f i = rowOf (wordAt f (8 + i * 8))
 
@@ -34,10 +35,12 @@ unfoldable pub rowsFrom : List ℕ → ℕ → ℕ → List Row
 rowsFrom f i zero = []
 rowsFrom f i (suc n) = rowAt f i ∷ rowsFrom f (suc i) n
 
+-- The rows of a file: as many as its nodes.
 abbrev pub rowsIn : List ℕ → List Row
 rowsIn f = rowsFrom f 0 (nodeCount f)
 
--- The entry that 20 bytes from byte `k` on hold: five words, read as in memory.
+-- The entry that 20 bytes from byte `k` on hold: five words, read as in memory (the theorem `entry-fields` gives each
+-- field by its bytes).
 abbrev pub entryIn : List ℕ → ℕ → Entry
 entryIn f k = entryFrom (wordsFrom f k 5) 0
 
@@ -46,8 +49,10 @@ unfoldable pub entriesAt : List ℕ → ℕ → ℕ → List Entry
 entriesAt f k zero = []
 entriesAt f k (suc n) = entryIn f k ∷ entriesAt f (k + 20) n
 
+-- The entries of a file: right after the contents, as many as the rows count.
 abbrev pub entriesIn : List ℕ → List Entry
 entriesIn f = entriesAt f (bodiesStart (nodeCount f)) (entryCount (rowsIn f))
 
+-- The plan.
 abbrev pub planIn : List ℕ → Plan
 planIn f = record { rows = rowsIn f; entries = entriesIn f }

@@ -38,6 +38,7 @@ unfoldable pub contentsBytes : ℕ → List Row → List ℕ
 contentsBytes offset [] = []
 contentsBytes offset (r ∷ rs) = rowBytes offset r ++ contentsBytes (offset + r .count * 20) rs
 
+-- The bodies: entry after entry, without gaps.
 unfoldable pub bodiesBytes : List Entry → List ℕ
 bodiesBytes [] = []
 bodiesBytes (e ∷ es) = entryBytes e ++ bodiesBytes es

@@ -20,6 +20,7 @@ entryCount (r ∷ rs) = r .count + entryCount rs
 unfoldable pub rowWord : Row → ℕ
 rowWord r = r .number + r .levels * 65536 + r .count * 16777216
 
+-- The row that a word holds.
 unfoldable pub rowOf : ℕ → Row
 rowOf w = record { number = w % 65536; levels = w / 65536 % 256; count = w / 16777216 % 256 }
 
@@ -28,6 +29,7 @@ unfoldable pub entryWords : Entry → List ℕ
 entryWords e =
     (e .number + e .kind * 65536 + e .calls * 16777216) ∷ e .wcet ∷ e .period ∷ e .deadline ∷ e .blocking ∷ []
 
+-- The words of entries, one after the other.
 unfoldable pub wordsOf : List Entry → List ℕ
 wordsOf [] = []
 wordsOf (e ∷ es) = entryWords e ++ wordsOf es
@@ -36,12 +38,13 @@ wordsOf (e ∷ es) = entryWords e ++ wordsOf es
 abbrev pub planOf : List ℕ → List ℕ → Plan
 planOf rs ws = record { rows = map rowOf rs; entries = entriesOf ws (length ws / 5) }
 
--- The widths of the file, which the fields of a row and of an entry keep.
+-- The widths that fields have in the file, and so in memory: node number (2), levels (1), entry count (1).
 pub record RowFits (r : Row) : Type 0 where
   pub number : r .number < 65536
   pub levels : r .levels < 256
   pub count : r .count < 256
 
+-- Entry number (2), kind (1), r (1), C, T, D, B (4 each).
 pub record EntryFits (e : Entry) : Type 0 where
   pub number : e .number < 65536
   pub kind : e .kind < 256
@@ -51,6 +54,7 @@ pub record EntryFits (e : Entry) : Type 0 where
   pub deadline : e .deadline < 4294967296
   pub blocking : e .blocking < 4294967296
 
+-- Every row, every entry, and so a plan.
 abbrev pub RowsFit : List Row → Type 0
 RowsFit [] = Unit
 RowsFit (r ∷ rs) = RowFits r × RowsFit rs

@@ -33,7 +33,7 @@ module _ (c : tie.After-put-listing) where
 returns : tie.Need-returns
 returns c =
     let k = c .before .before in
-    (sym (text-short (f k) _ (omega (arith, size k))), refl)
+    (sym (text-short (f k) _ (omega (arith, size k))), (refl, k .put-listing .ensures .short))
 
 array-share-prefix-text : tie.Need-array-share-prefix-text
 array-share-prefix-text c = search needs
@@ -51,7 +51,7 @@ returns-2 : tie.Need-returns-2
 returns-2 c =
     let k = c .before .before .before .before .before .before .before in (
       ap gives (size k) ∙ sym (text-fits (f k) _ (omega (arith, size k))),
-      c .before .before .put-bytes .ensures .buffer ∙ ap (written _ 0) (shown k) ∙ written-front _ (listing (f k)),
+      (c .before .before .put-bytes .ensures .buffer ∙ ap (written _ 0) (shown k) ∙ written-front _ (listing (f k)), k .put-listing .ensures .short),
     )
 
 pub list-plan-spec : {M : Type 1} → statement M

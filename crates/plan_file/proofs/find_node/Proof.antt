@@ -1,4 +1,5 @@
 use mathlib.Core.Path.{_≡_, _∙_, refl, sym, ap}
+use native.Mathlib.Omega.{arith}
 use borrow.Author.Needs.{needs}
 use Rattle.task_model.specs.Refusals.{outcome, accepted}
 use Rattle.plan_file.specs.Find.{rowOfNumber}
@@ -44,7 +45,9 @@ returns-2 c = (
 )
 
 load-node-requires : tie.Need-load-node-requires
-load-node-requires c κs = (told (c .before .before .before .before), (rw (← c .before .before .before .node-count .ensures .0) (c .before .if1 .left)))
+load-node-requires c κs =
+    let h = file-holds _ (told (c .before .before .before .before)) .header .counted .some in
+    (told (c .before .before .before .before), omega (arith, c .before .before .before .node-count .ensures .0))
 
 cast-t12 : tie.Need-cast-t12
 cast-t12 c = search needs

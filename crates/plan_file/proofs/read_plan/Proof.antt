@@ -55,7 +55,7 @@ returns-3 : tie.Need-returns-3
 returns-3 c = (sym (read-few-words _ _ _ (told (c .before .before .before)) (omega arith) (omega (arith, counted (c .before .before)))), (refl, refl))
 
 copy-rows-requires : tie.Need-copy-rows-requires
-copy-rows-requires c κs = (omega (arith, (file-holds _ (told (c .before .before .before .before))) .header .contents), c .before .before .if1 .left)
+copy-rows-requires c κs = omega (arith, c .before .before .before .node-count .ensures .0, file-holds _ (told (c .before .before .before .before)) .header .contents)
 
 copy-words-requires : tie.Need-copy-words-requires
 copy-words-requires c κs = omega (arith, counted (c .before .before .before .before .before .before .before), (file-holds _ (told (c .before .before .before .before .before .before .before .before))) .ends)
@@ -74,7 +74,7 @@ returns-4 c =
     let q : (length f - (8 + c .before .before .before .before .before .before .before .before .before .before .node-count .result * 8)) / 4 / 5 ≡ entryCount (rowsIn f) = omega (arith, w) in (
       rw (q, n) (sym (read-filled _ _ _ (told (c .before .before .before .before .before .before .before .before .before .before .before)) (omega arith) (omega arith))),
       (
-        (rw n at (c .before .before .before .before .before .before .copy-rows .ensures)) ∙ over-start _ _,
+        rw (← n) (c .before .before .before .before .before .before .copy-rows .ensures ∙ over-start _ _),
         rw (words-of-entries f (λ i. c .before .before .before .before .before .before .before .before .before .before .before .before .before .before .before .before .shared-slice-known .given i .fits) (bodiesStart (nodeCount f)) (entryCount (rowsIn f)))
             ((rw (w, n) at (c .before .before .copy-words .ensures)) ∙ over-start _ _),
       ),

@@ -1,0 +1,166 @@
+-- An input that is longer than any plan is answered as its first 65,537 bytes are.
+use Prim.Native.Nat.{ℕ, zero, suc, _+_, _*_, _≤_, _<_, min}
+use mathlib.Core.Path.{_≡_, _∙_, refl, ap, ap₂, sym}
+use mathlib.Core.Bool.{Bool, true, false, _&&_}
+use mathlib.Core.Logic.{⊎-elim}
+use mathlib.Core.List.{List, [], _∷_}
+use native.Mathlib.Nat.{add-zero}
+use native.Mathlib.Omega.{arith}
+use lib.ListN.{length, getD, take, length-take}
+use lib.Seq.{getD-take}
+use lib.Dec.{leb, eqb}
+use borrow.Author.Tests.{le-leb, ne-eqb}
+use Rattle.task_model.specs.Refusals.{Numbered, at, Outcome, accepted, refused}
+use Rattle.task_model.proofs.Theorems.{either}
+use Rattle.plan_file.specs.declared.Row.{Row}
+use Rattle.plan_file.specs.Plan.{entryCount, rowOf}
+use Rattle.plan_file.specs.Encoding.{opening, bodiesStart}
+use Rattle.plan_file.specs.Check.{
+  _andThen_,
+  demand,
+  opensAt,
+  openingTest,
+  countTest,
+  zerosTest,
+  rowTest,
+  contentsCheck,
+  nodesCheck,
+  headerCheck,
+  layoutCheck,
+  fileCheck,
+}
+use Rattle.plan_file.specs.Decoding.{wordAt, nodeCount, rowAt, offsetAt, rowsFrom, rowsIn, entriesIn}
+use Rattle.plan_file.proofs.Contents.{length-rows}
+use Rattle.plan_file.proofs.Decoded.{few-entries}
+use Rattle.plan_file.proofs.Encoded.{contents-rows}
+use Rattle.plan_file.proofs.File.{layout-holds}
+use Rattle.plan_file.proofs.Theorems.{file-sizes}
+use Rattle.plan_file.proofs.Header.{header-holds}
+use Rattle.plan_file.proofs.Handed.{count-hold}
+use Rattle.task_model.proofs.Laws.{and-true}
+use Rattle.listing.specs.Lines.{refusedLine}
+use Rattle.listing.specs.Listing.{listing}
+use Rattle.listing.proofs.Texts.{listing-refused}
+
+-- two inputs that are longer than any plan, and agree in what a header with 32 rows takes
+module _ (f g : List ℕ) (lf : 41224 < length f) (lg : 41224 < length g) (same : (k : ℕ) → k < 264 → getD g k 0 ≡ getD f k 0) where
+  opens : (k : ℕ) → k < 264 → opensAt g k ≡ opensAt f k
+  opens k h = ap (λ x. eqb x (getD opening k 0)) (same k h)
+
+  opening-same : openingTest g ≡ openingTest f
+  unfolding openingTest
+  opening-same =
+      ap₂ _&&_
+      (ap₂ _&&_ (ap₂ _&&_ (opens 0 (omega arith)) (opens 1 (omega arith))) (opens 2 (omega arith)))
+      (opens 3 (omega arith))
+
+  nodes-same : nodeCount g ≡ nodeCount f
+  nodes-same = same 4 (omega arith)
+
+  zeros-same : zerosTest g ≡ zerosTest f
+  unfolding zerosTest
+  zeros-same =
+      ap₂ _&&_
+      (ap₂ _&&_ (ap (λ x. eqb x 0) (same 5 (omega arith))) (ap (λ x. eqb x 0) (same 6 (omega arith))))
+      (ap (λ x. eqb x 0) (same 7 (omega arith)))
+
+  enough : (k : ℕ) → k ≤ 264 → leb k (length g) ≡ leb k (length f)
+  enough k h = le-leb k (length g) (omega arith) ∙ sym (le-leb k (length f) (omega arith))
+
+  room : (b : Bool) → b ≡ (countTest (nodeCount f) && zerosTest f)
+      → demand b (at 3 0 0) andThen demand (leb (bodiesStart (nodeCount f)) (length g)) (at 1 0 0)
+      ≡ demand b (at 3 0 0) andThen demand (leb (bodiesStart (nodeCount f)) (length f)) (at 1 0 0)
+  room false p = refl
+  room true p =
+      let few = count-hold (nodeCount f) (and-true _ _ (sym p) .0) in
+      ap (λ b. demand b (at 1 0 0)) (enough (bodiesStart (nodeCount f)) (omega arith))
+
+  -- the header's checks see the first eight bytes, and whether there is room for the contents
+  header-same : headerCheck g ≡ headerCheck f
+  unfolding headerCheck
+  header-same =
+      ap₂ _andThen_ (ap (λ b. demand b (at 1 0 0)) (enough 8 (omega arith)))
+      (ap₂ _andThen_ (ap (λ b. demand b (at 2 0 0)) opening-same)
+      (ap₂ (λ n z. demand (countTest n && z) (at 3 0 0) andThen demand (leb (bodiesStart n) (length g)) (at 1 0 0)) nodes-same zeros-same
+      ∙ room (countTest (nodeCount f) && zerosTest f) refl))
+
+  word-same : (k : ℕ) → k + 4 ≤ 264 → wordAt g k ≡ wordAt f k
+  unfolding wordAt
+  word-same k h = rw (same k (omega arith), same (k + 1) (omega arith), same (k + 2) (omega arith), same (k + 3) (omega arith))
+
+  rows-same : (i n : ℕ) → i + n ≤ 32 → rowsFrom g i n ≡ rowsFrom f i n
+  unfolding rowsFrom
+  rows-same i zero h = refl
+  rows-same i (suc n) h = ap₂ _∷_ (ap rowOf (word-same (8 + i * 8) (omega arith))) (rows-same (suc i) n (omega arith))
+
+  contents-same : (i least required : ℕ) (rs : List Row) → i + length rs ≤ 32
+      → contentsCheck g i least required rs ≡ contentsCheck f i least required rs
+  unfolding contentsCheck
+  contents-same i least required [] h = refl
+  contents-same i least required (r ∷ rs) h =
+      ap (λ x. demand (rowTest least r) (at 4 i 0) andThen x)
+      (ap₂ _andThen_ (ap (λ x. demand (eqb x required) (at 5 i 0)) (word-same (8 + i * 8 + 4) (omega arith)))
+      (contents-same (suc i) (suc (r .number)) (required + r .count * 20) rs (omega arith)))
+
+-- rows that are accepted end too early for such an input, so its layout is refused, and as what agrees with it is
+layout-refused : (f : List ℕ) → 41224 < length f → (n : ℕ) → n ≤ 32
+    → layoutCheck f 0 0 (bodiesStart n) (rowsFrom f 0 n) ≡ accepted → ⊥
+layout-refused f lf n h p =
+    let l = layout-holds f 0 0 (bodiesStart n) (rowsFrom f 0 n) p in
+    omega (
+      arith,
+      l .1,
+      few-entries 0 0 (rowsFrom f 0 n) (contents-rows f 0 0 (bodiesStart n) (rowsFrom f 0 n) (l .0)),
+      length-rows f 0 n,
+    )
+
+module _ (f g : List ℕ) (lf : 41224 < length f) (lg : 41224 < length g) (same : (k : ℕ) → k < 264 → getD g k 0 ≡ getD f k 0) where
+  -- where the rows are accepted, both end too late
+  layout-same : (n : ℕ) → n ≤ 32
+      → layoutCheck g 0 0 (bodiesStart n) (rowsFrom g 0 n) ≡ layoutCheck f 0 0 (bodiesStart n) (rowsFrom f 0 n)
+  unfolding layoutCheck
+  layout-same n h =
+      let rs = rowsFrom f 0 n in
+      let c = contents-same f g lf lg same 0 0 (bodiesStart n) rs (omega (arith, length-rows f 0 n)) in
+      rw (rows-same f g lf lg same 0 n (omega arith), c)
+      (⊎-elim
+      (λ a.
+      let k = few-entries 0 0 rs (contents-rows f 0 0 (bodiesStart n) rs a) in
+      rw (
+        a,
+        ne-eqb (length g) (bodiesStart n + entryCount rs * 20) (λ e. omega (arith, length-rows f 0 n)),
+        ne-eqb (length f) (bodiesStart n + entryCount rs * 20) (λ e. omega (arith, length-rows f 0 n)),
+      )
+      refl)
+      (λ r. rw (r .1))
+      (either (contentsCheck f 0 0 (bodiesStart n) rs)))
+
+  check-same : fileCheck g ≡ fileCheck f
+  unfolding fileCheck
+  check-same =
+      ⊎-elim
+      (λ a.
+      let few = header-holds f a .counted .few in
+      let n = nodes-same f g lf lg same in
+      ⊎-elim
+      (λ b. absurd (layout-refused f lf (nodeCount f) few b))
+      (λ r.
+      rw (header-same f g lf lg same, a, n, layout-same (nodeCount f) few, r .1))
+      (either (layoutCheck f 0 0 (bodiesStart (nodeCount f)) (rowsFrom f 0 (nodeCount f)))))
+      (λ r. rw (header-same f g lf lg same, r .1))
+      (either (headerCheck f))
+
+  listing-same : listing g ≡ listing f
+  listing-same =
+      ⊎-elim
+      (λ a. absurd (omega (arith, file-sizes f a .1)))
+      (λ r. listing-refused g (r .0) (check-same ∙ r .1) ∙ sym (listing-refused f (r .0) (r .1)))
+      (either (fileCheck f))
+
+long-input : (f : List ℕ) (n : ℕ) → n ≡ 65537 → 65536 < length f → listing (take n f) ≡ listing f
+long-input f n e h =
+    listing-same f (take n f) (omega arith) (omega (arith, length-take n f)) (λ k l. getD-take n f k 0 (omega arith))
+
+-- An input of more than 65,536 bytes is answered as its first 65,537 bytes are.
+pub long-listing : (f : List ℕ) → 65536 < length f → listing (take 65537 f) ≡ listing f
+long-listing f h = long-input f 65537 refl h
