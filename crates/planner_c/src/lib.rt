@@ -5,6 +5,7 @@
 ghost use mathlib.Core.Path.{_≡_};
 ghost use mathlib.Core.List.{map};
 ghost use lib.ListN.{length};
+ghost use Prim.Native.Nat.{_≤_};
 ghost use Rattle.task_model.specs.Refusals.{numbered, accepted};
 ghost use Rattle.plan_file.specs.Answers.{left, readAnswer, writeAnswer};
 ghost use Rattle.plan_file.specs.Check.{fileCheck};
@@ -135,6 +136,7 @@ pub extern "C" fn maiplur_list(file: &[u8], text: &mut [u8], values: &mut [usize
         ⌜ now (text .exit) ≡
         left (listAnswer (now (file .entry)) (length (now (text .entry)))) (listing (now (file .entry)))
         (now (text .entry)) ⌝ }
+    ensures { λ a. ⌜ length (listing (now (file .entry))) ≤ 115625 ⌝ }
 {
     let listed = listing::list_plan(file, text);
     match listed {

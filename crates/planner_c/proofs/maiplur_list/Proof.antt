@@ -27,7 +27,7 @@ returns : tie.Need-returns
 returns c =
     let e = c .before .before .before .before .before .before .before .list-plan .ensures in (
       c .give .ensures ∙ ap sized (sym (ap listedGives (c .before .before .before .listed .given .1)) ∙ e .0),
-      rw (e .0) at (e .1),
+      (rw (e .0) at (e .1 .0), e .1 .1),
     )
 
 same-length-2 : tie.Need-same-length-2
@@ -37,7 +37,7 @@ returns-2 : tie.Need-returns-2
 returns-2 c =
     let e = c .before .before .before .before .before .before .before .list-plan .ensures in (
       c .refuse .ensures ∙ ap sized (sym (ap listedGives (c .before .before .before .listed2 .given .1)) ∙ e .0),
-      rw (e .0) at (e .1),
+      (rw (e .0) at (e .1 .0), e .1 .1),
     )
 
 pub maiplur-list-spec : {M : Type 1} → statement M
