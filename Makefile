@@ -1,6 +1,6 @@
 PLAN ?= samples/p.plan
 
-.PHONY: list test samples fmt
+.PHONY: list test bench fuzz samples fmt
 
 # Proves and builds the listing program, if that was not done yet, and lists a plan file.
 list:
@@ -11,6 +11,14 @@ list:
 # Everything that is proved and tested.
 test:
 	@bash .ci/run
+
+# Times of the proved library and of plain Rust that does the same work (docs/BENCHMARKS.md).
+bench:
+	@cargo run --release --offline --quiet --manifest-path tests/Cargo.toml --bin bench
+
+# Random files against the second implementation, for MAIPLUR_SECONDS seconds (10); what it finds goes to tests/corpus.
+fuzz:
+	@cargo run --release --offline --quiet --manifest-path tests/Cargo.toml --bin fuzz
 
 # Writes samples/ anew.
 samples:

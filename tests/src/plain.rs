@@ -31,11 +31,12 @@ struct Node {
     entries: [Entry; MOST],
 }
 
+/// The word at a place, which the caller has checked to be there.
 fn word(file: &[u8], at: usize) -> u32 {
-    u32::from_le_bytes(file[at..at + 4].try_into().expect("four bytes"))
+    u32::from_le_bytes([file[at], file[at + 1], file[at + 2], file[at + 3]])
 }
 
-fn entry(bytes: &[u8]) -> Entry {
+fn entry(bytes: &[u8; 20]) -> Entry {
     Entry {
         number: u16::from_le_bytes([bytes[0], bytes[1]]),
         kind: bytes[2],
@@ -68,7 +69,7 @@ pub fn check(file: &[u8]) -> bool {
     }
     let mut least = 0;
     let mut required = 8 + nodes * 8;
-    for row in file[8..8 + nodes * 8].chunks_exact(8) {
+    for row in file[8..8 + nodes * 8].as_chunks::<8>().0 {
         let number = u32::from(u16::from_le_bytes([row[0], row[1]]));
         if number < least || !(1..=64).contains(&row[2]) || row[3] > 64 {
             return false;
@@ -83,9 +84,8 @@ pub fn check(file: &[u8]) -> bool {
         return false;
     }
     let bodies = &file[8 + nodes * 8..];
-    bodies
-        .chunks_exact(20)
-        .all(|bytes| entry_holds(&entry(bytes)))
+    let entries = bodies.as_chunks::<20>().0;
+    entries.iter().all(|bytes| entry_holds(&entry(bytes)))
 }
 
 /// Reads an accepted file into words, and gives how many rows and entries.
@@ -99,11 +99,14 @@ pub fn read(file: &[u8], rows: &mut [u32], entries: &mut [u32]) -> Option<(usize
     if rows.len() < nodes || entries.len() < bodies.len() / 4 {
         return None;
     }
-    for (row, bytes) in rows.iter_mut().zip(file[8..8 + nodes * 8].chunks_exact(8)) {
+    for (row, bytes) in rows
+        .iter_mut()
+        .zip(file[8..8 + nodes * 8].as_chunks::<8>().0)
+    {
         *row = word(bytes, 0);
     }
-    for (target, bytes) in entries.iter_mut().zip(bodies.chunks_exact(4)) {
-        *target = word(bytes, 0);
+    for (target, bytes) in entries.iter_mut().zip(bodies.as_chunks::<4>().0) {
+        *target = u32::from_le_bytes(*bytes);
     }
     Some((nodes, bodies.len() / 20))
 }
@@ -119,7 +122,7 @@ fn load(file: &[u8], row: usize) -> Node {
     let body = word(file, at + 4) as usize;
     for (target, bytes) in node.entries[..node.count]
         .iter_mut()
-        .zip(file[body..].chunks_exact(20))
+        .zip(file[body..].as_chunks::<20>().0)
     {
         *target = entry(bytes);
     }

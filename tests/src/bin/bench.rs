@@ -48,8 +48,10 @@ fn calls_in(long: f64, call: &mut impl FnMut()) -> u32 {
     calls
 }
 
-fn line(name: &str, (proved, plain): (f64, f64)) {
-    let (proved_us, plain_us) = (proved * 1e6, plain * 1e6);
+/// A line of the table, per part where a call has several.
+fn line(name: &str, parts: usize, (proved, plain): (f64, f64)) {
+    let per_part = 1e6 / parts as f64;
+    let (proved_us, plain_us) = (proved * per_part, plain * per_part);
     println!(
         "| {name} | {proved_us:.2} | {plain_us:.2} | {:.2} |",
         proved / plain
@@ -95,11 +97,15 @@ fn mapping(rng: &mut Rng, count: usize) {
             }
         },
     );
-    line(&format!("map 16 nodes of {count} entries"), times);
+    line(
+        &format!("map a node of {count} entries"),
+        files.len(),
+        times,
+    );
 }
 
 fn files(file: &[u8], name: &str) {
-    assert_eq!(ffi::check(file).is_ok(), plain::check(file));
+    assert!(ffi::check(file).is_ok() && plain::check(file));
     let times = measure(
         || {
             let _ = black_box(ffi::check(black_box(file)));
@@ -108,7 +114,7 @@ fn files(file: &[u8], name: &str) {
             black_box(plain::check(black_box(file)));
         },
     );
-    line(&format!("check {name}"), times);
+    line(&format!("check {name}"), 1, times);
     let (mut rows, mut words) = ([0; 32], vec![0; 10_240]);
     let (mut other_rows, mut other_words) = ([0; 32], vec![0; 10_240]);
     let answer = ffi::read(file, &mut rows, &mut words).ok();
@@ -126,12 +132,13 @@ fn files(file: &[u8], name: &str) {
             ));
         },
     );
-    line(&format!("read {name}"), times);
+    line(&format!("read {name}"), 1, times);
 }
 
 fn listing(file: &[u8], name: &str) {
     let (mut text, mut other) = (vec![0; 115_625], vec![0; 115_625]);
     let length = ffi::list(file, &mut text).ok();
+    assert!(length.is_some());
     assert_eq!(length, plain::list(file, &mut other));
     assert_eq!(text, other);
     let times = measure(
@@ -142,7 +149,7 @@ fn listing(file: &[u8], name: &str) {
             black_box(plain::list(black_box(file), &mut other));
         },
     );
-    line(&format!("list {name}"), times);
+    line(&format!("list {name}"), 1, times);
 }
 
 /// A station of so many nodes, each with a map.
@@ -166,7 +173,7 @@ fn main() {
     }
     let longest = encode(&plans::longest(&mut rng)).expect("a good plan");
     files(&longest, "the longest plan, 32 nodes of 64 entries");
-    for nodes in [1, 8, 32] {
+    for nodes in [1, 4, 8, 16, 32] {
         let file = station(&mut rng, nodes, 12);
         listing(&file, &format!("a station of {nodes} nodes of 12 entries"));
     }
