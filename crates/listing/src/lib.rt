@@ -1,8 +1,8 @@
 // The listing of a plan file, into a lent buffer. Each function writes from a position on, and answers the position
 // after what it wrote.
 ghost use mathlib.Core.Path.{_≡_};
-ghost use Prim.Native.Nat.{ℕ, _+_, _*_, _≤_, _<_};
-ghost use lib.ListN.{length, take};
+ghost use Prim.Native.Nat.{_+_, _*_, _≤_, _<_};
+ghost use lib.ListN.{length};
 ghost use Rattle.task_model.specs.Refusals.{numbered, accepted};
 ghost use Rattle.task_model.specs.Limits.{AllHold};
 ghost use Rattle.task_model.specs.Words.{entriesOf};

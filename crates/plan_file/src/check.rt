@@ -21,7 +21,7 @@ ghost use Rattle.task_model.specs.Words.{entriesFrom};
 ghost use Rattle.plan_file.specs.Plan.{entryCount, rowOf};
 ghost use Rattle.plan_file.specs.Encoding.{bodiesStart};
 ghost use Rattle.plan_file.specs.Decoding.{nodeCount, offsetAt, rowsFrom, entriesAt};
-ghost use Rattle.plan_file.specs.Check.{_andThen_, demand, openingTest, zerosTest, countTest, rowTest, rowsCheck, layoutCheck, nodesCheck, headerCheck};
+ghost use Rattle.plan_file.specs.Check.{_andThen_, mustHold, openingTest, zerosTest, countTest, rowTest, rowsCheck, layoutCheck, nodesCheck, headerCheck};
 
 // Whether a row's number is not below the least, and its levels and entry count are within the limits.
 fn row_holds(least: u32, r: Row) -> bool
@@ -179,7 +179,7 @@ pub(crate) fn check_rows(rows: &[u32], words: usize) -> Checked
     ensures { λ a.
         ⌜ outcome a ≡
         (rowsCheck 0 0 (map rowOf (now (rows .entry)))
-        andThen demand (eqb words (entryCount (map rowOf (now (rows .entry))) * 5)) (at 6 0 0)) ⌝ }
+        andThen mustHold (eqb words (entryCount (map rowOf (now (rows .entry))) * 5)) (at 6 0 0)) ⌝ }
 {
     let mut least: u32 = 0;
     let mut total: usize = 0;

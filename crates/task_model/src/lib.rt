@@ -2,7 +2,7 @@
 ghost use mathlib.Core.Path.{_≡_};
 ghost use Prim.Native.Nat.{_<_, _≤_};
 ghost use Rattle.task_model.specs.Refusals.{outcome, at, numbered, numbersIn};
-ghost use Rattle.task_model.specs.Checks.{kindTest, timesTest, sizeTest, entryCheck, entriesCheck, nodeCheck};
+ghost use Rattle.task_model.specs.Checks.{kindTest, timesTest, entryCheck, entriesCheck, nodeCheck};
 ghost use Rattle.task_model.specs.Words.{entryOf, entriesOf, nodeOf};
 
 // The longest period and the longest blocking, in ticks.
