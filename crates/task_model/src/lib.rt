@@ -54,76 +54,30 @@ pub struct Numbers {
     pub entry: usize,
 }
 
+fn numbers_at(number: u8, row: usize, entry: usize) -> Numbers
+    ensures { λ n. ⌜ numbersIn n ≡ at number row entry ⌝ }
+{
+    Numbers { number, row, entry }
+}
+
 // The number of a refusal in the table, and its places.
 pub fn numbers_of(r: Refusal) -> Numbers
     ensures { λ n. ⌜ numbersIn n ≡ numbered r ⌝ }
 {
     match r {
-        Refusal::ShortFile => Numbers {
-            number: 1,
-            row: 0,
-            entry: 0,
-        },
-        Refusal::OpeningBytes => Numbers {
-            number: 2,
-            row: 0,
-            entry: 0,
-        },
-        Refusal::NodeCount => Numbers {
-            number: 3,
-            row: 0,
-            entry: 0,
-        },
-        Refusal::Row { row } => Numbers {
-            number: 4,
-            row,
-            entry: 0,
-        },
-        Refusal::Offset { row } => Numbers {
-            number: 5,
-            row,
-            entry: 0,
-        },
-        Refusal::FileLength => Numbers {
-            number: 6,
-            row: 0,
-            entry: 0,
-        },
-        Refusal::Kind { row, position } => Numbers {
-            number: 7,
-            row,
-            entry: position,
-        },
-        Refusal::Times { row, position } => Numbers {
-            number: 8,
-            row,
-            entry: position,
-        },
-        Refusal::NoSuchNode => Numbers {
-            number: 9,
-            row: 0,
-            entry: 0,
-        },
-        Refusal::ShortBuffer => Numbers {
-            number: 10,
-            row: 0,
-            entry: 0,
-        },
-        Refusal::NoMap => Numbers {
-            number: 11,
-            row: 0,
-            entry: 0,
-        },
-        Refusal::OutsideList => Numbers {
-            number: 12,
-            row: 0,
-            entry: 0,
-        },
-        Refusal::FullList => Numbers {
-            number: 13,
-            row: 0,
-            entry: 0,
-        },
+        Refusal::ShortFile => numbers_at(1, 0, 0),
+        Refusal::OpeningBytes => numbers_at(2, 0, 0),
+        Refusal::NodeCount => numbers_at(3, 0, 0),
+        Refusal::Row { row } => numbers_at(4, row, 0),
+        Refusal::Offset { row } => numbers_at(5, row, 0),
+        Refusal::FileLength => numbers_at(6, 0, 0),
+        Refusal::Kind { row, position } => numbers_at(7, row, position),
+        Refusal::Times { row, position } => numbers_at(8, row, position),
+        Refusal::NoSuchNode => numbers_at(9, 0, 0),
+        Refusal::ShortBuffer => numbers_at(10, 0, 0),
+        Refusal::NoMap => numbers_at(11, 0, 0),
+        Refusal::OutsideList => numbers_at(12, 0, 0),
+        Refusal::FullList => numbers_at(13, 0, 0),
     }
 }
 
