@@ -83,7 +83,7 @@ fileCheck f =
     andThen nodesCheck 0 (rowsIn f) (entriesIn f)
 
 -- The writer, on rows and on entries that lie in `words` words: node count (3), row by row 4, more or fewer entries
--- than the rows count (6; a part of an entry counts as more), entry by entry 7 and 8.
+-- than the rows count (6; a part of an entry is 6 too), entry by entry 7 and 8.
 unfoldable pub handedCheck : List Row → List Entry → ℕ → Outcome
 handedCheck rows entries words =
     mustHold (countTest (length rows)) (at 3 0 0)

@@ -1,5 +1,8 @@
 // The checks of a file and of a plan in memory, part by part.
+use super::ENTRY_BYTES;
+use super::HEADER_BYTES;
 use super::OPENING;
+use super::ROW_BYTES;
 use super::Row;
 use super::node_count;
 use super::read::entry_in;
@@ -89,7 +92,7 @@ pub(crate) fn check_header(file: &[u8]) -> Checked
     if !counted(file) {
         return Checked::Refused(Refusal::NodeCount);
     }
-    if file.len() < 8 + node_count(file) * 8 {
+    if file.len() < HEADER_BYTES + node_count(file) * ROW_BYTES {
         return Checked::Refused(Refusal::ShortFile);
     }
     Checked::Accepted
@@ -100,7 +103,7 @@ fn placed_at(file: &[u8], row: usize, required: usize) -> bool
     requires { ⌜ bodiesStart (row + 1) ≤ length (now file) ⌝ }
     ensures { λ a. ⌜ a ≡ eqb (offsetAt (now (file .entry)) row) required ⌝ }
 {
-    word_at(file, 8 + row * 8 + 4) as usize == required
+    word_at(file, HEADER_BYTES + row * ROW_BYTES + 4) as usize == required
 }
 
 // Checks each row (4) and its offset (5), then that the file ends with the last body (6).
@@ -109,7 +112,7 @@ pub(crate) fn check_layout(file: &[u8], nodes: usize) -> Checked
     ensures { λ a. ⌜ outcome a ≡ layoutCheck (now (file .entry)) 0 0 (bodiesStart nodes) (rowsFrom (now (file .entry)) 0 nodes) ⌝ }
 {
     let mut least: u32 = 0;
-    let mut required: usize = 8 + nodes * 8;
+    let mut required: usize = HEADER_BYTES + nodes * ROW_BYTES;
     let mut row: usize = 0;
     while row < nodes {
         let r = row_at(file, row);
@@ -122,7 +125,7 @@ pub(crate) fn check_layout(file: &[u8], nodes: usize) -> Checked
             return Checked::Refused(Refusal::Offset { row });
         }
         least = r.number as u32 + 1;
-        required += r.count as usize * 20;
+        required += r.count as usize * ENTRY_BYTES;
         row += 1;
     }
     if file.len() != required {
@@ -158,7 +161,7 @@ pub(crate) fn check_bodies(file: &[u8], nodes: usize) -> Checked
         nodesCheck 0 (rowsFrom (now (file .entry)) 0 nodes)
         (entriesAt (now (file .entry)) (bodiesStart nodes) (entryCount (rowsFrom (now (file .entry)) 0 nodes))) ⌝ }
 {
-    let mut start: usize = 8 + nodes * 8;
+    let mut start: usize = HEADER_BYTES + nodes * ROW_BYTES;
     let mut row: usize = 0;
     while row < nodes {
         let r = row_at(file, row);
@@ -167,7 +170,7 @@ pub(crate) fn check_bodies(file: &[u8], nodes: usize) -> Checked
         let Checked::Accepted = found else {
             return found;
         };
-        start += count * 20;
+        start += count * ENTRY_BYTES;
         row += 1;
     }
     Checked::Accepted

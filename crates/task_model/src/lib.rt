@@ -3,7 +3,8 @@ ghost use mathlib.Core.Path.{_≡_};
 ghost use Prim.Native.Nat.{_<_, _≤_};
 ghost use Rattle.task_model.specs.Refusals.{outcome, at, numbered, numbersIn};
 ghost use Rattle.task_model.specs.Checks.{kindTest, timesTest, entryCheck, entriesCheck, nodeCheck};
-ghost use Rattle.task_model.specs.Words.{entryOf, entriesOf, nodeOf};
+ghost use Rattle.task_model.specs.Words.{entryFrom, entryOf, entriesOf, nodeOf};
+ghost use mathlib.Core.List.{[], _∷_};
 
 // The longest period and the longest blocking, in ticks.
 pub const MOST_TICKS: u32 = 1000000000;
@@ -130,22 +131,34 @@ pub fn check_entry(row: usize, position: usize, e: Entry) -> Checked
     Checked::Accepted
 }
 
+// The entry that five words hold: number, kind and calls in the first, then C, T, D and B.
+pub fn entry_with(head: u32, wcet: u32, period: u32, deadline: u32, blocking: u32) -> Entry
+    ensures { λ e. ⌜ e ≡ entryFrom (head ∷ wcet ∷ period ∷ deadline ∷ blocking ∷ []) 0 ⌝ }
+{
+    Entry {
+        number: (head % 65536) as u16,
+        kind: (head / 65536 % 256) as u8,
+        calls: (head / 16777216 % 256) as u8,
+        wcet,
+        period,
+        deadline,
+        blocking,
+    }
+}
+
 // The entry at a position of a node's words.
 pub fn entry_at(words: &[u32; 320], position: usize) -> Entry
     requires { ⌜ position < 64 ⌝ }
     ensures { λ e. ⌜ e ≡ entryOf (now (words .entry)) position ⌝ }
 {
     let k = position * 5;
-    let head = words[k];
-    Entry {
-        number: (head % 65536) as u16,
-        kind: (head / 65536 % 256) as u8,
-        calls: (head / 16777216 % 256) as u8,
-        wcet: words[k + 1],
-        period: words[k + 2],
-        deadline: words[k + 3],
-        blocking: words[k + 4],
-    }
+    entry_with(
+        words[k],
+        words[k + 1],
+        words[k + 2],
+        words[k + 3],
+        words[k + 4],
+    )
 }
 
 // Accepts entries that are all within the limits; refuses the first that is not.
