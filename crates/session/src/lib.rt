@@ -1,14 +1,14 @@
 // The session: one node, changed entry by entry until it maps.
-mod check;
+mod checks;
 mod list;
 
-use check::check_insert;
-use check::check_levels;
-use check::check_remove;
-use check::check_replace;
-use check::check_session;
-use check::check_set_levels;
-use check::check_time;
+use checks::check_insert;
+use checks::check_levels;
+use checks::check_remove;
+use checks::check_replace;
+use checks::check_session;
+use checks::check_set_levels;
+use checks::check_time;
 use completion::Timing;
 use completion::completion_test;
 use list::insert_at;

@@ -7,8 +7,8 @@ use Rattle.session.specs.State.{nodeIn}
 use Rattle.session.specs.Operations.{timing, lentCheck}
 use Rattle.session.proofs.Checking.{lent-stops, lent-goes-on, time-before, time-after, time-outside, time-inside}
 use borrow.Author.Needs.{needs}
-use Rattle.session.proofs.check.check_time.Statement.{statement}
-use Rattle.session.proofs.check.check_time.Tie as tie
+use Rattle.session.proofs.checks.check_time.Statement.{statement}
+use Rattle.session.proofs.checks.check_time.Tie as tie
 
 -- the session is one that may be lent
 sound : (c : tie.After-enum-told) → nodeCheck 0 (nodeIn (c .before .before .before .args .s)) ≡ accepted

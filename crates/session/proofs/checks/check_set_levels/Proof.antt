@@ -5,8 +5,8 @@ use Rattle.session.specs.State.{nodeIn}
 use Rattle.session.specs.Operations.{settingLevels, operationCheck, lentCheck}
 use Rattle.session.proofs.Checking.{lent-stops, lent-goes-on}
 use borrow.Author.Needs.{needs}
-use Rattle.session.proofs.check.check_set_levels.Statement.{statement}
-use Rattle.session.proofs.check.check_set_levels.Tie as tie
+use Rattle.session.proofs.checks.check_set_levels.Statement.{statement}
+use Rattle.session.proofs.checks.check_set_levels.Tie as tie
 
 -- the session is one that may be lent
 sound : (c : tie.After-enum-told) → nodeCheck 0 (nodeIn (c .before .before .before .args .s)) ≡ accepted

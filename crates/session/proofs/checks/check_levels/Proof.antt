@@ -1,7 +1,7 @@
 use mathlib.Core.Path.{sym}
 use Rattle.session.proofs.Checking.{levels-low, levels-high, levels-within}
-use Rattle.session.proofs.check.check_levels.Statement.{statement}
-use Rattle.session.proofs.check.check_levels.Tie as tie
+use Rattle.session.proofs.checks.check_levels.Statement.{statement}
+use Rattle.session.proofs.checks.check_levels.Tie as tie
 
 returns : tie.Need-returns
 returns c = sym (levels-low _ (c .if1 .taken))

@@ -7,8 +7,8 @@ use Rattle.session.specs.State.{nodeIn}
 use Rattle.session.specs.Operations.{inserting, lentCheck}
 use Rattle.session.proofs.Checking.{lent-stops, lent-goes-on, insert-outside, insert-full, insert-entry}
 use borrow.Author.Needs.{needs}
-use Rattle.session.proofs.check.check_insert.Statement.{statement}
-use Rattle.session.proofs.check.check_insert.Tie as tie
+use Rattle.session.proofs.checks.check_insert.Statement.{statement}
+use Rattle.session.proofs.checks.check_insert.Tie as tie
 
 -- the session is one that may be lent
 sound : (c : tie.After-enum-told) → nodeCheck 0 (nodeIn (c .before .before .before .args .s)) ≡ accepted

@@ -3,8 +3,8 @@ use Rattle.task_model.specs.Refusals.{outcome}
 use Rattle.session.proofs.Checking.{replace-step}
 use Rattle.plan_file.proofs.Outcomes.{then-refused, then-accepted}
 use borrow.Author.Needs.{needs}
-use Rattle.session.proofs.check.check_replace.Statement.{statement}
-use Rattle.session.proofs.check.check_replace.Tie as tie
+use Rattle.session.proofs.checks.check_replace.Statement.{statement}
+use Rattle.session.proofs.checks.check_replace.Tie as tie
 
 check-remove-requires : tie.Need-check-remove-requires
 check-remove-requires c κs = search needs

@@ -7,8 +7,8 @@ use Rattle.session.specs.State.{nodeIn}
 use Rattle.session.specs.Operations.{removing, lentCheck}
 use Rattle.session.proofs.Checking.{lent-stops, lent-goes-on, remove-outside, remove-inside}
 use borrow.Author.Needs.{needs}
-use Rattle.session.proofs.check.check_remove.Statement.{statement}
-use Rattle.session.proofs.check.check_remove.Tie as tie
+use Rattle.session.proofs.checks.check_remove.Statement.{statement}
+use Rattle.session.proofs.checks.check_remove.Tie as tie
 
 -- the session is one that may be lent
 sound : (c : tie.After-enum-told) → nodeCheck 0 (nodeIn (c .before .before .before .args .s)) ≡ accepted

@@ -2,8 +2,8 @@ use mathlib.Core.Path.{sym}
 use native.Mathlib.Omega.{arith}
 use Rattle.task_model.proofs.Laws.{node-sizes}
 use borrow.Author.Needs.{needs}
-use Rattle.session.proofs.check.check_session.Statement.{statement}
-use Rattle.session.proofs.check.check_session.Tie as tie
+use Rattle.session.proofs.checks.check_session.Statement.{statement}
+use Rattle.session.proofs.checks.check_session.Tie as tie
 
 returns : tie.Need-returns
 returns c = sym (node-sizes _ _ (λ h1 h2 h3. omega arith))
