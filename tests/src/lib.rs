@@ -8,12 +8,17 @@
 //!   [`timing`] and [`assignments`] are what their answers are made of.
 //! - [`cases`] has the paper's own nodes, [`gen`] generated ones, with
 //!   [`options`] for the seed and the size of a run.
+//! - [`ffi`] calls the proved library, with [`words`] as it takes plans, and
+//!   [`compare`] holds its answers against those of this one.
 
 #![deny(unsafe_code)]
 #![warn(missing_docs)]
 
 pub mod assignments;
 pub mod cases;
+pub mod compare;
+#[allow(unsafe_code)]
+pub mod ffi;
 pub mod file;
 pub mod gen;
 pub mod limits;
@@ -21,8 +26,10 @@ pub mod listing;
 pub mod map;
 pub mod model;
 pub mod options;
+pub mod programs;
 pub mod refusal;
 pub mod rng;
 pub mod session;
 pub mod tally;
 pub mod timing;
+pub mod words;

@@ -1,0 +1,59 @@
+use mathlib.Core.Path.{_∙_, ap, sym}
+use Rattle.planner.specs.Mapping.{answer}
+use Rattle.planner_c.specs.Returned.{levelled}
+use borrow.Author.Needs.{needs}
+use Rattle.planner_c.proofs.maiplur_map.Statement.{statement}
+use Rattle.planner_c.proofs.maiplur_map.Tie as tie
+
+map-node-requires : tie.Need-map-node-requires
+map-node-requires c κs = search needs
+
+enum-known-mapped : tie.Need-enum-known-mapped
+enum-known-mapped c = search needs
+
+cast-give : tie.Need-cast-give
+cast-give c = search needs
+
+give-requires : tie.Need-give-requires
+give-requires c κs = search needs
+
+enum-known-mapped-2 : tie.Need-enum-known-mapped-2
+enum-known-mapped-2 c = search needs
+
+refuse-requires : tie.Need-refuse-requires
+refuse-requires c κs = search needs
+
+same-length : tie.Need-same-length
+same-length c = search needs
+
+returns : tie.Need-returns
+returns c =
+    let e = c .before .before .before .before .before .before .before .map-node .ensures in (
+      c .give .ensures ∙ ap levelled (sym (ap answer (c .before .before .before .mapped .given .1)) ∙ e .0),
+      (e .1 .0, rw (e .0) at (e .1 .1)),
+    )
+
+same-length-2 : tie.Need-same-length-2
+same-length-2 c = search needs
+
+returns-2 : tie.Need-returns-2
+returns-2 c =
+    let e = c .before .before .before .before .before .before .before .map-node .ensures in (
+      c .refuse .ensures ∙ ap levelled (sym (ap answer (c .before .before .before .mapped2 .given .1)) ∙ e .0),
+      (e .1 .0, rw (e .0) at (e .1 .1)),
+    )
+
+pub maiplur-map-spec : {M : Type 1} → statement M
+maiplur-map-spec =
+    tie.close
+    (tie.spec
+    map-node-requires
+    enum-known-mapped
+    cast-give
+    give-requires
+    enum-known-mapped-2
+    refuse-requires
+    same-length
+    returns
+    same-length-2
+    returns-2)

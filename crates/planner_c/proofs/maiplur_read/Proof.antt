@@ -1,0 +1,63 @@
+use mathlib.Core.Path.{_∙_, ap, sym}
+use Rattle.plan_file.specs.Answers.{readGives}
+use Rattle.planner_c.specs.Returned.{filled}
+use borrow.Author.Needs.{needs}
+use Rattle.planner_c.proofs.maiplur_read.Statement.{statement}
+use Rattle.planner_c.proofs.maiplur_read.Tie as tie
+
+read-plan-requires : tie.Need-read-plan-requires
+read-plan-requires c κs = search needs
+
+enum-known-read : tie.Need-enum-known-read
+enum-known-read c = search needs
+
+give-requires : tie.Need-give-requires
+give-requires c κs = search needs
+
+enum-known-read-2 : tie.Need-enum-known-read-2
+enum-known-read-2 c = search needs
+
+refuse-requires : tie.Need-refuse-requires
+refuse-requires c κs = search needs
+
+same-length : tie.Need-same-length
+same-length c = search needs
+
+same-length-2 : tie.Need-same-length-2
+same-length-2 c = search needs
+
+returns : tie.Need-returns
+returns c =
+    let e = c .before .before .before .before .before .before .before .before .before .read-plan .ensures in (
+      c .give .ensures ∙ ap filled (sym (ap readGives (c .before .before .before .read .given .1)) ∙ e .0),
+      (rw (e .0) at (e .1 .0), rw (e .0) at (e .1 .1)),
+    )
+
+same-length-3 : tie.Need-same-length-3
+same-length-3 c = search needs
+
+same-length-4 : tie.Need-same-length-4
+same-length-4 c = search needs
+
+returns-2 : tie.Need-returns-2
+returns-2 c =
+    let e = c .before .before .before .before .before .before .before .before .before .read-plan .ensures in (
+      c .refuse .ensures ∙ ap filled (sym (ap readGives (c .before .before .before .read2 .given .1)) ∙ e .0),
+      (rw (e .0) at (e .1 .0), rw (e .0) at (e .1 .1)),
+    )
+
+pub maiplur-read-spec : {M : Type 1} → statement M
+maiplur-read-spec =
+    tie.close
+    (tie.spec
+    read-plan-requires
+    enum-known-read
+    give-requires
+    enum-known-read-2
+    refuse-requires
+    same-length
+    same-length-2
+    returns
+    same-length-3
+    same-length-4
+    returns-2)

@@ -1,0 +1,2 @@
+-- What a reader of the C functions must believe.
+pub mod Returned

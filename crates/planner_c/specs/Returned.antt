@@ -1,0 +1,42 @@
+-- How an answer crosses to C: a number that is returned, and two values that are left in a lent array.
+use Prim.Native.Nat.{ℕ}
+use mathlib.Core.List.{List, [], _∷_}
+use Rattle.task_model.specs.Refusals.{Numbered, Outcome, accepted, refused}
+use Rattle.plan_file.specs.Answers.{Answer, gives, refuses, Sizes}
+use Rattle.level_map.specs.Answer as map
+
+-- The number that is returned, and the values as the call leaves them.
+pub record Returned : Type 0 where
+  pub number : ℕ
+  pub values : List ℕ
+
+abbrev pub returned : ℕ → List ℕ → Returned
+returned number values = record { number = number; values = values }
+
+-- A refused call: the refusal's number, and the row and the entry position as values.
+abbrev pub back : Numbered → Returned
+back r = returned (r .number) (r .row ∷ r .entry ∷ [])
+
+-- Any other call: number 0, and what is given as values.
+abbrev pub given : ℕ → ℕ → Returned
+given first second = returned 0 (first ∷ second ∷ [])
+
+-- A check gives nothing.
+abbrev pub checked : Outcome → Returned
+checked accepted = given 0 0
+checked (refused r) = back r
+
+-- The reader gives how many rows and how many entries it filled.
+abbrev pub filled : Answer Sizes → Returned
+filled (gives s) = given (s .rows) (s .entries)
+filled (refuses r) = back r
+
+-- The writer and the listing give a length.
+abbrev pub sized : Answer ℕ → Returned
+sized (gives n) = given n 0
+sized (refuses r) = back r
+
+-- The mapper gives the number of levels that the map uses.
+abbrev pub levelled : map.Answer → Returned
+levelled (map.mapped n) = given n 0
+levelled (map.refused r) = back r

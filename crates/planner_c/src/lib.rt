@@ -1,0 +1,146 @@
+// The planner for C and Rust programs. A slice crosses as a pointer and a length, an array as a pointer.
+//
+// Each function returns a refusal's number, or 0, and leaves two values in `values`: the row and the entry position of
+// the refusal, or what the call gives (specs/Returned.antt). The other lent buffers are untouched where it refuses.
+ghost use mathlib.Core.Path.{_≡_};
+ghost use mathlib.Core.List.{map};
+ghost use lib.ListN.{length};
+ghost use Prim.Native.Nat.{_≤_};
+ghost use Rattle.task_model.specs.Refusals.{numbered, accepted};
+ghost use Rattle.plan_file.specs.Answers.{left, readAnswer, writeAnswer};
+ghost use Rattle.plan_file.specs.Check.{fileCheck};
+ghost use Rattle.plan_file.specs.Decoding.{planIn};
+ghost use Rattle.plan_file.specs.Encoding.{encoding};
+ghost use Rattle.plan_file.specs.Find.{findCheck, nodeFound};
+ghost use Rattle.plan_file.specs.Plan.{rowWord, wordsOf, planOf};
+ghost use Rattle.planner.specs.Mapping.{fileAnswer, fileBuffer, NodeDemand3};
+ghost use Rattle.listing.specs.Listing.{listing, listAnswer};
+ghost use Rattle.planner_c.specs.Returned.{returned, back, given, checked, filled, sized, levelled};
+use listing::Listed;
+use plan_file::ReadPlan;
+use plan_file::Written;
+use planner::MappedNode;
+use task_model::Checked;
+use task_model::Refusal;
+
+fn refuse(r: Refusal, values: &mut [usize; 2]) -> u32
+    ensures { λ a. ⌜ returned a (now (values .exit)) ≡ back (numbered r) ⌝ }
+{
+    let n = task_model::numbers_of(r);
+    *values = [n.row, n.entry];
+    n.number as u32
+}
+
+fn give(first: usize, second: usize, values: &mut [usize; 2]) -> u32
+    ensures { λ a. ⌜ returned a (now (values .exit)) ≡ given first second ⌝ }
+{
+    *values = [first, second];
+    0
+}
+
+// Accepts a plan file, or refuses it.
+#[no_mangle]
+pub extern "C" fn maiplur_check(file: &[u8], values: &mut [usize; 2]) -> u32
+    ensures { λ a. ⌜ returned a (now (values .exit)) ≡ checked (fileCheck (now (file .entry))) ⌝ }
+{
+    let found = plan_file::check_file(file);
+    match found {
+        Checked::Accepted => give(0, 0, values),
+        Checked::Refused(r) => refuse(r, values),
+    }
+}
+
+// Reads a file's plan into buffers: a word for each row, five for each entry. Gives how many rows and entries.
+#[no_mangle]
+pub extern "C" fn maiplur_read(
+    file: &[u8],
+    rows: &mut [u32],
+    entries: &mut [u32],
+    values: &mut [usize; 2],
+) -> u32
+    ensures { λ a.
+        ⌜ returned a (now (values .exit)) ≡
+        filled (readAnswer (now (file .entry)) (length (now (rows .entry))) (length (now (entries .entry)))) ⌝ }
+    ensures { λ a.
+        ⌜ now (rows .exit) ≡
+        left (readAnswer (now (file .entry)) (length (now (rows .entry))) (length (now (entries .entry))))
+        (map rowWord (planIn (now (file .entry)) .rows)) (now (rows .entry)) ⌝ }
+    ensures { λ a.
+        ⌜ now (entries .exit) ≡
+        left (readAnswer (now (file .entry)) (length (now (rows .entry))) (length (now (entries .entry))))
+        (wordsOf (planIn (now (file .entry)) .entries)) (now (entries .entry)) ⌝ }
+{
+    let read = plan_file::read_plan(file, rows, entries);
+    match read {
+        ReadPlan::Filled {
+            rows: nodes,
+            entries: count,
+        } => give(nodes, count, values),
+        ReadPlan::Refused(r) => refuse(r, values),
+    }
+}
+
+// Writes a plan as a file from the buffer's start. Gives the file's length.
+#[no_mangle]
+pub extern "C" fn maiplur_write(
+    rows: &[u32],
+    entries: &[u32],
+    file: &mut [u8],
+    values: &mut [usize; 2],
+) -> u32
+    ensures { λ a.
+        ⌜ returned a (now (values .exit)) ≡
+        sized (writeAnswer (now (rows .entry)) (now (entries .entry)) (length (now (file .entry)))) ⌝ }
+    ensures { λ a.
+        ⌜ now (file .exit) ≡
+        left (writeAnswer (now (rows .entry)) (now (entries .entry)) (length (now (file .entry))))
+        (encoding (planOf (now (rows .entry)) (now (entries .entry)))) (now (file .entry)) ⌝ }
+{
+    let written = plan_file::write_plan(rows, entries, file);
+    match written {
+        Written::Length(n) => give(n, 0, values),
+        Written::Refused(r) => refuse(r, values),
+    }
+}
+
+// Maps the node with a number of a plan file, one byte an entry from the buffer's start. Gives the levels used.
+#[no_mangle]
+pub extern "C" fn maiplur_map(
+    file: &[u8],
+    number: u16,
+    levels: &mut [u8],
+    values: &mut [usize; 2],
+) -> u32
+    ensures { λ a.
+        ⌜ returned a (now (values .exit)) ≡
+        levelled (fileAnswer (now (file .entry)) number (length (now (levels .entry)))) ⌝ }
+    ensures { λ a. ⌜ now (levels .exit) ≡ fileBuffer (now (file .entry)) number (now (levels .entry)) ⌝ }
+    ensures { λ a.
+        ⌜ (findCheck (now (file .entry)) number ≡ accepted →
+        NodeDemand3 (nodeFound (now (file .entry)) number) (now (levels .entry))
+        (fileAnswer (now (file .entry)) number (length (now (levels .entry)))) (now (levels .exit))) ⌝ }
+{
+    let mapped = planner::map_node(file, number, levels);
+    match mapped {
+        MappedNode::Levels(used) => give(used as usize, 0, values),
+        MappedNode::Refused(r) => refuse(r, values),
+    }
+}
+
+// Lists a plan file, or the one line that it is refused with, from the buffer's start. Gives the text's length.
+#[no_mangle]
+pub extern "C" fn maiplur_list(file: &[u8], text: &mut [u8], values: &mut [usize; 2]) -> u32
+    ensures { λ a.
+        ⌜ returned a (now (values .exit)) ≡ sized (listAnswer (now (file .entry)) (length (now (text .entry)))) ⌝ }
+    ensures { λ a.
+        ⌜ now (text .exit) ≡
+        left (listAnswer (now (file .entry)) (length (now (text .entry)))) (listing (now (file .entry)))
+        (now (text .entry)) ⌝ }
+    ensures { λ a. ⌜ length (listing (now (file .entry))) ≤ 115625 ⌝ }
+{
+    let listed = listing::list_plan(file, text);
+    match listed {
+        Listed::Text(n) => give(n, 0, values),
+        Listed::Refused(r) => refuse(r, values),
+    }
+}

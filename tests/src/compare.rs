@@ -1,0 +1,155 @@
+//! Holds each answer of the proved library against the second
+//! implementation's, with what both leave in lent buffers.
+//!
+//! Each buffer is lent with known contents, so that a byte written beyond the
+//! result, or by a refused call, is a difference.
+
+use crate::ffi;
+use crate::file;
+use crate::gen::budget;
+use crate::gen::buffers::known;
+use crate::listing;
+use crate::map::map_node;
+use crate::model::{Entry, Plan, Row};
+use crate::refusal::{Refusal, BUFFER};
+use crate::tally::Tally;
+use crate::words::{self, ENTRY_WORDS};
+
+/// Room for a result of `needed`: none, one too short, exact, and too long.
+pub fn rooms(needed: usize) -> [usize; 4] {
+    [0, needed.saturating_sub(1), needed, needed + 9]
+}
+
+/// The check of a file.
+pub fn check(tally: &mut Tally, file: &[u8]) -> Result<(), Refusal> {
+    let due = tally.note(file::check(file));
+    assert_eq!(ffi::check(file), due, "check of {}", hex(file));
+    due
+}
+
+/// Reading a file into so many words for rows and for entries.
+pub fn read(tally: &mut Tally, file: &[u8], row_room: usize, word_room: usize) {
+    let mut due_rows = vec![Row::default(); row_room];
+    let mut due_entries = vec![Entry::default(); word_room / ENTRY_WORDS];
+    let due = tally.note(file::read(file, &mut due_rows, &mut due_entries));
+    let (row_count, entry_count) = due.unwrap_or((0, 0));
+    let (mut rows, mut entries) = (words::known(row_room), words::known(word_room));
+    let answer = ffi::read(file, &mut rows, &mut entries);
+    let lent = || format!("{row_room}, {word_room} words: read of {}", hex(file));
+    assert_eq!(answer, due, "{}", lent());
+    let kept = begun(
+        words::of_rows(&due_rows[..row_count]),
+        words::known(row_room),
+    );
+    assert_eq!(rows, kept, "{}", lent());
+    let kept = begun(
+        words::of_entries(&due_entries[..entry_count]),
+        words::known(word_room),
+    );
+    assert_eq!(entries, kept, "{}", lent());
+}
+
+/// Writing rows and entries into so many bytes.
+pub fn write(tally: &mut Tally, rows: &[Row], entries: &[Entry], room: usize) {
+    let mut due_buffer = known(room);
+    let due = tally.note(file::write(rows, entries, &mut due_buffer));
+    let mut buffer = known(room);
+    let answer = ffi::write(
+        &words::of_rows(rows),
+        &words::of_entries(entries),
+        &mut buffer,
+    );
+    assert_eq!(answer, due, "{room} bytes: {rows:?} {entries:?}");
+    assert_eq!(buffer, due_buffer, "{room} bytes: {rows:?} {entries:?}");
+}
+
+/// Mapping the node with a number into so many bytes.
+pub fn map(tally: &mut Tally, file: &[u8], number: u16, room: usize) {
+    let mut due_buffer = known(room);
+    let due = tally.note(map_node(file, u64::from(number), &mut due_buffer));
+    let mut buffer = known(room);
+    let answer = ffi::map(file, number, &mut buffer);
+    let lent = || format!("{room} bytes: map of {number} in {}", hex(file));
+    assert_eq!(answer, due.map(usize::from), "{}", lent());
+    assert_eq!(buffer, due_buffer, "{}", lent());
+}
+
+/// The listing of a file into buffers of every kind of length.
+pub fn list(tally: &mut Tally, file: &[u8]) {
+    let text = listing::list(file).into_bytes();
+    for room in rooms(text.len()) {
+        let due = tally.note(match text.len() <= room {
+            true => Ok(text.len()),
+            false => Err(Refusal::plain(BUFFER)),
+        });
+        let mut buffer = known(room);
+        let answer = ffi::list(file, &mut buffer);
+        let lent = || format!("{room} bytes: listing of {}", hex(file));
+        assert_eq!(answer, due, "{}", lent());
+        let written = if due.is_ok() {
+            text.clone()
+        } else {
+            Vec::new()
+        };
+        assert_eq!(buffer, begun(written, known(room)), "{}", lent());
+    }
+}
+
+/// Every call that takes a file, on any bytes.
+///
+/// A plan whose tests would take long is neither mapped nor listed.
+pub fn file(tally: &mut Tally, bytes: &[u8]) {
+    match check(tally, bytes) {
+        Ok(()) => plan(
+            tally,
+            &file::decode(bytes).expect("the file was accepted"),
+            bytes,
+        ),
+        Err(_) => refused_file(tally, bytes),
+    }
+}
+
+/// A refused file is refused alike by every call, whatever the buffers.
+fn refused_file(tally: &mut Tally, bytes: &[u8]) {
+    read(tally, bytes, 0, 0);
+    read(tally, bytes, 8, 64);
+    for (number, room) in [(7, 0), (7, 64), (0, 3)] {
+        map(tally, bytes, number, room);
+    }
+    list(tally, bytes);
+}
+
+/// Every call on the file of a plan and on the plan itself.
+fn plan(tally: &mut Tally, plan: &Plan, bytes: &[u8]) {
+    let (rows, entries) = (plan.rows(), plan.entries());
+    for row_room in rooms(rows.len()) {
+        read(tally, bytes, row_room, entries.len() * ENTRY_WORDS);
+    }
+    for word_room in rooms(entries.len() * ENTRY_WORDS) {
+        read(tally, bytes, rows.len(), word_room);
+    }
+    for room in rooms(bytes.len()) {
+        write(tally, &rows, &entries, room);
+    }
+    if !plan.nodes.iter().all(|node| budget::fits(&node.entries)) {
+        return;
+    }
+    for node in &plan.nodes {
+        for room in rooms(node.entries.len()) {
+            map(tally, bytes, node.number, room);
+        }
+        map(tally, bytes, node.number ^ 0x8000, 64);
+        map(tally, bytes, node.number.wrapping_add(1), 64);
+    }
+    list(tally, bytes);
+}
+
+/// What is written from the start, and what was there beyond.
+fn begun<T: Clone>(written: Vec<T>, before: Vec<T>) -> Vec<T> {
+    let beyond = before[written.len()..].to_vec();
+    [written, beyond].concat()
+}
+
+fn hex(bytes: &[u8]) -> String {
+    bytes.iter().map(|byte| format!("{byte:02x}")).collect()
+}

@@ -1,0 +1,45 @@
+//! Rows and entries as the C functions take them: words of 32 bits.
+
+use crate::model::{Entry, Row};
+
+/// Words of one entry.
+pub const ENTRY_WORDS: usize = 5;
+
+/// A row: number, levels and entry count from the low bits up.
+pub fn row_word(row: &Row) -> u32 {
+    packed(row.number, row.levels, row.entries)
+}
+
+/// An entry: number, kind and r, then C, T, D and B.
+pub fn entry_words(entry: &Entry) -> [u32; ENTRY_WORDS] {
+    let ticks =
+        |value: u64| u32::try_from(value).expect("a word has no room for ticks above 2^32 - 1");
+    [
+        packed(entry.number, entry.kind, entry.r),
+        ticks(entry.c),
+        ticks(entry.t),
+        ticks(entry.d),
+        ticks(entry.b),
+    ]
+}
+
+/// A word for each row.
+pub fn of_rows(rows: &[Row]) -> Vec<u32> {
+    rows.iter().map(row_word).collect()
+}
+
+/// Five words for each entry.
+pub fn of_entries(entries: &[Entry]) -> Vec<u32> {
+    entries.iter().flat_map(entry_words).collect()
+}
+
+/// Words that differ from their neighbours, to show what a call has kept.
+pub fn known(length: usize) -> Vec<u32> {
+    (0..length)
+        .map(|at| (at as u32).wrapping_mul(0x9E37_79B9) ^ 0xA5A5_A5A5)
+        .collect()
+}
+
+fn packed(number: u16, low: u8, high: u8) -> u32 {
+    u32::from(number) | u32::from(low) << 16 | u32::from(high) << 24
+}

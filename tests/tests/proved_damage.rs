@@ -1,0 +1,140 @@
+//! The proved library on damaged files: each call refuses them as the second
+//! implementation does, as is due, and leaves every buffer as it was.
+
+use oracle::cases;
+use oracle::compare;
+use oracle::file::encode;
+use oracle::gen::damage::{byte_changes, damage, truncations, Aim, AIMS};
+use oracle::gen::plans;
+use oracle::model::{Entry, Plan};
+use oracle::options::{rng, times};
+use oracle::rng::Rng;
+use oracle::tally::Tally;
+use std::io::Write;
+
+fn say(name: &str, tally: &Tally) {
+    // Written past the harness, which keeps what passing tests print.
+    writeln!(std::io::stdout(), "\n{name}: {tally}").expect("output is open");
+}
+
+fn assert_due(rng: &mut Rng, tally: &mut Tally, aims: &[Aim], count: u64) {
+    for _ in 0..count {
+        let plan = plans::filled(rng);
+        let damaged = damage(rng, &plan, aims);
+        let answer = oracle::ffi::check(&damaged.file);
+        assert_eq!(answer, Err(damaged.due), "{aims:?} in {plan:?}");
+        compare::file(tally, &damaged.file);
+    }
+}
+
+#[test]
+fn one_fault() {
+    let (mut rng, mut tally) = (rng(210), Tally::default());
+    for aim in AIMS {
+        assert_due(&mut rng, &mut tally, &[aim], times(300));
+    }
+    say("one fault", &tally);
+    for number in 1..=8 {
+        assert!(tally.met(number) >= times(300), "{number}: {tally}");
+    }
+}
+
+#[test]
+fn two_faults_in_each_order() {
+    let (mut rng, mut tally) = (rng(211), Tally::default());
+    for a in AIMS {
+        for b in AIMS {
+            assert_due(&mut rng, &mut tally, &[a, b], times(60));
+        }
+    }
+    say("two faults", &tally);
+}
+
+#[test]
+fn three_faults_in_each_order() {
+    let (mut rng, mut tally) = (rng(212), Tally::default());
+    for a in AIMS {
+        for b in AIMS {
+            for c in AIMS {
+                assert_due(&mut rng, &mut tally, &[a, b, c], times(20));
+            }
+        }
+    }
+    say("three faults", &tally);
+}
+
+#[test]
+fn truncated_at_every_length() {
+    let (mut rng, mut tally) = (rng(213), Tally::default());
+    for draw in [
+        plans::small,
+        plans::wide,
+        plans::station,
+        plans::full_node,
+        plans::many_nodes,
+    ] {
+        for _ in 0..times(5) {
+            let file = encode(&draw(&mut rng)).unwrap();
+            for cut in truncations(&file) {
+                compare::file(&mut tally, cut);
+            }
+        }
+    }
+    say("truncated", &tally);
+}
+
+/// Case P with a second, empty node and a third with a section.
+fn three_nodes() -> Plan {
+    let section = Entry {
+        kind: 2,
+        ..Entry::task(9, 3, 300, 200).blocked(5)
+    };
+    let mut nodes = vec![cases::p(), cases::e(), cases::node(1, &[section])];
+    nodes[1].number = 300;
+    nodes[2].number = 301;
+    Plan { nodes }
+}
+
+#[test]
+fn one_byte_changed_at_every_place_to_every_value() {
+    let mut tally = Tally::default();
+    let p = cases::file(cases::p());
+    for file in [p, encode(&three_nodes()).unwrap()] {
+        for (_, changed) in byte_changes(&file) {
+            compare::file(&mut tally, &changed);
+        }
+    }
+    say("one byte changed", &tally);
+}
+
+#[test]
+fn random_bytes_behind_a_good_head() {
+    let (mut rng, mut tally) = (rng(214), Tally::default());
+    for _ in 0..times(10_000) {
+        let mut file = encode(&plans::small(&mut rng)).unwrap();
+        for _ in 0..rng.range(1, 4) {
+            let at = rng.index(file.len());
+            file[at] = rng.word() as u8;
+        }
+        compare::file(&mut tally, &file);
+    }
+    say("random bytes", &tally);
+}
+
+#[test]
+fn long_files() {
+    let mut tally = Tally::default();
+    for length in [41_224, 41_225, 65_535, 65_536, 65_537, 200_000] {
+        for head in [&b"LMP1"[..], b"LMP2"] {
+            for count in [0, 1, 32, 33] {
+                let mut file = vec![0; length];
+                file[..4].copy_from_slice(head);
+                file[4] = count;
+                compare::file(&mut tally, &file);
+            }
+        }
+        let mut file = cases::file(cases::p());
+        file.resize(length, 0);
+        compare::file(&mut tally, &file);
+    }
+}

@@ -1,0 +1,98 @@
+//! The program by standard input, in pieces.
+
+#![cfg(list_plan)]
+
+use oracle::cases;
+use oracle::file::encode;
+use oracle::gen::damage::{damage, AIMS};
+use oracle::gen::plans;
+use oracle::listing::list;
+use oracle::options::{rng, times};
+use oracle::programs::{root, run};
+use oracle::rng::Rng;
+use std::time::Duration;
+
+/// The file in pieces of up to `most` bytes.
+fn pieces<'a>(rng: &mut Rng, mut file: &'a [u8], most: usize) -> Vec<&'a [u8]> {
+    let mut pieces = Vec::new();
+    while !file.is_empty() {
+        let (piece, rest) = file.split_at(rng.count(1, most.min(file.len())));
+        pieces.push(piece);
+        file = rest;
+    }
+    pieces
+}
+
+fn assert_listed(pieces: &[&[u8]], pause: Duration) {
+    let (text, ended) = run(&root().join("target/bin/list_plan"), pieces, pause);
+    assert!(ended);
+    let due = list(&pieces.concat());
+    assert_eq!(String::from_utf8_lossy(&text), due);
+}
+
+#[test]
+fn generated_plans() {
+    let mut rng = rng(230);
+    for draw in [
+        plans::small,
+        plans::wide,
+        plans::tight,
+        plans::station,
+        plans::full_node,
+        plans::many_nodes,
+        plans::at_limits,
+    ] {
+        for _ in 0..times(20) {
+            let file = encode(&draw(&mut rng)).unwrap();
+            let most = rng.pick(&[7, 100, 100_000]);
+            assert_listed(&pieces(&mut rng, &file, most), Duration::ZERO);
+        }
+    }
+}
+
+#[test]
+fn the_longest_plan() {
+    let mut rng = rng(231);
+    let file = encode(&plans::longest(&mut rng)).unwrap();
+    assert_listed(&pieces(&mut rng, &file, 5_000), Duration::ZERO);
+}
+
+#[test]
+fn damaged_files() {
+    let mut rng = rng(232);
+    for aim in AIMS {
+        for _ in 0..times(10) {
+            let plan = plans::filled(&mut rng);
+            let file = damage(&mut rng, &plan, &[aim]).file;
+            assert_listed(&pieces(&mut rng, &file, 50), Duration::ZERO);
+        }
+    }
+}
+
+#[test]
+fn a_byte_at_a_time() {
+    let file = cases::file(cases::p());
+    let bytes: Vec<&[u8]> = file.chunks(1).collect();
+    assert_listed(&bytes, Duration::from_millis(1));
+    assert_listed(&[], Duration::ZERO);
+}
+
+/// A longer input than 65,536 bytes is refused as 6 if no earlier check
+/// applies.
+#[test]
+fn long_input() {
+    let mut rng = rng(233);
+    for length in [41_224, 41_225, 65_535, 65_536, 65_537, 65_538, 500_000] {
+        let p = cases::file(cases::p());
+        let mut opening = p.clone();
+        opening[0] = 0;
+        let mut offset = p.clone();
+        offset[12] = 17;
+        let mut kind = p.clone();
+        kind[18] = 3;
+        for mut file in [p, opening, offset, kind] {
+            file.resize(length, 0);
+            assert_listed(&pieces(&mut rng, &file, 9_000), Duration::ZERO);
+        }
+    }
+}

@@ -1,0 +1,103 @@
+//! The examples of the table, by name, from the proved library; 12 and 13 are
+//! the session's.
+
+use oracle::cases;
+use oracle::ffi::{check, list, map, write};
+use oracle::file::encode;
+use oracle::model::{Entry, Plan};
+use oracle::refusal::Refusal;
+use oracle::words;
+
+const PLAIN: fn(u8) -> Refusal = Refusal::plain;
+
+/// Case P's file with one byte set.
+fn p_with(at: usize, byte: u8) -> Vec<u8> {
+    let mut file = cases::file(cases::p());
+    file[at] = byte;
+    file
+}
+
+#[test]
+fn example_1_empty_file() {
+    assert_eq!(check(&[]), Err(PLAIN(1)));
+}
+
+#[test]
+fn example_2_first_byte_00() {
+    assert_eq!(check(&p_with(0, 0)), Err(PLAIN(2)));
+}
+
+#[test]
+fn example_3_count_33() {
+    assert_eq!(check(&p_with(4, 33)), Err(PLAIN(3)));
+}
+
+#[test]
+fn example_4_levels_0() {
+    assert_eq!(check(&p_with(10, 0)), Err(Refusal::at_row(4, 0)));
+}
+
+#[test]
+fn example_5_one_node_offset_17() {
+    assert_eq!(check(&p_with(12, 17)), Err(Refusal::at_row(5, 0)));
+}
+
+#[test]
+fn example_6_one_byte_more() {
+    let mut file = cases::file(cases::p());
+    file.push(0);
+    assert_eq!(check(&file), Err(PLAIN(6)));
+}
+
+#[test]
+fn example_7_kind_3() {
+    assert_eq!(check(&p_with(18, 3)), Err(Refusal::at_entry(7, 0, 0)));
+    assert_eq!(check(&p_with(58, 3)), Err(Refusal::at_entry(7, 0, 2)));
+}
+
+#[test]
+fn example_8_c_6_d_5() {
+    let entries = [Entry::task(1, 1, 9, 9), Entry::task(2, 5, 9, 5)];
+    let plan = Plan {
+        nodes: vec![cases::node(1, &entries)],
+    };
+    let mut file = encode(&plan).unwrap();
+    file[16 + 20 + 4] = 6;
+    assert_eq!(check(&file), Err(Refusal::at_entry(8, 0, 1)));
+    let mut entries = words::of_entries(&entries);
+    entries[5 + 1] = 6;
+    let answer = write(&words::of_rows(&plan.rows()), &entries, &mut file);
+    assert_eq!(answer, Err(Refusal::at_entry(8, 0, 1)));
+}
+
+#[test]
+fn example_9_ask_for_8_plan_has_7() {
+    let file = cases::file(cases::p());
+    assert_eq!(map(&file, 8, &mut [0; 3]), Err(PLAIN(9)));
+    let mut levels = [0; 3];
+    assert_eq!(map(&file, 7, &mut levels), Ok(2));
+    assert_eq!(levels, [1, 2, 2]);
+}
+
+#[test]
+fn example_10_three_entries_two_bytes() {
+    let mut buffer = [0xAA; 2];
+    let answer = map(&cases::file(cases::p()), 7, &mut buffer);
+    assert_eq!(answer, Err(PLAIN(10)));
+    assert_eq!(buffer, [0xAA; 2]);
+}
+
+#[test]
+fn example_11_case_f() {
+    let mut buffer = [0xAA; 3];
+    let answer = map(&cases::file(cases::f()), 7, &mut buffer);
+    assert_eq!(answer, Err(PLAIN(11)));
+    assert_eq!(buffer, [0xAA; 3]);
+}
+
+#[test]
+fn listing_of_case_p() {
+    let mut text = [0; 200];
+    let length = list(&cases::file(cases::p()), &mut text).unwrap();
+    assert_eq!(&text[..length], cases::P_LISTING.as_bytes());
+}

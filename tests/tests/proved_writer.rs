@@ -1,0 +1,79 @@
+//! The proved writer on faulty rows and entries.
+
+use oracle::compare;
+use oracle::ffi;
+use oracle::file::{check_parts, encode};
+use oracle::gen::buffers::known;
+use oracle::gen::parts::{damage_parts, PartAim, PART_AIMS};
+use oracle::gen::plans;
+use oracle::options::{rng, times};
+use oracle::refusal::{Refusal, LENGTH};
+use oracle::rng::Rng;
+use oracle::tally::Tally;
+use oracle::words;
+use std::io::Write;
+
+fn assert_due(rng: &mut Rng, tally: &mut Tally, aims: &[PartAim]) {
+    let plan = plans::filled(rng);
+    let parts = damage_parts(rng, &plan, aims);
+    let (rows, entries) = (
+        words::of_rows(&parts.rows),
+        words::of_entries(&parts.entries),
+    );
+    let mut buffer = known(parts.room);
+    let answer = ffi::write(&rows, &entries, &mut buffer);
+    assert_eq!(answer, Err(parts.due), "{aims:?} in {plan:?}");
+    assert_eq!(buffer, known(parts.room));
+    compare::write(tally, &parts.rows, &parts.entries, parts.room);
+}
+
+#[test]
+fn one_to_three_faults() {
+    let (mut rng, mut tally) = (rng(220), Tally::default());
+    for a in PART_AIMS {
+        for b in PART_AIMS {
+            for c in PART_AIMS {
+                for _ in 0..times(30) {
+                    assert_due(&mut rng, &mut tally, &[a, b, c]);
+                }
+            }
+            for _ in 0..times(30) {
+                assert_due(&mut rng, &mut tally, &[a, b]);
+            }
+        }
+        for _ in 0..times(100) {
+            assert_due(&mut rng, &mut tally, &[a]);
+        }
+    }
+    writeln!(std::io::stdout(), "\nthe writer's faults: {tally}").expect("output is open");
+    for number in [3, 4, 6, 7, 8, 10] {
+        assert!(tally.met(number) >= times(100), "{number}: {tally}");
+    }
+}
+
+/// Words that are no whole number of entries are more entries than the rows
+/// count, or fewer; 3 and 4 come first.
+#[test]
+fn a_part_of_an_entry() {
+    let mut rng = rng(221);
+    for _ in 0..times(500) {
+        let plan = plans::filled(&mut rng);
+        let aim = rng.pick(&PART_AIMS);
+        let parts = match rng.chance(1, 2) {
+            true => damage_parts(&mut rng, &plan, &[aim]).rows,
+            false => plan.rows(),
+        };
+        let mut entries = words::of_entries(&plan.entries());
+        let length = entries.len();
+        let given = rng.pick(&[length - 1, length - 4, length + 1, length + 4]);
+        entries.resize(given, 1);
+        let due = match check_parts(&parts, &plan.entries()) {
+            Err(earlier) if earlier.number < LENGTH => earlier,
+            _ => Refusal::plain(LENGTH),
+        };
+        let mut buffer = known(encode(&plan).unwrap().len());
+        let answer = ffi::write(&words::of_rows(&parts), &entries, &mut buffer);
+        assert_eq!(answer, Err(due));
+        assert_eq!(buffer, known(buffer.len()));
+    }
+}
