@@ -9,7 +9,8 @@
 //! - [`cases`] has the paper's own nodes, [`gen`] generated ones, with
 //!   [`options`] for the seed and the size of a run.
 //! - [`ffi`] calls the proved library, with [`words`] as it takes plans, and
-//!   [`compare`] holds its answers against those of this one.
+//!   [`compare`] holds its answers against those of this one. [`plain`] is what
+//!   its speed is measured against.
 
 #![deny(unsafe_code)]
 #![warn(missing_docs)]
@@ -17,6 +18,7 @@
 pub mod assignments;
 pub mod cases;
 pub mod compare;
+pub mod corpus;
 #[allow(unsafe_code)]
 pub mod ffi;
 pub mod file;
@@ -25,7 +27,9 @@ pub mod limits;
 pub mod listing;
 pub mod map;
 pub mod model;
+pub mod mutate;
 pub mod options;
+pub mod plain;
 pub mod programs;
 pub mod refusal;
 pub mod rng;

@@ -1,7 +1,8 @@
 //! How large a run is, and from which seed.
 //!
 //! Unset, a run is the fixed one. `MAIPLUR_SEED` gives another seed and
-//! `MAIPLUR_SCALE` multiplies the number of generated plans.
+//! `MAIPLUR_SCALE` multiplies the number of generated plans. `MAIPLUR_SECONDS`
+//! is the time of a fuzz run.
 
 use crate::rng::Rng;
 
@@ -16,7 +17,8 @@ pub fn times(fixed: u64) -> u64 {
     fixed * setting("MAIPLUR_SCALE", 1)
 }
 
-fn setting(name: &str, unset: u64) -> u64 {
+/// The number in an environment variable, or `unset` where there is none.
+pub fn setting(name: &str, unset: u64) -> u64 {
     match std::env::var(name) {
         Ok(text) => text
             .parse()

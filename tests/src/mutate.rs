@@ -1,0 +1,89 @@
+//! Random changes of files for the fuzz run.
+
+use crate::file::{contents_end, ENTRY_BYTES, HEAD_BYTES, ROW_BYTES};
+use crate::rng::Rng;
+
+/// Numbers about the limits of some field.
+const TELLING: [u32; 14] = [
+    0,
+    1,
+    2,
+    3,
+    15,
+    16,
+    32,
+    33,
+    64,
+    65,
+    255,
+    999_999_999,
+    1_000_000_000,
+    1_000_000_001,
+];
+
+/// The file after a few changes, in half of the draws laid out anew.
+pub fn mutate(rng: &mut Rng, file: &[u8], other: &[u8]) -> Vec<u8> {
+    let mut file = file.to_vec();
+    for _ in 0..rng.range(1, 3) {
+        change(rng, &mut file, other);
+    }
+    if rng.chance(1, 2) {
+        lay_out(&mut file);
+    }
+    file
+}
+
+fn change(rng: &mut Rng, file: &mut Vec<u8>, other: &[u8]) {
+    if file.is_empty() {
+        file.extend_from_slice(other);
+        return;
+    }
+    let at = rng.index(file.len());
+    match rng.below(8) {
+        0 => file[at] = rng.word() as u8,
+        1 => file[at] ^= 1 << rng.below(8),
+        2 => file[at] = rng.pick(&TELLING) as u8,
+        3 => put_word(file, at / 4 * 4, rng.pick(&TELLING)),
+        4 => put_word(file, at / 4 * 4, rng.below(200) as u32),
+        5 => file.truncate(at),
+        6 => {
+            let more = rng.count(1, ENTRY_BYTES);
+            file.resize(file.len() + more, 0);
+        }
+        _ => take_over(rng, file, other),
+    }
+}
+
+fn put_word(file: &mut [u8], at: usize, value: u32) {
+    for (target, byte) in file[at..].iter_mut().zip(value.to_le_bytes()) {
+        *target = byte;
+    }
+}
+
+/// Copies as much as a row or an entry from the other file.
+fn take_over(rng: &mut Rng, file: &mut [u8], other: &[u8]) {
+    if other.is_empty() {
+        return;
+    }
+    let length = rng.pick(&[4, ROW_BYTES, ENTRY_BYTES]);
+    let (to, from) = (rng.index(file.len()), rng.index(other.len()));
+    for (target, byte) in file[to..].iter_mut().zip(&other[from..]).take(length) {
+        *target = *byte;
+    }
+}
+
+/// Makes the offsets and the length fit the counts, so that more of the
+/// changed files get past the contents.
+fn lay_out(file: &mut Vec<u8>) {
+    if file.len() < HEAD_BYTES || file.len() < contents_end(usize::from(file[4])) {
+        return;
+    }
+    let nodes = usize::from(file[4]);
+    let mut offset = contents_end(nodes);
+    for index in 0..nodes {
+        let at = contents_end(index);
+        put_word(file, at + 4, offset as u32);
+        offset += usize::from(file[at + 3].min(64)) * ENTRY_BYTES;
+    }
+    file.resize(offset, 1);
+}

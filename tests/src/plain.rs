@@ -1,0 +1,235 @@
+//! The same work in plain Rust, to measure the proved library against: the
+//! same checks and the same search, with one division a term.
+//!
+//! Written for speed as one would write it by hand, with structs and slices;
+//! nothing here is compared but its time, and that its answers agree.
+
+use std::io::Write;
+
+/// Most entries of a node.
+const MOST: usize = 64;
+/// Largest period and blocking.
+const TICKS: u32 = 1_000_000_000;
+
+/// An entry as the search takes it.
+#[derive(Clone, Copy, Default)]
+struct Entry {
+    number: u16,
+    kind: u8,
+    r: u32,
+    c: u32,
+    t: u32,
+    d: u32,
+    b: u32,
+}
+
+/// A node at hand.
+struct Node {
+    number: u16,
+    levels: u8,
+    count: usize,
+    entries: [Entry; MOST],
+}
+
+fn word(file: &[u8], at: usize) -> u32 {
+    u32::from_le_bytes(file[at..at + 4].try_into().expect("four bytes"))
+}
+
+fn entry(bytes: &[u8]) -> Entry {
+    Entry {
+        number: u16::from_le_bytes([bytes[0], bytes[1]]),
+        kind: bytes[2],
+        r: u32::from(bytes[3]),
+        c: word(bytes, 4),
+        t: word(bytes, 8),
+        d: word(bytes, 12),
+        b: word(bytes, 16),
+    }
+}
+
+fn entry_holds(e: &Entry) -> bool {
+    let kind = match e.kind {
+        1 => e.r <= 15,
+        2 => e.r == 0,
+        _ => false,
+    };
+    kind && 1 <= e.c && e.c <= e.d && e.d <= e.t && e.t <= TICKS && e.b <= TICKS
+}
+
+/// Whether the file is accepted.
+#[inline(never)]
+pub fn check(file: &[u8]) -> bool {
+    if file.len() < 8 || &file[..4] != b"LMP1" {
+        return false;
+    }
+    let nodes = usize::from(file[4]);
+    if !(1..=32).contains(&nodes) || file[5..8] != [0; 3] || file.len() < 8 + nodes * 8 {
+        return false;
+    }
+    let mut least = 0;
+    let mut required = 8 + nodes * 8;
+    for row in file[8..8 + nodes * 8].chunks_exact(8) {
+        let number = u32::from(u16::from_le_bytes([row[0], row[1]]));
+        if number < least || !(1..=64).contains(&row[2]) || row[3] > 64 {
+            return false;
+        }
+        if word(row, 4) as usize != required {
+            return false;
+        }
+        least = number + 1;
+        required += usize::from(row[3]) * 20;
+    }
+    if file.len() != required {
+        return false;
+    }
+    let bodies = &file[8 + nodes * 8..];
+    bodies
+        .chunks_exact(20)
+        .all(|bytes| entry_holds(&entry(bytes)))
+}
+
+/// Reads an accepted file into words, and gives how many rows and entries.
+#[inline(never)]
+pub fn read(file: &[u8], rows: &mut [u32], entries: &mut [u32]) -> Option<(usize, usize)> {
+    if !check(file) {
+        return None;
+    }
+    let nodes = usize::from(file[4]);
+    let bodies = &file[8 + nodes * 8..];
+    if rows.len() < nodes || entries.len() < bodies.len() / 4 {
+        return None;
+    }
+    for (row, bytes) in rows.iter_mut().zip(file[8..8 + nodes * 8].chunks_exact(8)) {
+        *row = word(bytes, 0);
+    }
+    for (target, bytes) in entries.iter_mut().zip(bodies.chunks_exact(4)) {
+        *target = word(bytes, 0);
+    }
+    Some((nodes, bodies.len() / 20))
+}
+
+fn load(file: &[u8], row: usize) -> Node {
+    let at = 8 + row * 8;
+    let mut node = Node {
+        number: u16::from_le_bytes([file[at], file[at + 1]]),
+        levels: file[at + 2],
+        count: usize::from(file[at + 3]),
+        entries: [Entry::default(); MOST],
+    };
+    let body = word(file, at + 4) as usize;
+    for (target, bytes) in node.entries[..node.count]
+        .iter_mut()
+        .zip(file[body..].chunks_exact(20))
+    {
+        *target = entry(bytes);
+    }
+    node
+}
+
+/// The completion time and the rounds of the entry at `i`, in the group from
+/// `first` to `last`.
+fn completion(entries: &[Entry], first: usize, last: usize, i: usize) -> Option<(u32, u32)> {
+    let own = entries[i];
+    let runs: u64 = entries[..=last].iter().map(|e| u64::from(e.c)).sum();
+    let mut t = u64::from(own.b) + runs;
+    let mut rounds = 0;
+    while t <= u64::from(own.d) {
+        let now = t as u32;
+        let mut sum = u64::from(own.c) + u64::from(own.b);
+        for e in &entries[..first] {
+            sum += u64::from(e.c) * u64::from((now + (e.t - 1)) / e.t);
+        }
+        for (j, e) in entries[..=last].iter().enumerate().skip(first) {
+            if j != i {
+                let runs = ((now + (e.t - 1)) / e.t).min(own.r + 1);
+                sum += u64::from(e.c) * u64::from(runs);
+            }
+        }
+        rounds += 1;
+        if sum == t {
+            return Some((now, rounds));
+        }
+        t = sum;
+    }
+    None
+}
+
+fn least_start(entries: &[Entry], end: usize) -> Option<usize> {
+    (0..end).find(|&start| (start..end).all(|i| completion(entries, start, end - 1, i).is_some()))
+}
+
+/// The levels of a node, and how many it uses.
+fn map_entries(entries: &[Entry], levels: u8) -> Option<([u8; MOST], u8)> {
+    let mut ranks = [0; MOST];
+    let mut end = entries.len();
+    let mut groups = 0;
+    while end > 0 {
+        if groups >= levels {
+            return None;
+        }
+        let start = least_start(entries, end)?;
+        ranks[start..end].fill(groups);
+        groups += 1;
+        end = start;
+    }
+    for rank in &mut ranks[..entries.len()] {
+        *rank = groups - *rank;
+    }
+    Some((ranks, groups))
+}
+
+/// Maps the node with a number of a file, and gives the levels used.
+#[inline(never)]
+pub fn map(file: &[u8], number: u16, levels: &mut [u8]) -> Option<usize> {
+    if !check(file) {
+        return None;
+    }
+    let row = (0..usize::from(file[4])).find(|&row| {
+        let at = 8 + row * 8;
+        u16::from_le_bytes([file[at], file[at + 1]]) == number
+    })?;
+    let node = load(file, row);
+    let target = levels.get_mut(..node.count)?;
+    let (map, used) = map_entries(&node.entries[..node.count], node.levels)?;
+    target.copy_from_slice(&map[..node.count]);
+    Some(usize::from(used))
+}
+
+/// Lists an accepted file from the start of `text`, and gives the length.
+#[inline(never)]
+pub fn list(file: &[u8], text: &mut [u8]) -> Option<usize> {
+    if !check(file) {
+        return None;
+    }
+    let room = text.len();
+    let mut rest = text;
+    let nodes = usize::from(file[4]);
+    writeln!(rest, "plan {nodes}").ok()?;
+    for row in 0..nodes {
+        list_node(&load(file, row), &mut rest)?;
+    }
+    Some(room - rest.len())
+}
+
+fn list_node(node: &Node, rest: &mut &mut [u8]) -> Option<()> {
+    let (number, levels) = (node.number, node.levels);
+    let entries = &node.entries[..node.count];
+    let Some((map, used)) = map_entries(entries, levels) else {
+        return writeln!(rest, "node {number} no map").ok();
+    };
+    writeln!(rest, "node {number} levels {used} of {levels}").ok()?;
+    for (i, entry) in entries.iter().enumerate() {
+        let level = map[i];
+        let same = |j: &usize| map[*j] == level;
+        let first = (0..=i).find(same)?;
+        let last = (i..node.count).rev().find(same)?;
+        let (time, rounds) = completion(entries, first, last, i)?;
+        let number = entry.number;
+        writeln!(
+            rest,
+            "entry {number} level {level} time {time} rounds {rounds}"
+        )
+        .ok()?;
+    }
+    Some(())
+}
