@@ -30,6 +30,30 @@ fn assert_listed(pieces: &[&[u8]], pause: Duration) {
     assert_eq!(String::from_utf8_lossy(&text), due);
 }
 
+/// Each sample against the listing that is kept beside it.
+#[test]
+fn samples() {
+    let folder = root().join("samples");
+    let mut seen = 0;
+    for item in std::fs::read_dir(&folder).unwrap() {
+        let plan = item.unwrap().path();
+        if plan.extension().is_none_or(|kind| kind != "plan") {
+            continue;
+        }
+        let file = std::fs::read(&plan).unwrap();
+        let due = std::fs::read(plan.with_extension("txt")).unwrap();
+        let (text, ended) = run(
+            &root().join("target/bin/list_plan"),
+            &[&file],
+            Duration::ZERO,
+        );
+        assert!(ended, "{}", plan.display());
+        assert!(text == due, "{}", plan.display());
+        seen += 1;
+    }
+    assert_eq!(seen, 11);
+}
+
 #[test]
 fn generated_plans() {
     let mut rng = rng(230);

@@ -1,26 +1,15 @@
 -- Demands that are equal because what they read is.
-use Prim.Native.Nat.{ℕ, _+_, _-_, _*_, _≤_, _<_, min}
-use mathlib.Core.Path.{_≡_, _∙_, refl, ap, ap₂, sym}
-use mathlib.Core.Bool.{Bool, _&&_, _||_, not}
+use Prim.Native.Nat.{ℕ, _+_, _-_, _*_, _≤_, _<_}
+use mathlib.Core.Path.{_≡_, _∙_, ap, ap₂, sym}
+use mathlib.Core.Bool.{_&&_, _||_, not}
 use mathlib.Core.List.{List}
 use native.Mathlib.Omega.{arith}
 use lib.ListN.{length}
-use lib.Dec.{ltb, leb, eqb}
+use lib.Dec.{ltb, eqb}
 use Rattle.task_model.specs.declared.Entry.{Entry}
 use Rattle.task_model.specs.Limits.{entryAt}
-use Rattle.completion.specs.Demand.{
-  ceilDiv,
-  releases,
-  sumTo,
-  only,
-  moreUrgent,
-  beside,
-  urgentShare,
-  besideShare,
-  demand,
-  start,
-}
-use Rattle.completion.specs.Test.{testFrom, completionTest}
+use Rattle.completion.specs.Demand.{ceilDiv, releases, sumTo, only, urgentShare, besideShare, demand, start}
+use Rattle.completion.specs.Test.{completionTest}
 use Rattle.completion.proofs.Sums.{sumTo-eq}
 use Rattle.completion.proofs.Iteration.{test-same}
 use Rattle.completion.proofs.Shares.{leb-or}

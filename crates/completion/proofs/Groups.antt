@@ -1,19 +1,18 @@
 -- The demand and the start by group bounds.
-use Prim.Native.Nat.{ℕ, zero, suc, _+_, _-_, _≤_, _<_, zero-le}
-use mathlib.Core.Path.{_≡_, _∙_, refl, ap, sym}
-use mathlib.Core.Bool.{Bool, true, false, _&&_, not}
+use Prim.Native.Nat.{ℕ, _+_, _-_, _≤_, _<_, zero-le}
+use mathlib.Core.Path.{_≡_, _∙_, sym}
 use mathlib.Core.List.{List}
 use mathlib.Core.Logic.{by-cases}
 use native.Mathlib.Decide.{decLe}
 use native.Mathlib.Omega.{arith}
 use lib.ListN.{length}
-use lib.Dec.{ltb, leb, eqb}
+use lib.Dec.{leb}
 use borrow.Author.Tests.{lt-ltb, le-ltb, le-leb, lt-leb, eq-eqb, ne-eqb}
 use Rattle.task_model.specs.declared.Entry.{Entry}
 use Rattle.task_model.specs.Limits.{entryAt}
 use Rattle.completion.specs.Demand.{sumTo, only, moreUrgent, beside, urgentShare, besideShare, demand, start}
 use Rattle.completion.specs.Group.{IsGroup, groupLevel}
-use Rattle.completion.proofs.Sums.{sumTo-none, sumTo-more, sumTo-between, sumTo-flat, sumTo-up}
+use Rattle.completion.proofs.Sums.{sumTo-none, sumTo-between, sumTo-flat, sumTo-up}
 
 -- A named group is the group of each entry in it.
 module _ (first last : ℕ) where

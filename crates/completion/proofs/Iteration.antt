@@ -1,13 +1,13 @@
 -- The test as an iteration, for any demand w that never falls and any deadline d.
-use Prim.Native.Nat.{ℕ, zero, suc, _+_, _-_, _≤_, _<_, zero-le}
+use Prim.Native.Nat.{ℕ, zero, suc, _+_, _-_, _≤_, _<_}
 use mathlib.Core.Path.{_≡_, _∙_, refl, ap, sym, fun-ext}
-use mathlib.Core.Logic.{_⊎_, inl, inr, ⊎-elim, _↔_}
+use mathlib.Core.Logic.{_⊎_, inl, inr, ⊎-elim}
 use native.Mathlib.Nat.{le-trans, le-refl, eq-or-lt-of-le}
-use native.Mathlib.Decide.{decLe, decLt, ℕ-discrete}
+use native.Mathlib.Decide.{decLe}
 use native.Mathlib.Omega.{arith}
 use borrow.Author.Tests.{le-leb, lt-leb, eq-eqb, ne-eqb}
-use Rattle.completion.specs.Test.{Completion, on-time, late, iterate, testFrom, roundsIn}
-use Rattle.completion.specs.Rounds.{iterates, Fixed, FixedIn, LateIn}
+use Rattle.completion.specs.Test.{Completion, on-time, late, iterate, testFrom}
+use Rattle.completion.specs.Rounds.{Fixed}
 
 pub le-or-lt : (a b : ℕ) → (a ≤ b) ⊎ (b < a)
 le-or-lt a b = elim (decLe a b) [ yes p ↦ inl p | no p ↦ inr (omega arith) ]

@@ -1,26 +1,7 @@
 -- The ceiling, the releases in a stretch of time, and the shares of a demand.
-use Prim.Native.Nat.{ℕ, zero, suc, _+_, _-_, _*_, _/_, _≤_, _<_, min}
-use mathlib.Core.Path.{_≡_, _∙_, refl, ap, sym}
-use native.Mathlib.Nat.{
-  zero-add,
-  mul-zero,
-  le-refl,
-  le-trans,
-  le-antisymm,
-  le-div-iff-mul-le,
-  div-lt-iff-lt-mul,
-  div-mul-le-self,
-  mul-div-le,
-  mul-one,
-  one-mul,
-  add-mul,
-  mul-comm,
-  mul-le-mul-left,
-  mul-le-mul-right,
-  min-le-left,
-  min-eq-left,
-  min-eq-right,
-}
+use Prim.Native.Nat.{ℕ, _+_, _-_, _*_, _/_, _≤_, _<_, min}
+use mathlib.Core.Path.{_≡_}
+use native.Mathlib.Nat.{zero-add, mul-zero, le-trans, le-antisymm, le-div-iff-mul-le, div-lt-iff-lt-mul, div-mul-le-self, mul-div-le, mul-one, one-mul, add-mul, mul-comm, mul-le-mul-left, mul-le-mul-right, min-le-left, min-eq-right}
 use native.Mathlib.Omega.{arith}
 use Rattle.task_model.specs.declared.Entry.{Entry}
 use Rattle.task_model.specs.Limits.{TimesHold}

@@ -1,18 +1,18 @@
 -- The demand as one sum of shares, and what follows for any levels: it never falls, the test starts at the demand of the
 -- first tick, and it rises only with a release.
-use Prim.Native.Nat.{ℕ, zero, suc, _+_, _-_, _*_, _≤_, _<_, zero-le, min}
+use Prim.Native.Nat.{ℕ, _+_, _-_, _*_, _≤_, _<_, zero-le, min}
 use mathlib.Core.Path.{_≡_, _∙_, refl, ap, ap₂, sym}
 use mathlib.Core.Bool.{Bool, true, false, _&&_, _||_, not, true≢false}
 use mathlib.Core.Logic.{_⊎_, inl, inr, ⊎-elim, by-cases}
 use mathlib.Core.List.{List}
-use native.Mathlib.Nat.{le-refl, le-trans, eq-or-lt-of-le}
+use native.Mathlib.Nat.{eq-or-lt-of-le}
 use native.Mathlib.Decide.{decLt, ℕ-discrete}
 use native.Mathlib.Omega.{arith}
 use lib.ListN.{length}
 use lib.Dec.{ltb, leb, eqb}
-use borrow.Author.Tests.{lt-ltb, le-ltb, le-leb, lt-leb, eq-eqb, ne-eqb, leb-true, ltb-true, eqb-true}
+use borrow.Author.Tests.{lt-ltb, le-ltb, le-leb, lt-leb, eq-eqb, ne-eqb}
 use Rattle.task_model.specs.declared.Entry.{Entry}
-use Rattle.task_model.specs.Limits.{entryAt, TimesHold, EntryHolds, AllHold}
+use Rattle.task_model.specs.Limits.{entryAt, TimesHold, AllHold}
 use Rattle.completion.specs.Demand.{
   releases,
   sumTo,

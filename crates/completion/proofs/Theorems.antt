@@ -1,34 +1,25 @@
 -- The theorems of the completion time test, for any levels of the entries; those of a group, for any group bounds.
-use Prim.Native.Nat.{ℕ, zero, suc, _+_, _-_, _*_, _≤_, _<_, zero-le}
+use Prim.Native.Nat.{ℕ, _+_, _-_, _≤_, _<_}
 use mathlib.Core.Path.{_≡_, _∙_, refl, ap, ap₂, sym}
-use mathlib.Core.Bool.{Bool, true, false, _&&_, _||_, not, false≢true}
-use mathlib.Core.Logic.{_⊎_, inl, inr, ⊎-elim, _↔_}
+use mathlib.Core.Bool.{true, false, not, false≢true}
+use mathlib.Core.Logic.{_↔_}
 use mathlib.Core.List.{List}
-use native.Mathlib.Nat.{le-trans, le-refl}
+use native.Mathlib.Nat.{le-trans}
 use native.Mathlib.Omega.{arith}
 use lib.ListN.{length}
-use lib.Dec.{ltb, leb, eqb}
+use lib.Dec.{ltb, eqb}
 use Rattle.task_model.specs.declared.Entry.{Entry}
 use Rattle.task_model.specs.Limits.{entryAt, AllHold}
-use Rattle.completion.specs.Demand.{releases, sumTo, only, urgentShare, besideShare, demand, start}
+use Rattle.completion.specs.Demand.{releases, sumTo, only, demand, start}
 use Rattle.completion.specs.Group.{IsGroup, groupLevel}
-use Rattle.completion.specs.Test.{
-  Completion,
-  on-time,
-  late,
-  testFrom,
-  completionTest,
-  isOnTime,
-  roundsIn,
-  roundsBound,
-}
-use Rattle.completion.specs.Rounds.{iterates, Fixed, FixedIn, LateIn}
+use Rattle.completion.specs.Test.{Completion, on-time, late, completionTest, isOnTime, roundsIn, roundsBound}
+use Rattle.completion.specs.Rounds.{iterates, FixedIn, LateIn}
 use Rattle.completion.proofs.Sums.{sumTo-eq, sumTo-up}
-use Rattle.completion.proofs.Iteration.{Least, test-least, test-same}
+use Rattle.completion.proofs.Iteration.{Least, test-least}
 use Rattle.completion.proofs.Rounds.{iterates-ahead, fixed-in, late-in, rounds-due, rounds-bounded}
-use Rattle.completion.proofs.Shares.{demand-up, demand-some, start-first, later, later-up, later-strict, leb-or}
+use Rattle.completion.proofs.Shares.{demand-up, demand-some, start-first, later, later-up, later-strict}
 use Rattle.completion.proofs.Alike.{test-alike, start-alike, demand-alike, demandIn-same}
-use Rattle.completion.proofs.Groups.{urgentIn, besideIn, wcetIn, demandIn, named-group, demand-in, start-in}
+use Rattle.completion.proofs.Groups.{besideIn, wcetIn, named-group, demand-in, start-in}
 
 -- an answer is on time or late
 module _ {A : Type 0} where

@@ -1,6 +1,6 @@
 -- The demand and the start of an entry in a named group, by the words that hold the node.
-use Prim.Native.Nat.{ℕ, _+_, _-_, _*_, _≤_, _<_}
-use mathlib.Core.Path.{_≡_, _∙_, refl, ap, ap₂, sym}
+use Prim.Native.Nat.{ℕ, _+_, _-_, _≤_, _<_}
+use mathlib.Core.Path.{_≡_, _∙_, ap}
 use mathlib.Core.List.{List}
 use native.Mathlib.Nat.{le-trans}
 use native.Mathlib.Omega.{arith}
@@ -15,7 +15,7 @@ use Rattle.completion.specs.Test.{testFrom, completionTest}
 use Rattle.completion.proofs.Sums.{sumTo-eq, sumTo-most}
 use Rattle.completion.proofs.Releases.{urgent-most, beside-most}
 use Rattle.completion.proofs.Shares.{demand-up, demand-some, start-first}
-use Rattle.completion.proofs.Groups.{urgentIn, besideIn, wcetIn, named-group, demand-in, start-in}
+use Rattle.completion.proofs.Groups.{besideIn, named-group, demand-in, start-in}
 
 abbrev pub urgentOf : List ℕ → ℕ → ℕ → ℕ
 urgentOf ws t j = urgentShare (entryOf ws j) t

@@ -1,7 +1,7 @@
 -- A group of neighbours: the entries of one level. Those before it are more urgent, those after it less.
 use Prim.Native.Nat.{ℕ, _≤_, _<_}
 use mathlib.Core.Path.{_≡_}
-use mathlib.Core.Bool.{Bool, true, false}
+use mathlib.Core.Bool.{true, false}
 use lib.Dec.{ltb}
 
 -- The group of the entry at i is from `first` to `last`, among n entries with the levels `level`.

@@ -9,7 +9,7 @@ use Rattle.task_model.specs.declared.Entry.{Entry}
 use Rattle.task_model.specs.Limits.{entryAt}
 use Rattle.completion.specs.declared.Timing.{Timing}
 use Rattle.completion.specs.declared.Timing.the-variants.{OnTime, Late}
-use Rattle.completion.specs.Demand.{ceilDiv, releases, sumTo, only, demand, start}
+use Rattle.completion.specs.Demand.{releases, sumTo, only, demand, start}
 
 -- The answer for an entry: on time, with its completion time and the rounds, or late, with the rounds alone. Rounds is
 -- the number of times that the demand was evaluated.

@@ -1,6 +1,6 @@
 // The completion time test of an entry in a group of its node.
 ghost use mathlib.Core.Path.{_≡_};
-ghost use Prim.Native.Nat.{ℕ, _+_, _-_, _≤_, _<_};
+ghost use Prim.Native.Nat.{_+_, _-_, _≤_, _<_};
 ghost use Rattle.task_model.specs.Limits.{AllHold, TimesHold};
 ghost use Rattle.task_model.specs.Words.{entryOf, entriesOf};
 ghost use Rattle.completion.specs.Demand.{releases, sumTo, urgentShare, besideShare, demand, start};

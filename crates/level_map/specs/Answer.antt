@@ -12,7 +12,7 @@ use Rattle.level_map.specs.declared.Mapped.the-variants.{Levels, NoMap}
 use Rattle.level_map.specs.Assignments.{NoneLate, Passing, levelsUsed}
 use Rattle.level_map.specs.Map.{Chosen}
 
--- The count of the map's levels, or the refusal: 11, no passing map.
+-- The count of the map's levels, or the refusal.
 pub data Answer : Type 0 where
   mapped : (levels : ℕ) → Answer
   refused : Numbered → Answer
@@ -32,7 +32,8 @@ unfoldable pub bufferOf : Option (List ℕ) → List ℕ → List ℕ
 bufferOf none buffer = buffer
 bufferOf (some m) buffer = m ++ drop (length m) buffer
 
--- Demand 3 of a map that is given with a count: it is an assignment that lets every entry end by its deadline; it is the
+-- Demand 3 is the promise on maps: refused exactly when nothing passes, and what is given is the best. Of a map that is
+-- given with a count it says: it is an assignment that lets every entry end by its deadline; it is the
 -- choice of 'The map'; its different levels are as many as the count says, and no such assignment uses fewer.
 pub record Mapping (es : List Entry) (most count : ℕ) (m : List ℕ) : Type 0 where
   pub passing : Passing es most m

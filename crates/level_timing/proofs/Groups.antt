@@ -1,6 +1,6 @@
 -- Under levels that never fall, the entries of one level are neighbours: the group from the first to the last of them.
 use Prim.Native.Nat.{ℕ, zero, suc, _+_, _-_, _≤_, _<_}
-use mathlib.Core.Path.{_≡_, _∙_, refl, ap, sym}
+use mathlib.Core.Path.{_≡_, _∙_, refl, ap}
 use mathlib.Core.List.{List}
 use mathlib.Core.Logic.{by-cases}
 use native.Mathlib.Nat.{le-refl, le-trans}

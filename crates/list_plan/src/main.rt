@@ -5,8 +5,11 @@ ghost use Rattle.io.specs.Counts.{Counts};
 ghost use Rattle.listing.specs.Listing.{listing};
 use listing::Listed;
 
+// One byte more than an input may have: an input of this length is refused, so the rest of it need not be read.
+const READ_MOST: usize = 65537;
+
 // Writes the listing from the start of a buffer that every listing fits into, and answers its length.
-fn write_listing(file: &[u8], text: &mut [u8; 115625]) -> usize
+fn write_listing(file: &[u8], text: &mut [u8; listing::MOST_TEXT]) -> usize
     requires { ⌜ length (now text) ≡ 115625 ⌝ }
     ensures { λ n. ⌜ Counts n (now (text .exit)) ⌝ }
     ensures { λ n. ⌜ take n (now (text .exit)) ≡ listing (now (file .entry)) ⌝ }
@@ -18,10 +21,9 @@ fn write_listing(file: &[u8], text: &mut [u8; 115625]) -> usize
 }
 
 fn main() {
-    // One byte more than a plan may have: no plan of that length is accepted, so the rest need not be read.
-    let mut file = [0u8; 65537];
+    let mut file = [0u8; READ_MOST];
     let n = io::read_full(0, &mut file);
-    let mut text = [0u8; 115625];
+    let mut text = [0u8; listing::MOST_TEXT];
     let m = write_listing(&file[..n], &mut text);
     io::write_all(1, &text[..m]);
 }

@@ -4,3 +4,4 @@ pub mod Texts
 pub mod Mapped
 pub mod Cases
 pub mod Long
+pub mod Theorems

@@ -1,6 +1,6 @@
 -- A line as it grows: what was written of it, and how long that can be.
 use Prim.Native.Nat.{ℕ, _+_, _≤_, _<_, _^_, zero-le}
-use mathlib.Core.Path.{_≡_, _∙_, refl, ap, sym}
+use mathlib.Core.Path.{_≡_}
 use mathlib.Core.List.{List, [], _++_}
 use native.Mathlib.Omega.{arith}
 use lib.ListN.{length, length-append}

@@ -1,35 +1,21 @@
 -- An input that is longer than any plan is answered as its first 65,537 bytes are.
-use Prim.Native.Nat.{ℕ, zero, suc, _+_, _*_, _≤_, _<_, min}
+use Prim.Native.Nat.{ℕ, zero, suc, _+_, _*_, _≤_, _<_}
 use mathlib.Core.Path.{_≡_, _∙_, refl, ap, ap₂, sym}
 use mathlib.Core.Bool.{Bool, true, false, _&&_}
 use mathlib.Core.Logic.{⊎-elim}
 use mathlib.Core.List.{List, [], _∷_}
-use native.Mathlib.Nat.{add-zero}
 use native.Mathlib.Omega.{arith}
 use lib.ListN.{length, getD, take, length-take}
 use lib.Seq.{getD-take}
 use lib.Dec.{leb, eqb}
 use borrow.Author.Tests.{le-leb, ne-eqb}
-use Rattle.task_model.specs.Refusals.{Numbered, at, Outcome, accepted, refused}
+use Rattle.task_model.specs.Refusals.{at, accepted, refused}
 use Rattle.task_model.proofs.Theorems.{either}
 use Rattle.plan_file.specs.declared.Row.{Row}
 use Rattle.plan_file.specs.Plan.{entryCount, rowOf}
 use Rattle.plan_file.specs.Encoding.{opening, bodiesStart}
-use Rattle.plan_file.specs.Check.{
-  _andThen_,
-  demand,
-  opensAt,
-  openingTest,
-  countTest,
-  zerosTest,
-  rowTest,
-  contentsCheck,
-  nodesCheck,
-  headerCheck,
-  layoutCheck,
-  fileCheck,
-}
-use Rattle.plan_file.specs.Decoding.{wordAt, nodeCount, rowAt, offsetAt, rowsFrom, rowsIn, entriesIn}
+use Rattle.plan_file.specs.Check.{_andThen_, mustHold, opensAt, openingTest, countTest, zerosTest, rowTest, contentsCheck, headerCheck, layoutCheck, fileCheck}
+use Rattle.plan_file.specs.Decoding.{wordAt, nodeCount, rowsFrom}
 use Rattle.plan_file.proofs.Contents.{length-rows}
 use Rattle.plan_file.proofs.Decoded.{few-entries}
 use Rattle.plan_file.proofs.Encoded.{contents-rows}
@@ -38,7 +24,6 @@ use Rattle.plan_file.proofs.Theorems.{file-sizes}
 use Rattle.plan_file.proofs.Header.{header-holds}
 use Rattle.plan_file.proofs.Handed.{count-hold}
 use Rattle.task_model.proofs.Laws.{and-true}
-use Rattle.listing.specs.Lines.{refusedLine}
 use Rattle.listing.specs.Listing.{listing}
 use Rattle.listing.proofs.Texts.{listing-refused}
 
@@ -68,20 +53,20 @@ module _ (f g : List ℕ) (lf : 41224 < length f) (lg : 41224 < length g) (same 
   enough k h = le-leb k (length g) (omega arith) ∙ sym (le-leb k (length f) (omega arith))
 
   room : (b : Bool) → b ≡ (countTest (nodeCount f) && zerosTest f)
-      → demand b (at 3 0 0) andThen demand (leb (bodiesStart (nodeCount f)) (length g)) (at 1 0 0)
-      ≡ demand b (at 3 0 0) andThen demand (leb (bodiesStart (nodeCount f)) (length f)) (at 1 0 0)
+      → mustHold b (at 3 0 0) andThen mustHold (leb (bodiesStart (nodeCount f)) (length g)) (at 1 0 0)
+      ≡ mustHold b (at 3 0 0) andThen mustHold (leb (bodiesStart (nodeCount f)) (length f)) (at 1 0 0)
   room false p = refl
   room true p =
       let few = count-hold (nodeCount f) (and-true _ _ (sym p) .0) in
-      ap (λ b. demand b (at 1 0 0)) (enough (bodiesStart (nodeCount f)) (omega arith))
+      ap (λ b. mustHold b (at 1 0 0)) (enough (bodiesStart (nodeCount f)) (omega arith))
 
   -- the header's checks see the first eight bytes, and whether there is room for the contents
   header-same : headerCheck g ≡ headerCheck f
   unfolding headerCheck
   header-same =
-      ap₂ _andThen_ (ap (λ b. demand b (at 1 0 0)) (enough 8 (omega arith)))
-      (ap₂ _andThen_ (ap (λ b. demand b (at 2 0 0)) opening-same)
-      (ap₂ (λ n z. demand (countTest n && z) (at 3 0 0) andThen demand (leb (bodiesStart n) (length g)) (at 1 0 0)) nodes-same zeros-same
+      ap₂ _andThen_ (ap (λ b. mustHold b (at 1 0 0)) (enough 8 (omega arith)))
+      (ap₂ _andThen_ (ap (λ b. mustHold b (at 2 0 0)) opening-same)
+      (ap₂ (λ n z. mustHold (countTest n && z) (at 3 0 0) andThen mustHold (leb (bodiesStart n) (length g)) (at 1 0 0)) nodes-same zeros-same
       ∙ room (countTest (nodeCount f) && zerosTest f) refl))
 
   word-same : (k : ℕ) → k + 4 ≤ 264 → wordAt g k ≡ wordAt f k
@@ -98,8 +83,8 @@ module _ (f g : List ℕ) (lf : 41224 < length f) (lg : 41224 < length g) (same 
   unfolding contentsCheck
   contents-same i least required [] h = refl
   contents-same i least required (r ∷ rs) h =
-      ap (λ x. demand (rowTest least r) (at 4 i 0) andThen x)
-      (ap₂ _andThen_ (ap (λ x. demand (eqb x required) (at 5 i 0)) (word-same (8 + i * 8 + 4) (omega arith)))
+      ap (λ x. mustHold (rowTest least r) (at 4 i 0) andThen x)
+      (ap₂ _andThen_ (ap (λ x. mustHold (eqb x required) (at 5 i 0)) (word-same (8 + i * 8 + 4) (omega arith)))
       (contents-same (suc i) (suc (r .number)) (required + r .count * 20) rs (omega arith)))
 
 -- rows that are accepted end too early for such an input, so its layout is refused, and as what agrees with it is

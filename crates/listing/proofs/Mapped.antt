@@ -2,18 +2,18 @@
 use Prim.Native.Nat.{ℕ, zero, suc, _+_, _≤_, _<_}
 use mathlib.Core.Path.{_≡_, _∙_, refl, ap, ap₂, sym}
 use mathlib.Core.Option.{Option, none, some}
-use mathlib.Core.List.{List, [], _++_}
+use mathlib.Core.List.{List, _++_}
 use native.Mathlib.Omega.{arith}
 use lib.ListN.{length, drop, getD, List·getD-append}
 use lib.Dec.{ltb, eqb}
 use Rattle.task_model.specs.declared.Entry.{Entry}
 use Rattle.task_model.specs.Refusals.{at}
 use Rattle.task_model.specs.Limits.{entryAt, AllHold}
-use Rattle.completion.specs.Test.{on-time, late, completionTest}
+use Rattle.completion.specs.Test.{completionTest}
 use Rattle.completion.proofs.Theorems.{alike, by-answer}
 use Rattle.level_map.specs.Assignments.{levelOf, levelsUsed}
 use Rattle.level_map.specs.Map.{theMap, IsMap}
-use Rattle.level_map.specs.Answer.{Answer, mapped, refused, answerOf, bufferOf}
+use Rattle.level_map.specs.Answer.{mapped, refused, answerOf, bufferOf}
 use Rattle.level_map.proofs.Theorems.{map-best}
 use Rattle.level_timing.specs.Levels.{NeverFalls}
 use Rattle.listing.specs.Lines.{entryLine}

@@ -1,6 +1,6 @@
 -- The texts of a listing, case by case.
-use Prim.Native.Nat.{ℕ, suc, _+_, _≤_, _<_}
-use mathlib.Core.Path.{_≡_, _∙_, refl, ap, sym}
+use Prim.Native.Nat.{ℕ, _+_, _≤_, _<_}
+use mathlib.Core.Path.{_≡_, _∙_, refl, ap}
 use mathlib.Core.Option.{none, some}
 use mathlib.Core.List.{List, [], _++_}
 use native.Mathlib.Numerals.{add-one}
@@ -20,7 +20,7 @@ use Rattle.level_map.specs.Assignments.{levelOf, levelsUsed}
 use Rattle.level_map.specs.Map.{theMap}
 use Rattle.listing.specs.declared.Listed.{Listed}
 use Rattle.listing.specs.declared.Listed.the-variants.{Text, Refused}
-use Rattle.listing.specs.Lines.{planLine, nodeLine, noMapLine, entryLine, refusedLine}
+use Rattle.listing.specs.Lines.{nodeLine, noMapLine, entryLine, refusedLine}
 use Rattle.listing.specs.Listing.{entryText, entriesText, nodeText, nodesText, planText, listing, listAnswer, listedGives}
 
 module _ (es : List Entry) (m : List ℕ) where

@@ -1,18 +1,16 @@
 -- The listing of a plan file.
-use Prim.Native.Nat.{ℕ, zero, suc, pred}
-use mathlib.Core.Path.{_≡_}
-use mathlib.Core.Bool.{true, false}
+use Prim.Native.Nat.{ℕ, zero, suc}
 use mathlib.Core.Option.{none, some}
 use mathlib.Core.List.{List, [], _++_}
 use lib.ListN.{length}
 use lib.Dec.{leb}
 use Rattle.task_model.specs.declared.Entry.{Entry}
-use Rattle.task_model.specs.Refusals.{Numbered, at, numbered, accepted, refused}
+use Rattle.task_model.specs.Refusals.{at, numbered, accepted, refused}
 use Rattle.task_model.specs.Limits.{Node, entryAt}
 use Rattle.completion.specs.Test.{on-time, late, completionTest}
 use Rattle.plan_file.specs.Plan.{Plan}
 use Rattle.plan_file.specs.Answers.{Answer, gives, refuses, giving}
-use Rattle.plan_file.specs.Check.{demand, fileCheck}
+use Rattle.plan_file.specs.Check.{mustHold, fileCheck}
 use Rattle.plan_file.specs.Decoding.{planIn}
 use Rattle.plan_file.specs.Find.{rowIn, nodeOfRow}
 use Rattle.level_map.specs.Assignments.{levelOf, levelsUsed}
@@ -60,7 +58,7 @@ listing f =
 
 -- The answer: the text's length, or 10 where it does not fit. Its buffer then is `left` of plan_file's specs/Answers.
 unfoldable pub listAnswer : List ℕ → ℕ → Answer ℕ
-listAnswer f room = giving (demand (leb (length (listing f)) room) (at 10 0 0)) (length (listing f))
+listAnswer f room = giving (mustHold (leb (length (listing f)) room) (at 10 0 0)) (length (listing f))
 
 abbrev pub listedGives : Listed → Answer ℕ
 listedGives (Text n) = gives n

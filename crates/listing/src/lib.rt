@@ -1,8 +1,8 @@
 // The listing of a plan file, into a lent buffer. Each function writes from a position on, and answers the position
 // after what it wrote.
 ghost use mathlib.Core.Path.{_≡_};
-ghost use Prim.Native.Nat.{ℕ, _+_, _*_, _≤_, _<_};
-ghost use lib.ListN.{length, take};
+ghost use Prim.Native.Nat.{_+_, _*_, _≤_, _<_};
+ghost use lib.ListN.{length};
 ghost use Rattle.task_model.specs.Refusals.{numbered, accepted};
 ghost use Rattle.task_model.specs.Limits.{AllHold};
 ghost use Rattle.task_model.specs.Words.{entriesOf};
@@ -22,6 +22,15 @@ use task_model::Checked;
 use task_model::Refusal;
 use text::put_bytes;
 use text::put_field;
+
+// No listing has more bytes: 9 for its first line, 29 for each of 32 nodes, 56 for each of 2,048 entries.
+pub const MOST_TEXT: usize = 115625;
+
+// How long the text is that was written, or that it does not fit.
+pub enum Listed {
+    Text(usize),
+    Refused(Refusal),
+}
 
 // Three labelled numbers, one after the other.
 fn put_three(
@@ -208,17 +217,9 @@ fn put_listing(file: &[u8], out: &mut [u8]) -> usize
         return put_refused_line(out, 0, r);
     }
     let nodes = plan_file::node_count(file);
+    // An accepted file has at most 32 nodes.
     let next = put_plan_line(out, 0, nodes as u8);
     put_nodes(file, nodes, out, next)
-}
-
-// The most bytes that a listing can have: 9 for its first line, 29 for each of 32 nodes, 56 for each of 2,048 entries.
-pub const MOST_TEXT: usize = 115625;
-
-// How long the text is that was written, or that it does not fit.
-pub enum Listed {
-    Text(usize),
-    Refused(Refusal),
 }
 
 // Lists a plan file, or writes the one line that it is refused with, from the start of `out`. Refuses only a buffer that
@@ -228,7 +229,7 @@ pub fn list_plan(file: &[u8], out: &mut [u8]) -> Listed
     ensures { λ a. ⌜ now (out .exit) ≡ left (listedGives a) (listing (now (file .entry))) (now (out .entry)) ⌝ }
     ensures { λ a. ⌜ length (listing (now (file .entry))) ≤ 115625 ⌝ }
 {
-    let mut text = [0u8; 115625];
+    let mut text = [0u8; MOST_TEXT];
     let n = put_listing(file, &mut text);
     if out.len() < n {
         return Listed::Refused(Refusal::ShortBuffer);

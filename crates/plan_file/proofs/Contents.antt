@@ -13,7 +13,7 @@ use Rattle.task_model.specs.Refusals.{at, refused}
 use Rattle.plan_file.specs.declared.Row.{Row}
 use Rattle.plan_file.specs.Plan.{entryCount, rowWord}
 use Rattle.plan_file.specs.Decoding.{wordAt, rowAt, offsetAt, rowsFrom}
-use Rattle.plan_file.specs.Check.{demand, rowTest, contentsCheck, layoutCheck}
+use Rattle.plan_file.specs.Check.{mustHold, rowTest, contentsCheck, layoutCheck}
 use Rattle.plan_file.proofs.Words.{row-word}
 
 pub length-rows : (f : List ℕ) (i n : ℕ) → length (rowsFrom f i n) ≡ n
@@ -73,7 +73,7 @@ module _ (f : List ℕ) (i n least required : ℕ) (h : i < n) where
       rw (rows-first f i n h, add-one i, add-one (rowAt f i .number)) (layout-next f i least required (rowAt f i) _ p q)
 
 pub at-end : (f : List ℕ) (i n least required : ℕ) → n ≤ i
-    → layoutCheck f i least required (rowsFrom f i (n - i)) ≡ demand (eqb (length f) required) (at 6 0 0)
+    → layoutCheck f i least required (rowsFrom f i (n - i)) ≡ mustHold (eqb (length f) required) (at 6 0 0)
 unfolding layoutCheck contentsCheck entryCount
 at-end f i n least required h =
     let e : required + 0 * 20 ≡ required = omega arith in rw (rows-end f i n h) (rw e)

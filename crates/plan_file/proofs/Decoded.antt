@@ -13,7 +13,7 @@ use Rattle.plan_file.specs.declared.Row.{Row}
 use Rattle.plan_file.specs.Plan.{Plan, entryCount, rowWord, rowOf, RowFits, EntryFits, RowsFit, EntriesFit, PlanFits}
 use Rattle.plan_file.specs.Encoding.{low, headerBytes, rowBytes, entryBytes, bodiesStart, contentsBytes, bodiesBytes, encoding}
 use Rattle.plan_file.specs.Decoding.{wordAt, nodeCount, rowAt, offsetAt, rowsFrom, rowsIn, entryIn, entriesAt, entriesIn, planIn}
-use Rattle.plan_file.specs.Check.{demand, rowTest, rowsCheck, contentsCheck, layoutCheck, headerCheck, fileCheck, planCheck}
+use Rattle.plan_file.specs.Check.{mustHold, rowTest, rowsCheck, contentsCheck, layoutCheck, headerCheck, fileCheck, planCheck}
 use Rattle.plan_file.proofs.Outcomes.{both-accepted, demanded}
 use Rattle.plan_file.proofs.Tests.{row-holds, opens-true, counted-true}
 use Rattle.plan_file.proofs.Words.{entryWith, entry-in, row-bytes, entry-bytes}
@@ -179,7 +179,7 @@ pub few-entries : (i least : ℕ) (rs : List Row) → rowsCheck i least rs ≡ a
 unfolding rowsCheck entryCount
 few-entries i least [] a = omega arith
 few-entries i least (r ∷ rs) a =
-    let p = both-accepted (demand (rowTest least r) _) _ a in
+    let p = both-accepted (mustHold (rowTest least r) _) _ a in
     omega (arith, row-holds least r (demanded _ _ (p .0)) .fewEntries, few-entries (suc i) (suc (r .number)) rs (p .1))
 
 pub plan-same : {rs rs' : List Row} {es es' : List Entry} → rs ≡ rs' → es ≡ es'

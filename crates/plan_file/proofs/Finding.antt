@@ -11,7 +11,7 @@ use Rattle.task_model.specs.Refusals.{accepted}
 use Rattle.task_model.proofs.Laws.{true-or-false}
 use Rattle.plan_file.specs.declared.Row.{Row}
 use Rattle.plan_file.specs.Decoding.{rowAt, rowsFrom}
-use Rattle.plan_file.specs.Check.{demand, rowTest, rowsCheck}
+use Rattle.plan_file.specs.Check.{mustHold, rowTest, rowsCheck}
 use Rattle.plan_file.specs.Find.{rowIn, rowOfNumber}
 use Rattle.plan_file.proofs.Outcomes.{both-accepted, demanded}
 use Rattle.plan_file.proofs.Tests.{row-holds}
@@ -44,9 +44,9 @@ not-below : (k least : ℕ) (rs : List Row) → rowsCheck k least rs ≡ accepte
 unfolding rowsCheck
 not-below k least [] a i h = absurd (omega arith)
 not-below k least (r ∷ rs) a zero h =
-    row-holds least r (demanded _ _ (both-accepted (demand (rowTest least r) _) _ a .0)) .rises
+    row-holds least r (demanded _ _ (both-accepted (mustHold (rowTest least r) _) _ a .0)) .rises
 not-below k least (r ∷ rs) a (suc i) h =
-    let p = both-accepted (demand (rowTest least r) _) _ a in
+    let p = both-accepted (mustHold (rowTest least r) _) _ a in
     omega (
       arith,
       row-holds least r (demanded _ _ (p .0)) .rises,
@@ -59,7 +59,7 @@ unfolding rowsCheck
 found-at k least [] a number i h e = absurd (omega arith)
 found-at k least (r ∷ rs) a number zero h e = found-here number r rs e
 found-at k least (r ∷ rs) a number (suc i) h e =
-    let p = both-accepted (demand (rowTest least r) _) _ a in
+    let p = both-accepted (mustHold (rowTest least r) _) _ a in
     found-later number r rs (λ q. omega (arith, not-below (suc k) (suc (r .number)) rs (p .1) i (omega arith)))
     ∙ ap suc (found-at (suc k) (suc (r .number)) rs (p .1) number i (omega arith) e)
 

@@ -11,7 +11,7 @@ use Rattle.task_model.specs.Refusals.{Numbered, at, Outcome, accepted, refused}
 use Rattle.task_model.proofs.Laws.{and-true, decided}
 use Rattle.plan_file.specs.declared.Row.{Row}
 use Rattle.plan_file.specs.Plan.{entryCount}
-use Rattle.plan_file.specs.Check.{_andThen_, demand, countTest, rowsCheck, nodesCheck, handedCheck}
+use Rattle.plan_file.specs.Check.{_andThen_, mustHold, countTest, rowsCheck, nodesCheck, handedCheck}
 use Rattle.plan_file.proofs.Outcomes.{both-accepted, then-assoc, demanded}
 
 pub count-true : (n : ℕ) → 1 ≤ n → n ≤ 32 → countTest n ≡ true
@@ -27,7 +27,7 @@ count-false n out = decided (countTest n) (count-hold n) (λ h. out (h .0) (h .1
 
 -- the rows' own check, and then that of the words
 abbrev pub tally : List Row → ℕ → Outcome
-tally rows words = rowsCheck 0 0 rows andThen demand (eqb words (entryCount rows * 5)) (at 6 0 0)
+tally rows words = rowsCheck 0 0 rows andThen mustHold (eqb words (entryCount rows * 5)) (at 6 0 0)
 
 pub tally-holds : (rows : List Row) (words : ℕ) → tally rows words ≡ accepted
     → (rowsCheck 0 0 rows ≡ accepted) × (words ≡ entryCount rows * 5)
@@ -36,9 +36,9 @@ tally-holds rows words p =
 
 module _ (rows : List Row) (entries : List Entry) (words : ℕ) where
   regrouped : handedCheck rows entries words
-      ≡ demand (countTest (length rows)) (at 3 0 0) andThen (tally rows words andThen nodesCheck 0 rows entries)
+      ≡ mustHold (countTest (length rows)) (at 3 0 0) andThen (tally rows words andThen nodesCheck 0 rows entries)
   unfolding handedCheck
-  regrouped = ap (λ o. demand (countTest (length rows)) (at 3 0 0) andThen o) (sym (then-assoc (rowsCheck 0 0 rows) _ _))
+  regrouped = ap (λ o. mustHold (countTest (length rows)) (at 3 0 0) andThen o) (sym (then-assoc (rowsCheck 0 0 rows) _ _))
 
   pub handed-count : countTest (length rows) ≡ false → handedCheck rows entries words ≡ refused (at 3 0 0)
   handed-count p = regrouped ∙ rw p
@@ -59,7 +59,7 @@ module _ (rows : List Row) (entries : List Entry) (words : ℕ) where
 
   pub handed-holds : handedCheck rows entries words ≡ accepted → HandedHolds
   handed-holds p =
-      let p1 = both-accepted (demand (countTest (length rows)) (at 3 0 0)) _ (sym regrouped ∙ p) in
+      let p1 = both-accepted (mustHold (countTest (length rows)) (at 3 0 0)) _ (sym regrouped ∙ p) in
       let p2 = both-accepted (tally rows words) _ (p1 .1) in
       let n = count-hold _ (demanded _ _ (p1 .0)) in
       let t = tally-holds rows words (p2 .0) in

@@ -3,7 +3,7 @@ use mathlib.Core.Path.{_≡_, refl}
 use mathlib.Core.Bool.{Bool, true, false}
 use Rattle.task_model.specs.Refusals.{Numbered, Outcome, accepted, refused}
 use Rattle.task_model.proofs.Theorems.{not-both}
-use Rattle.plan_file.specs.Check.{_andThen_, demand}
+use Rattle.plan_file.specs.Check.{_andThen_, mustHold}
 
 pub then-refused : (a b : Outcome) (r : Numbered) → a ≡ refused r → a andThen b ≡ refused r
 then-refused a b r p = rw p
@@ -19,12 +19,12 @@ pub then-assoc : (a b c : Outcome) → (a andThen b) andThen c ≡ a andThen (b 
 then-assoc accepted b c = refl
 then-assoc (refused r) b c = refl
 
-pub demand-accepts : (b : Bool) (r : Numbered) → b ≡ true → demand b r ≡ accepted
-demand-accepts b r p = rw p
+pub mustHold-accepts : (b : Bool) (r : Numbered) → b ≡ true → mustHold b r ≡ accepted
+mustHold-accepts b r p = rw p
 
-pub demand-refuses : (b : Bool) (r : Numbered) → b ≡ false → demand b r ≡ refused r
-demand-refuses b r p = rw p
+pub mustHold-refuses : (b : Bool) (r : Numbered) → b ≡ false → mustHold b r ≡ refused r
+mustHold-refuses b r p = rw p
 
-pub demanded : (b : Bool) (r : Numbered) → demand b r ≡ accepted → b ≡ true
+pub demanded : (b : Bool) (r : Numbered) → mustHold b r ≡ accepted → b ≡ true
 demanded true r p = refl
 demanded false r p = absurd (not-both p refl)

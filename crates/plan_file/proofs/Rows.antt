@@ -12,7 +12,7 @@ use Rattle.task_model.specs.Refusals.{at, Outcome, refused}
 use Rattle.plan_file.specs.declared.Row.{Row}
 use Rattle.plan_file.specs.Plan.{entryCount, rowOf}
 use Rattle.plan_file.specs.Encoding.{rowBytes, contentsBytes}
-use Rattle.plan_file.specs.Check.{_andThen_, demand, rowTest, rowsCheck}
+use Rattle.plan_file.specs.Check.{_andThen_, mustHold, rowTest, rowsCheck}
 use Rattle.plan_file.proofs.Encoding.{count-snoc, contents-snoc, length-contents}
 
 -- the rows from index `i` on
@@ -22,7 +22,7 @@ rowsAfter rs i = map rowOf (drop i rs)
 -- their check, and then of the words of entries, where the rows before count `total` entries
 abbrev pub tallyFrom : List ℕ → ℕ → ℕ → ℕ → ℕ → Outcome
 tallyFrom rs words i least total =
-    rowsCheck i least (rowsAfter rs i) andThen demand (eqb words ((total + entryCount (rowsAfter rs i)) * 5)) (at 6 0 0)
+    rowsCheck i least (rowsAfter rs i) andThen mustHold (eqb words ((total + entryCount (rowsAfter rs i)) * 5)) (at 6 0 0)
 
 module _ (rs : List ℕ) (i : ℕ) (h : i < length rs) where
   pub rows-after : rowsAfter rs i ≡ rowOf (getD rs i 0) ∷ rowsAfter rs (i + 1)
@@ -52,7 +52,7 @@ module _ (rs : List ℕ) (words i least total : ℕ) where
       let e : (c n : ℕ) → (total + (c + n)) * 5 ≡ (total + c + n) * 5 = λ c n. omega arith in
       rw (rows-after rs i h, e, add-one (rowOf (getD rs i 0) .number)) (rw (p, ← add-one i))
 
-  pub tally-end : length rs ≤ i → tallyFrom rs words i least total ≡ demand (eqb words (total * 5)) (at 6 0 0)
+  pub tally-end : length rs ≤ i → tallyFrom rs words i least total ≡ mustHold (eqb words (total * 5)) (at 6 0 0)
   unfolding rowsCheck entryCount
   tally-end h = let e : (total + 0) * 5 ≡ total * 5 = omega arith in rw (after-end rs i h) (rw e)
 

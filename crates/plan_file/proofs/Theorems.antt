@@ -20,7 +20,7 @@ use Rattle.plan_file.specs.Encoding.{bodiesStart, encoding, Bytes}
 use Rattle.plan_file.specs.Decoding.{wordAt, wordsFrom, nodeCount, rowAt, offsetAt, rowsIn, entryIn, entriesIn, planIn}
 use Rattle.plan_file.specs.Check.{countTest, rowTest, rowsCheck, nodesCheck, handedCheck, fileCheck, planCheck, wordsCheck}
 use Rattle.plan_file.specs.Find.{rowIn, nodeOfRow, rowOfNumber, findCheck, nodeFound}
-use Rattle.plan_file.proofs.Outcomes.{then-accepted, demand-accepts, demand-refuses}
+use Rattle.plan_file.proofs.Outcomes.{then-accepted, mustHold-accepts, mustHold-refuses}
 use Rattle.plan_file.proofs.Words.{entryWith, entry-in, length-words}
 use Rattle.plan_file.proofs.Contents.{length-rows}
 use Rattle.plan_file.proofs.Bodies.{length-entries-at}
@@ -52,7 +52,7 @@ plan-accepted f a =
     handed-nodes (rowsIn f) (entriesIn f) (length (entriesIn f) * 5)
     (rw n (count-true (nodeCount f) (h .header .counted .some) (h .header .counted .few)))
     (rw (contents-rows f 0 0 _ (rowsIn f) (h .contents), e)
-    (demand-accepts _ _ (eq-eqb (entryCount (rowsIn f) * 5) (entryCount (rowsIn f) * 5) refl)))
+    (mustHold-accepts _ _ (eq-eqb (entryCount (rowsIn f) * 5) (entryCount (rowsIn f) * 5) refl)))
     ∙ h .bodies
 
 -- A list of bytes is accepted as a file exactly if it is the encoding of a plan within the writer's checks.
@@ -174,7 +174,7 @@ finds-none f a number = (
   λ none.
       ⊎-elim
       (λ t. let l = ltb-true _ _ t in absurd (none (rowOfNumber number (rowsIn f)) l (found-number (rowsIn f) number l)))
-      (λ t. then-accepted (fileCheck f) _ a ∙ demand-refuses _ _ t)
+      (λ t. then-accepted (fileCheck f) _ a ∙ mustHold-refuses _ _ t)
       (true-or-false (ltb (rowOfNumber number (rowsIn f)) (length (rowsIn f)))),
 )
 

@@ -18,7 +18,7 @@ use Rattle.plan_file.specs.declared.FoundNode.the-variants as found
 use Rattle.plan_file.specs.Plan.{Plan, wordsOf, planOf}
 use Rattle.plan_file.specs.Encoding.{encoding}
 use Rattle.plan_file.specs.Decoding.{rowAt, planIn}
-use Rattle.plan_file.specs.Check.{_andThen_, demand, fileCheck, wordsCheck}
+use Rattle.plan_file.specs.Check.{_andThen_, mustHold, fileCheck, wordsCheck}
 use Rattle.plan_file.specs.Find.{nodeOfRow, findCheck, nodeFound}
 
 -- An answer: what is given, or the refusal's number, row and entry.
@@ -49,7 +49,7 @@ roomTest p rowRoom wordRoom = leb (length (p .rows)) rowRoom && leb (length (p .
 unfoldable pub readAnswer : List ℕ → ℕ → ℕ → Answer Sizes
 readAnswer f rowRoom wordRoom =
     giving
-    (fileCheck f andThen demand (roomTest (planIn f) rowRoom wordRoom) (at 10 0 0))
+    (fileCheck f andThen mustHold (roomTest (planIn f) rowRoom wordRoom) (at 10 0 0))
     (record { rows = length (planIn f .rows); entries = length (planIn f .entries) })
 
 -- Each case of the reader's answer.
@@ -62,7 +62,7 @@ unfoldable pub writeAnswer : List ℕ → List ℕ → ℕ → Answer ℕ
 writeAnswer rows words room =
     giving
     (wordsCheck rows words
-    andThen demand (leb (length (encoding (planOf rows words))) room) (at 10 0 0))
+    andThen mustHold (leb (length (encoding (planOf rows words))) room) (at 10 0 0))
     (length (encoding (planOf rows words)))
 
 -- Each case of the writer's answer.

@@ -19,9 +19,9 @@ refused r andThen next = refused r
 accepted andThen next = next
 
 -- A check of one fact: refused as said where the fact does not hold.
-abbrev pub demand : Bool → Numbered → Outcome
-demand true r = accepted
-demand false r = refused r
+abbrev pub mustHold : Bool → Numbered → Outcome
+mustHold true r = accepted
+mustHold false r = refused r
 
 -- Byte `i` of a file is that of the opening.
 abbrev pub opensAt : List ℕ → ℕ → Bool
@@ -46,14 +46,14 @@ rowTest least r = leb least (r .number) && sizeTest (r .levels) (r .count)
 -- Row by row from index `i` on (4). The next number is above this one; the first may be 0.
 unfoldable pub rowsCheck : ℕ → ℕ → List Row → Outcome
 rowsCheck i least [] = accepted
-rowsCheck i least (r ∷ rs) = demand (rowTest least r) (at 4 i 0) andThen rowsCheck (suc i) (suc (r .number)) rs
+rowsCheck i least (r ∷ rs) = mustHold (rowTest least r) (at 4 i 0) andThen rowsCheck (suc i) (suc (r .number)) rs
 
 -- The same in a file: 4, then 5. The next body begins where this one ends, 20 bytes to an entry.
 unfoldable pub contentsCheck : List ℕ → ℕ → ℕ → ℕ → List Row → Outcome
 contentsCheck f i least required [] = accepted
 contentsCheck f i least required (r ∷ rs) =
-    demand (rowTest least r) (at 4 i 0)
-    andThen demand (eqb (offsetAt f i) required) (at 5 i 0)
+    mustHold (rowTest least r) (at 4 i 0)
+    andThen mustHold (eqb (offsetAt f i) required) (at 5 i 0)
     andThen contentsCheck f (suc i) (suc (r .number)) (required + r .count * 20) rs
 
 -- Entry by entry of each row from index `i` on: 7 and 8, with the row and the position in its node.
@@ -64,16 +64,16 @@ nodesCheck i (r ∷ rs) es = entriesCheck i 0 (take (r .count) es) andThen nodes
 -- A file is checked in this order: 8 bytes (1), opening bytes (2), node count and zero bytes (3), the contents' length (1).
 unfoldable pub headerCheck : List ℕ → Outcome
 headerCheck f =
-    demand (leb 8 (length f)) (at 1 0 0)
-    andThen demand (openingTest f) (at 2 0 0)
-    andThen demand (countTest (nodeCount f) && zerosTest f) (at 3 0 0)
-    andThen demand (leb (bodiesStart (nodeCount f)) (length f)) (at 1 0 0)
+    mustHold (leb 8 (length f)) (at 1 0 0)
+    andThen mustHold (openingTest f) (at 2 0 0)
+    andThen mustHold (countTest (nodeCount f) && zerosTest f) (at 3 0 0)
+    andThen mustHold (leb (bodiesStart (nodeCount f)) (length f)) (at 1 0 0)
 
 -- Then row by row 4 and 5, and the file's length (6): it ends with the last body.
 unfoldable pub layoutCheck : List ℕ → ℕ → ℕ → ℕ → List Row → Outcome
 layoutCheck f i least required rows =
     contentsCheck f i least required rows
-    andThen demand (eqb (length f) (required + entryCount rows * 20)) (at 6 0 0)
+    andThen mustHold (eqb (length f) (required + entryCount rows * 20)) (at 6 0 0)
 
 -- Then entry by entry 7 and 8. These are all of a file's checks.
 unfoldable pub fileCheck : List ℕ → Outcome
@@ -83,12 +83,12 @@ fileCheck f =
     andThen nodesCheck 0 (rowsIn f) (entriesIn f)
 
 -- The writer, on rows and on entries that lie in `words` words: node count (3), row by row 4, more or fewer entries
--- than the rows count (6; a part of an entry counts as more), entry by entry 7 and 8.
+-- than the rows count (6; a part of an entry is 6 too), entry by entry 7 and 8.
 unfoldable pub handedCheck : List Row → List Entry → ℕ → Outcome
 handedCheck rows entries words =
-    demand (countTest (length rows)) (at 3 0 0)
+    mustHold (countTest (length rows)) (at 3 0 0)
     andThen rowsCheck 0 0 rows
-    andThen demand (eqb words (entryCount rows * 5)) (at 6 0 0)
+    andThen mustHold (eqb words (entryCount rows * 5)) (at 6 0 0)
     andThen nodesCheck 0 rows entries
 
 -- A plan is accepted exactly when the writer's checks find nothing to refuse.

@@ -8,7 +8,7 @@ use Rattle.task_model.specs.Refusals.{at, Outcome}
 use Rattle.task_model.specs.Limits.{Node}
 use Rattle.plan_file.specs.declared.Row.{Row}
 use Rattle.plan_file.specs.Plan.{Plan, entryCount}
-use Rattle.plan_file.specs.Check.{_andThen_, demand, fileCheck}
+use Rattle.plan_file.specs.Check.{_andThen_, mustHold, fileCheck}
 use Rattle.plan_file.specs.Decoding.{planIn, rowsIn}
 
 -- What stands at an index that the rows do not have. Nothing that is proved goes by it.
@@ -38,7 +38,7 @@ rowOfNumber number (r ∷ rs) =
 
 -- Finding a node in a file: the whole file's checks, then 9.
 unfoldable pub findCheck : List ℕ → ℕ → Outcome
-findCheck f number = fileCheck f andThen demand (ltb (rowOfNumber number (rowsIn f)) (length (rowsIn f))) (at 9 0 0)
+findCheck f number = fileCheck f andThen mustHold (ltb (rowOfNumber number (rowsIn f)) (length (rowsIn f))) (at 9 0 0)
 
 -- The node with that number.
 abbrev pub nodeFound : List ℕ → ℕ → Node

@@ -1,5 +1,8 @@
 // The checks of a file and of a plan in memory, part by part.
+use super::ENTRY_BYTES;
+use super::HEADER_BYTES;
 use super::OPENING;
+use super::ROW_BYTES;
 use super::Row;
 use super::node_count;
 use super::read::entry_in;
@@ -21,7 +24,7 @@ ghost use Rattle.task_model.specs.Words.{entriesFrom};
 ghost use Rattle.plan_file.specs.Plan.{entryCount, rowOf};
 ghost use Rattle.plan_file.specs.Encoding.{bodiesStart};
 ghost use Rattle.plan_file.specs.Decoding.{nodeCount, offsetAt, rowsFrom, entriesAt};
-ghost use Rattle.plan_file.specs.Check.{_andThen_, demand, openingTest, zerosTest, countTest, rowTest, rowsCheck, layoutCheck, nodesCheck, headerCheck};
+ghost use Rattle.plan_file.specs.Check.{_andThen_, mustHold, openingTest, zerosTest, countTest, rowTest, rowsCheck, layoutCheck, nodesCheck, headerCheck};
 
 // Whether a row's number is not below the least, and its levels and entry count are within the limits.
 fn row_holds(least: u32, r: Row) -> bool
@@ -89,7 +92,7 @@ pub(crate) fn check_header(file: &[u8]) -> Checked
     if !counted(file) {
         return Checked::Refused(Refusal::NodeCount);
     }
-    if file.len() < 8 + node_count(file) * 8 {
+    if file.len() < HEADER_BYTES + node_count(file) * ROW_BYTES {
         return Checked::Refused(Refusal::ShortFile);
     }
     Checked::Accepted
@@ -100,7 +103,7 @@ fn placed_at(file: &[u8], row: usize, required: usize) -> bool
     requires { ⌜ bodiesStart (row + 1) ≤ length (now file) ⌝ }
     ensures { λ a. ⌜ a ≡ eqb (offsetAt (now (file .entry)) row) required ⌝ }
 {
-    word_at(file, 8 + row * 8 + 4) as usize == required
+    word_at(file, HEADER_BYTES + row * ROW_BYTES + 4) as usize == required
 }
 
 // Checks each row (4) and its offset (5), then that the file ends with the last body (6).
@@ -109,7 +112,7 @@ pub(crate) fn check_layout(file: &[u8], nodes: usize) -> Checked
     ensures { λ a. ⌜ outcome a ≡ layoutCheck (now (file .entry)) 0 0 (bodiesStart nodes) (rowsFrom (now (file .entry)) 0 nodes) ⌝ }
 {
     let mut least: u32 = 0;
-    let mut required: usize = 8 + nodes * 8;
+    let mut required: usize = HEADER_BYTES + nodes * ROW_BYTES;
     let mut row: usize = 0;
     while row < nodes {
         let r = row_at(file, row);
@@ -122,7 +125,7 @@ pub(crate) fn check_layout(file: &[u8], nodes: usize) -> Checked
             return Checked::Refused(Refusal::Offset { row });
         }
         least = r.number as u32 + 1;
-        required += r.count as usize * 20;
+        required += r.count as usize * ENTRY_BYTES;
         row += 1;
     }
     if file.len() != required {
@@ -158,7 +161,7 @@ pub(crate) fn check_bodies(file: &[u8], nodes: usize) -> Checked
         nodesCheck 0 (rowsFrom (now (file .entry)) 0 nodes)
         (entriesAt (now (file .entry)) (bodiesStart nodes) (entryCount (rowsFrom (now (file .entry)) 0 nodes))) ⌝ }
 {
-    let mut start: usize = 8 + nodes * 8;
+    let mut start: usize = HEADER_BYTES + nodes * ROW_BYTES;
     let mut row: usize = 0;
     while row < nodes {
         let r = row_at(file, row);
@@ -167,7 +170,7 @@ pub(crate) fn check_bodies(file: &[u8], nodes: usize) -> Checked
         let Checked::Accepted = found else {
             return found;
         };
-        start += count * 20;
+        start += count * ENTRY_BYTES;
         row += 1;
     }
     Checked::Accepted
@@ -179,7 +182,7 @@ pub(crate) fn check_rows(rows: &[u32], words: usize) -> Checked
     ensures { λ a.
         ⌜ outcome a ≡
         (rowsCheck 0 0 (map rowOf (now (rows .entry)))
-        andThen demand (eqb words (entryCount (map rowOf (now (rows .entry))) * 5)) (at 6 0 0)) ⌝ }
+        andThen mustHold (eqb words (entryCount (map rowOf (now (rows .entry))) * 5)) (at 6 0 0)) ⌝ }
 {
     let mut least: u32 = 0;
     let mut total: usize = 0;

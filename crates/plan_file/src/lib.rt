@@ -36,6 +36,13 @@ ghost use Rattle.plan_file.specs.Answers.{left, Loaded, Holding, readGiv
 // The four bytes that a plan file opens with.
 const OPENING: [u8; 4] = *b"LMP1";
 
+// The bytes before the contents, of a row of the contents, and of an entry.
+const HEADER_BYTES: usize = 8;
+
+const ROW_BYTES: usize = 8;
+
+const ENTRY_BYTES: usize = 20;
+
 // A row of the contents without its offset.
 pub struct Row {
     pub number: u16,
@@ -66,7 +73,7 @@ pub fn row_at(file: &[u8], row: usize) -> Row
     requires { ⌜ bodiesStart (row + 1) ≤ length (now file) ⌝ }
     ensures { λ r. ⌜ r ≡ rowAt (now (file .entry)) row ⌝ }
 {
-    row_of(word_at(file, 8 + row * 8))
+    row_of(word_at(file, HEADER_BYTES + row * ROW_BYTES))
 }
 
 // The node count, in the byte after the opening ones.
@@ -137,7 +144,7 @@ pub fn write_plan(rows: &[u32], entries: &[u32], file: &mut [u8]) -> Written
     if let Checked::Refused(r) = checked {
         return Written::Refused(r);
     }
-    let start = 8 + rows.len() * 8;
+    let start = HEADER_BYTES + rows.len() * ROW_BYTES;
     let length = start + entries.len() * 4;
     if file.len() < length {
         return Written::Refused(Refusal::ShortBuffer);
@@ -165,7 +172,7 @@ pub fn read_plan(file: &[u8], rows: &mut [u32], entries: &mut [u32]) -> ReadPlan
         return ReadPlan::Refused(r);
     }
     let nodes = node_count(file);
-    let start = 8 + nodes * 8;
+    let start = HEADER_BYTES + nodes * ROW_BYTES;
     let words = (file.len() - start) / 4;
     if rows.len() < nodes {
         return ReadPlan::Refused(Refusal::ShortBuffer);
@@ -188,7 +195,7 @@ pub fn load_node(file: &[u8], row: usize, words: &mut [u32; 320]) -> Row
         ⌜ Loaded (now (file .entry)) row r (now (words .entry)) (now (words .exit)) ⌝ }
 {
     let r = row_at(file, row);
-    let start = word_at(file, 8 + row * 8 + 4) as usize;
+    let start = word_at(file, HEADER_BYTES + row * ROW_BYTES + 4) as usize;
     copy_words(file, start, words, r.count as usize * 5);
     r
 }

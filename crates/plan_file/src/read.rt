@@ -1,6 +1,9 @@
 // Reads words, rows and entries out of a file, and entries out of words.
+use super::HEADER_BYTES;
+use super::ROW_BYTES;
 use super::Row;
 use task_model::Entry;
+use task_model::entry_with;
 ghost use mathlib.Core.Path.{_≡_};
 ghost use mathlib.Core.List.{_∷_, [], map};
 ghost use lib.ListN.{length};
@@ -37,21 +40,6 @@ pub(crate) fn row_of(word: u32) -> Row
         number: (word % 65536) as u16,
         levels: (word / 65536 % 256) as u8,
         count: (word / 16777216 % 256) as u8,
-    }
-}
-
-// The entry that five words hold.
-fn entry_with(head: u32, wcet: u32, period: u32, deadline: u32, blocking: u32) -> Entry
-    ensures { λ e. ⌜ e ≡ entryFrom (head ∷ wcet ∷ period ∷ deadline ∷ blocking ∷ []) 0 ⌝ }
-{
-    Entry {
-        number: (head % 65536) as u16,
-        kind: (head / 65536 % 256) as u8,
-        calls: (head / 16777216 % 256) as u8,
-        wcet,
-        period,
-        deadline,
-        blocking,
     }
 }
 
@@ -102,7 +90,7 @@ pub(crate) fn copy_rows(file: &[u8], rows: &mut [u32], nodes: usize)
 {
     let mut row: usize = 0;
     while row < nodes {
-        rows[row] = word_at(file, 8 + row * 8);
+        rows[row] = word_at(file, HEADER_BYTES + row * ROW_BYTES);
         row += 1;
     }
 }

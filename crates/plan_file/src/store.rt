@@ -1,5 +1,8 @@
 // Stores the parts of a plan file into a buffer.
+use super::ENTRY_BYTES;
+use super::HEADER_BYTES;
 use super::OPENING;
+use super::ROW_BYTES;
 use super::read::row_of;
 ghost use mathlib.Core.Path.{_≡_};
 ghost use mathlib.Core.List.{map};
@@ -69,7 +72,7 @@ pub(crate) fn put_contents(file: &mut [u8], rows: &[u32])
     let mut row: usize = 0;
     while row < rows.len() {
         let word = rows[row];
-        put_row(file, 8 + row * 8, word, offset);
+        put_row(file, HEADER_BYTES + row * ROW_BYTES, word, offset);
         offset += row_of(word).count as u32 * 20;
         row += 1;
     }
@@ -82,7 +85,7 @@ pub(crate) fn put_bodies(file: &mut [u8], start: usize, words: &[u32], count: us
 {
     let mut j: usize = 0;
     while j < count {
-        put_entry(file, start + j * 20, words, j * 5);
+        put_entry(file, start + j * ENTRY_BYTES, words, j * 5);
         j += 1;
     }
 }

@@ -3,7 +3,7 @@ use Prim.Native.Nat.{ℕ, _≤_, _<_}
 use mathlib.Core.Path.{_≡_, _∙_, refl, ap, sym}
 use mathlib.Core.List.{List}
 use native.Mathlib.Omega.{arith}
-use lib.ListN.{length, take}
+use lib.ListN.{length}
 use borrow.Author.Tests.{le-leb, lt-leb}
 use Rattle.task_model.specs.Refusals.{Numbered, at, Outcome}
 use Rattle.task_model.specs.Refusals as check
@@ -11,7 +11,7 @@ use Rattle.task_model.specs.Limits.{Node, NodeHolds}
 use Rattle.plan_file.specs.Answers.{gives, refuses, giving, Shape, findAnswer}
 use Rattle.plan_file.specs.Find.{findCheck, nodeFound}
 use Rattle.level_map.specs.Map.{theMap}
-use Rattle.level_map.specs.Answer.{Answer, refused, answerOf, bufferOf, Demand3}
+use Rattle.level_map.specs.Answer.{Answer, refused, answerOf, bufferOf}
 use Rattle.level_map.proofs.Theorems.{demand-three}
 use Rattle.task_model.proofs.Theorems.{not-both}
 use Rattle.planner.proofs.Nodes.{found-holds}

@@ -1,14 +1,12 @@
 -- Mapping a node of a plan file.
 use Prim.Native.Nat.{ℕ, _≤_}
-use mathlib.Core.Path.{_≡_}
 use mathlib.Core.Bool.{true, false}
 use mathlib.Core.List.{List}
 use lib.ListN.{length, take}
 use lib.Dec.{leb}
-use Rattle.task_model.specs.Refusals.{at, numbered, Outcome}
+use Rattle.task_model.specs.Refusals.{at, numbered}
 use Rattle.task_model.specs.Refusals as check
 use Rattle.task_model.specs.Limits.{Node}
-use Rattle.plan_file.specs.Check.{_andThen_, demand}
 use Rattle.plan_file.specs.Find.{findCheck, nodeFound}
 use Rattle.level_map.specs.Map.{theMap}
 use Rattle.level_map.specs.Answer.{Answer, mapped, refused, answerOf, bufferOf, Demand3}

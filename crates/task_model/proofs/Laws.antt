@@ -1,27 +1,18 @@
 -- Laws of the limits and the checks: what a test's answer says of the numbers, and a check's answer of the limits.
 use Prim.Native.Nat.{ℕ, zero, suc, _+_, _-_, _≤_, _<_}
-use mathlib.Core.Path.{_≡_, _∙_, refl, sym, ap}
-use mathlib.Core.Bool.{Bool, true, false, _&&_, _||_, true≢false, false≢true}
+use mathlib.Core.Path.{_≡_, _∙_, refl, ap}
+use mathlib.Core.Bool.{Bool, true, false, _&&_, false≢true}
 use mathlib.Core.Logic.{_⊎_, inl, inr, ⊎-elim}
-use mathlib.Core.List.{List, [], _∷_}
+use mathlib.Core.List.{List, _∷_}
 use native.Mathlib.Nat.{zero-add}
 use native.Mathlib.Omega.{arith}
 use native.Mathlib.Numerals.{add-one}
-use native.Mathlib.Decide.{decLe}
 use lib.ListN.{length}
-use lib.Dec.{leb, eqb}
-use borrow.Author.Tests.{leb-true, le-leb, eqb-true, eq-eqb}
+use lib.Dec.{leb}
+use borrow.Author.Tests.{leb-true, le-leb}
 use Rattle.task_model.specs.declared.Entry.{Entry}
-use Rattle.task_model.specs.Refusals.{Numbered, at, Outcome, accepted, refused}
-use Rattle.task_model.specs.Limits.{
-  Node,
-  entryAt,
-  KindHolds,
-  TimesHold,
-  EntryHolds,
-  AllHold,
-  NodeHolds,
-}
+use Rattle.task_model.specs.Refusals.{Numbered, at, accepted, refused}
+use Rattle.task_model.specs.Limits.{Node, entryAt, TimesHold, EntryHolds, AllHold}
 use Rattle.task_model.specs.Checks.{kindTest, timesTest, entryCheck, entriesCheck, sizeTest, nodeCheck}
 use Rattle.task_model.specs.Words.{entryOf, entriesFrom, entriesOf}
 

@@ -2,8 +2,9 @@
 ghost use mathlib.Core.Path.{_≡_};
 ghost use Prim.Native.Nat.{_<_, _≤_};
 ghost use Rattle.task_model.specs.Refusals.{outcome, at, numbered, numbersIn};
-ghost use Rattle.task_model.specs.Checks.{kindTest, timesTest, sizeTest, entryCheck, entriesCheck, nodeCheck};
-ghost use Rattle.task_model.specs.Words.{entryOf, entriesOf, nodeOf};
+ghost use Rattle.task_model.specs.Checks.{kindTest, timesTest, entryCheck, entriesCheck, nodeCheck};
+ghost use Rattle.task_model.specs.Words.{entryFrom, entryOf, entriesOf, nodeOf};
+ghost use mathlib.Core.List.{[], _∷_};
 
 // The longest period and the longest blocking, in ticks.
 pub const MOST_TICKS: u32 = 1000000000;
@@ -54,76 +55,30 @@ pub struct Numbers {
     pub entry: usize,
 }
 
+fn numbers_at(number: u8, row: usize, entry: usize) -> Numbers
+    ensures { λ n. ⌜ numbersIn n ≡ at number row entry ⌝ }
+{
+    Numbers { number, row, entry }
+}
+
 // The number of a refusal in the table, and its places.
 pub fn numbers_of(r: Refusal) -> Numbers
     ensures { λ n. ⌜ numbersIn n ≡ numbered r ⌝ }
 {
     match r {
-        Refusal::ShortFile => Numbers {
-            number: 1,
-            row: 0,
-            entry: 0,
-        },
-        Refusal::OpeningBytes => Numbers {
-            number: 2,
-            row: 0,
-            entry: 0,
-        },
-        Refusal::NodeCount => Numbers {
-            number: 3,
-            row: 0,
-            entry: 0,
-        },
-        Refusal::Row { row } => Numbers {
-            number: 4,
-            row,
-            entry: 0,
-        },
-        Refusal::Offset { row } => Numbers {
-            number: 5,
-            row,
-            entry: 0,
-        },
-        Refusal::FileLength => Numbers {
-            number: 6,
-            row: 0,
-            entry: 0,
-        },
-        Refusal::Kind { row, position } => Numbers {
-            number: 7,
-            row,
-            entry: position,
-        },
-        Refusal::Times { row, position } => Numbers {
-            number: 8,
-            row,
-            entry: position,
-        },
-        Refusal::NoSuchNode => Numbers {
-            number: 9,
-            row: 0,
-            entry: 0,
-        },
-        Refusal::ShortBuffer => Numbers {
-            number: 10,
-            row: 0,
-            entry: 0,
-        },
-        Refusal::NoMap => Numbers {
-            number: 11,
-            row: 0,
-            entry: 0,
-        },
-        Refusal::OutsideList => Numbers {
-            number: 12,
-            row: 0,
-            entry: 0,
-        },
-        Refusal::FullList => Numbers {
-            number: 13,
-            row: 0,
-            entry: 0,
-        },
+        Refusal::ShortFile => numbers_at(1, 0, 0),
+        Refusal::OpeningBytes => numbers_at(2, 0, 0),
+        Refusal::NodeCount => numbers_at(3, 0, 0),
+        Refusal::Row { row } => numbers_at(4, row, 0),
+        Refusal::Offset { row } => numbers_at(5, row, 0),
+        Refusal::FileLength => numbers_at(6, 0, 0),
+        Refusal::Kind { row, position } => numbers_at(7, row, position),
+        Refusal::Times { row, position } => numbers_at(8, row, position),
+        Refusal::NoSuchNode => numbers_at(9, 0, 0),
+        Refusal::ShortBuffer => numbers_at(10, 0, 0),
+        Refusal::NoMap => numbers_at(11, 0, 0),
+        Refusal::OutsideList => numbers_at(12, 0, 0),
+        Refusal::FullList => numbers_at(13, 0, 0),
     }
 }
 
@@ -176,22 +131,34 @@ pub fn check_entry(row: usize, position: usize, e: Entry) -> Checked
     Checked::Accepted
 }
 
+// The entry that five words hold: number, kind and calls in the first, then C, T, D and B.
+pub fn entry_with(head: u32, wcet: u32, period: u32, deadline: u32, blocking: u32) -> Entry
+    ensures { λ e. ⌜ e ≡ entryFrom (head ∷ wcet ∷ period ∷ deadline ∷ blocking ∷ []) 0 ⌝ }
+{
+    Entry {
+        number: (head % 65536) as u16,
+        kind: (head / 65536 % 256) as u8,
+        calls: (head / 16777216 % 256) as u8,
+        wcet,
+        period,
+        deadline,
+        blocking,
+    }
+}
+
 // The entry at a position of a node's words.
 pub fn entry_at(words: &[u32; 320], position: usize) -> Entry
     requires { ⌜ position < 64 ⌝ }
     ensures { λ e. ⌜ e ≡ entryOf (now (words .entry)) position ⌝ }
 {
     let k = position * 5;
-    let head = words[k];
-    Entry {
-        number: (head % 65536) as u16,
-        kind: (head / 65536 % 256) as u8,
-        calls: (head / 16777216 % 256) as u8,
-        wcet: words[k + 1],
-        period: words[k + 2],
-        deadline: words[k + 3],
-        blocking: words[k + 4],
-    }
+    entry_with(
+        words[k],
+        words[k + 1],
+        words[k + 2],
+        words[k + 3],
+        words[k + 4],
+    )
 }
 
 // Accepts entries that are all within the limits; refuses the first that is not.

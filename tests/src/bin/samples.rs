@@ -28,7 +28,8 @@ fn station() -> Plan {
 
 fn write(folder: &Path, name: &str, file: &[u8]) {
     std::fs::write(folder.join(name).with_extension("plan"), file).expect("the folder is there");
-    std::fs::write(folder.join(name).with_extension("txt"), list(file)).expect("the folder is there");
+    std::fs::write(folder.join(name).with_extension("txt"), list(file))
+        .expect("the folder is there");
 }
 
 fn main() {
@@ -48,7 +49,11 @@ fn main() {
     for (name, node) in starred {
         write(folder, name, &cases::file(node));
     }
-    write(folder, "station", &encode(&station()).expect("the station is inside the limits"));
+    write(
+        folder,
+        "station",
+        &encode(&station()).expect("the station is inside the limits"),
+    );
     let mut damaged = cases::file(cases::p());
     damaged[40] = 200;
     write(folder, "refused", &damaged);

@@ -1,12 +1,11 @@
 use Prim.Native.Nat.{ℕ, _+_, _-_, _≤_, _<_}
-use mathlib.Core.Path.{_≡_, _∙_, ap, sym}
-use native.Mathlib.Nat.{le-refl}
+use mathlib.Core.Path.{_≡_, ap}
 use native.Mathlib.Omega.{arith}
 use borrow.Author.Needs.{needs}
 use Rattle.task_model.specs.declared.Entry.{Entry}
-use Rattle.task_model.specs.Words.{entryOf, entriesOf}
-use Rattle.task_model.proofs.Laws.{all-at, entry-of}
-use Rattle.completion.specs.Demand.{demand, start}
+use Rattle.task_model.specs.Words.{entriesOf}
+use Rattle.task_model.proofs.Laws.{all-at}
+use Rattle.completion.specs.Demand.{demand}
 use Rattle.completion.specs.Group.{groupLevel}
 use Rattle.completion.specs.Test.{testFrom, completionTest}
 use Rattle.completion.proofs.Iteration.{loop-late, loop-done, loop-next}

@@ -1,4 +1,3 @@
-use mathlib.Core.Path.{ap}
 use native.Mathlib.Omega.{arith}
 use borrow.Author.Needs.{needs}
 use Rattle.completion.specs.Demand.{urgentShare}

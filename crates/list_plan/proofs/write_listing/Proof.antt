@@ -1,13 +1,12 @@
 use Prim.Native.Nat.{ℕ, _≤_}
-use mathlib.Core.Path.{_≡_, _∙_, refl, ap, sym}
+use mathlib.Core.Path.{_≡_, _∙_, refl, ap}
 use mathlib.Core.List.{List, _++_}
 use native.Mathlib.Omega.{arith}
 use lib.ListN.{length, take, drop, length-append}
 use lib.Seq.{take-at}
 use borrow.Author.Needs.{needs}
 use Rattle.io.proofs.Counting.{counts}
-use Rattle.listing.specs.declared.Listed.{Listed}
-use Rattle.listing.specs.declared.Listed.the-variants.{Text, Refused}
+use Rattle.listing.specs.declared.Listed.the-variants.{Text}
 use Rattle.listing.specs.Listing.{listing}
 use Rattle.listing.proofs.Texts.{listed-size, listed-text}
 use Rattle.list_plan.proofs.write_listing.Statement.{statement}

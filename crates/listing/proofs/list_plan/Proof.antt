@@ -1,13 +1,13 @@
-use Prim.Native.Nat.{ℕ, _+_, _≤_, _<_}
+use Prim.Native.Nat.{ℕ}
 use mathlib.Core.Path.{_≡_, _∙_, refl, ap, ap₂, sym}
-use mathlib.Core.List.{List, _++_}
+use mathlib.Core.List.{List}
 use native.Mathlib.Nat.{zero-add}
 use native.Mathlib.Omega.{arith}
-use lib.ListN.{length, take, drop}
+use lib.ListN.{length, take}
 use Rattle.text.specs.Text.{written}
 use Rattle.plan_file.specs.Answers.{gives}
 use Rattle.text.proofs.Writing.{written-front, front-text}
-use Rattle.listing.specs.Listing.{listing, listAnswer}
+use Rattle.listing.specs.Listing.{listing}
 use Rattle.listing.proofs.Texts.{text-fits, text-short}
 use borrow.Author.Needs.{needs}
 use Rattle.listing.proofs.list_plan.Statement.{statement}

@@ -1,4 +1,4 @@
-use Prim.Native.Nat.{_+_, _*_, _-_, _≤_, _<_}
+use Prim.Native.Nat.{_+_, _*_, _-_, _≤_}
 use mathlib.Core.Path.{_≡_, sym}
 use native.Mathlib.Omega.{arith}
 use Rattle.task_model.specs.Words.{entriesOf}
@@ -6,7 +6,6 @@ use Rattle.text.specs.Text.{Upto}
 use Rattle.listing.specs.Listing.{entriesText}
 use Rattle.listing.proofs.Lines.{upto-same, upto-none, upto-room, upto-append, upto-kept}
 use Rattle.listing.proofs.Texts.{entries-none, entries-more}
-use borrow.Author.Needs.{needs}
 use Rattle.listing.proofs.put_entries.Statement.{statement}
 use Rattle.listing.proofs.put_entries.Tie as tie
 

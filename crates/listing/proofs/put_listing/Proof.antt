@@ -1,9 +1,8 @@
-use Prim.Native.Nat.{ℕ, _+_, _*_, _≤_, _<_}
+use Prim.Native.Nat.{ℕ, _+_, _*_, _≤_}
 use mathlib.Core.Path.{_≡_, _∙_, ap, sym}
 use mathlib.Core.List.{List, _++_}
 use native.Mathlib.Nat.{le-of-eq}
 use native.Mathlib.Omega.{arith}
-use lib.ListN.{length}
 use Rattle.task_model.specs.declared.Checked.the-variants.{Accepted}
 use Rattle.task_model.specs.Refusals.{outcome, accepted}
 use Rattle.plan_file.specs.Check.{fileCheck}

@@ -1,10 +1,6 @@
-use Prim.Native.Nat.{ℕ, _+_, _≤_}
-use mathlib.Core.Path.{_≡_, refl, ap}
-use mathlib.Core.List.{List, _++_}
 use native.Mathlib.Omega.{arith}
-use lib.ListN.{length}
 use borrow.Author.Needs.{needs}
-use Rattle.text.specs.Text.{text, Wrote, Upto}
+use Rattle.text.specs.Text.{text, Upto}
 use Rattle.text.specs.Decimal.{field}
 use Rattle.text.proofs.Numbers.{decimal-16}
 use Rattle.listing.specs.Lines.{noMapLine}

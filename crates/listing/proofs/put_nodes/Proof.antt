@@ -1,4 +1,4 @@
-use Prim.Native.Nat.{_+_, _*_, _-_, _≤_, _<_}
+use Prim.Native.Nat.{_+_, _*_, _-_, _≤_}
 use mathlib.Core.Path.{_≡_, sym}
 use native.Mathlib.Omega.{arith}
 use Rattle.text.specs.Text.{Upto}
@@ -6,7 +6,6 @@ use Rattle.plan_file.specs.Decoding.{planIn}
 use Rattle.listing.specs.Listing.{nodesText}
 use Rattle.listing.proofs.Lines.{upto-same, upto-none, upto-room, upto-append, upto-kept}
 use Rattle.listing.proofs.Texts.{nodes-none, nodes-more}
-use borrow.Author.Needs.{needs}
 use Rattle.listing.proofs.put_nodes.Statement.{statement}
 use Rattle.listing.proofs.put_nodes.Tie as tie
 

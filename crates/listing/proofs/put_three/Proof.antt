@@ -1,10 +1,8 @@
-use Prim.Native.Nat.{_+_, _≤_}
-use mathlib.Core.Path.{_≡_, refl, ap}
+use Prim.Native.Nat.{_+_}
 use mathlib.Core.List.{_++_}
 use native.Mathlib.Omega.{arith}
-use lib.ListN.{length, length-append}
+use lib.ListN.{length-append}
 use borrow.Author.Needs.{needs}
-use Rattle.text.specs.Text.{text, Upto}
 use Rattle.text.specs.Decimal.{decimal}
 use Rattle.text.proofs.Writing.{wrote-kept, wrote-then}
 use Rattle.listing.proofs.put_three.Statement.{statement}

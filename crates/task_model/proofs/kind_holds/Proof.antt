@@ -1,5 +1,5 @@
 use native.Mathlib.Omega.{arith}
-use borrow.Author.Tests.{eq-eqb, ne-eqb, le-leb, lt-leb}
+use borrow.Author.Tests.{ne-eqb, le-leb, lt-leb}
 use Rattle.task_model.specs.Checks.{kindTest}
 use Rattle.task_model.proofs.kind_holds.Statement.{statement}
 use Rattle.task_model.proofs.kind_holds.Tie as tie

@@ -1,9 +1,9 @@
-use mathlib.Core.Path.{_≡_, _∙_, ap, sym}
-use mathlib.Core.List.{List, [], _∷_, _++_}
+use mathlib.Core.Path.{_≡_, _∙_, ap}
+use mathlib.Core.List.{List, [], _∷_}
 use native.Mathlib.Omega.{arith}
 use lib.ListN.{length, set, length-append, length-set}
 use borrow.Author.Needs.{needs}
-use Rattle.text.specs.Text.{written, Wrote}
+use Rattle.text.specs.Text.{Wrote}
 use Rattle.text.specs.Decimal.{decimal}
 use Rattle.text.proofs.Writing.{written-one, written-after, length-written}
 use Rattle.text.proofs.Numbers.{decimal-one, decimal-more, decimal-some}

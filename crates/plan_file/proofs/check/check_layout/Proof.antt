@@ -11,7 +11,7 @@ use Rattle.plan_file.specs.Check.{rowTest, layoutCheck}
 use Rattle.plan_file.specs.Decoding.{rowAt, offsetAt, rowsFrom}
 use Rattle.plan_file.specs.Encoding.{bodiesStart}
 use Rattle.plan_file.proofs.Contents.{at-row, at-offset, at-next, at-end}
-use Rattle.plan_file.proofs.Outcomes.{demand-accepts, demand-refuses}
+use Rattle.plan_file.proofs.Outcomes.{mustHold-accepts, mustHold-refuses}
 use Rattle.plan_file.proofs.check.check_layout.Statement.{statement}
 use Rattle.plan_file.proofs.check.check_layout.Tie as tie
 
@@ -99,13 +99,13 @@ loop-again c = (
 
 returns-3 : tie.Need-returns-3 Inv-loop μ-loop
 returns-3 c =
-    sym (demand-refuses _ _ (ne-eqb (length (c .before .before .before .before .args .file .now)) (c .before .before .loop .required) (λ e. omega arith)))
+    sym (mustHold-refuses _ _ (ne-eqb (length (c .before .before .before .before .args .file .now)) (c .before .before .loop .required) (λ e. omega arith)))
     ∙ sym (at-end _ _ _ _ _ (c .before .loop-test .left))
     ∙ c .before .before .loop .inv .3
 
 returns-4 : tie.Need-returns-4 Inv-loop μ-loop
 returns-4 c =
-    sym (demand-accepts _ _ (eq-eqb (length (c .before .before .before .before .args .file .now)) (c .before .before .loop .required) (omega arith)))
+    sym (mustHold-accepts _ _ (eq-eqb (length (c .before .before .before .before .args .file .now)) (c .before .before .loop .required) (omega arith)))
     ∙ sym (at-end _ _ _ _ _ (c .before .loop-test .left))
     ∙ c .before .before .loop .inv .3
 

@@ -1,7 +1,7 @@
 use borrow.Author.Needs.{needs}
 use Rattle.task_model.specs.Words.{entryFrom}
-use Rattle.plan_file.proofs.read.entry_with.Statement.{statement}
-use Rattle.plan_file.proofs.read.entry_with.Tie as tie
+use Rattle.task_model.proofs.entry_with.Statement.{statement}
+use Rattle.task_model.proofs.entry_with.Tie as tie
 
 cast-t7 : tie.Need-cast-t7
 cast-t7 c = search needs

@@ -1,0 +1,203 @@
+-- Laws of checks that follow one another, and of what a check's answer leaves of a session.
+use Prim.Native.Nat.{ℕ, _≤_, _<_}
+use mathlib.Core.Path.{_≡_, _∙_, sym}
+use mathlib.Core.Bool.{true, _&&_}
+use native.Mathlib.Omega.{arith}
+use lib.ListN.{length}
+use lib.Dec.{leb, ltb}
+use borrow.Author.Tests.{le-leb, lt-leb, lt-ltb, le-ltb, leb-true, ltb-true}
+use Rattle.task_model.specs.declared.Entry.{Entry}
+use Rattle.task_model.specs.declared.Checked.{Checked}
+use Rattle.task_model.specs.Refusals.{Numbered, at, accepted, refused, outcome}
+use Rattle.task_model.specs.Limits.{Node, AllHold}
+use Rattle.task_model.specs.Checks.{entryCheck, nodeCheck}
+use Rattle.task_model.proofs.Laws.{and-true, decided, length-entries}
+use Rattle.task_model.proofs.Theorems.{node-accepted}
+use Rattle.completion.specs.Group.{groupLevel}
+use Rattle.completion.specs.Test.{completionTest}
+use Rattle.plan_file.specs.Check.{_andThen_}
+use Rattle.plan_file.proofs.Outcomes.{then-refused, then-accepted, then-assoc, both-accepted, mustHold-refuses, demanded}
+use Rattle.session.specs.declared.Session.{Session}
+use Rattle.session.specs.State.{nodeIn, sessionOf}
+use Rattle.session.specs.Operations.{Operation, inserting, removing, replacing, settingLevels, timing, levelsCheck, operationCheck, lentCheck, stepCheck, changed}
+use Rattle.plan_file.specs.Answers.{gives, refuses}
+use Rattle.session.specs.Timing.{timeAnswer}
+use Rattle.session.specs.Steps.{sessionAfter, Follows}
+
+-- 1 to 64 levels
+pub levels-low : (levels : ℕ) → levels < 1 → levelsCheck levels ≡ refused (at 4 0 0)
+unfolding levelsCheck
+levels-low levels h = rw (lt-leb 1 levels h)
+
+pub levels-high : (levels : ℕ) → 1 ≤ levels → 64 < levels → levelsCheck levels ≡ refused (at 4 0 0)
+unfolding levelsCheck
+levels-high levels l h = rw (le-leb 1 levels l, lt-leb levels 64 h)
+
+pub levels-within : (levels : ℕ) → 1 ≤ levels → levels ≤ 64 → levelsCheck levels ≡ accepted
+unfolding levelsCheck
+levels-within levels l h = rw (le-leb 1 levels l, le-leb levels 64 h)
+
+pub levels-accepted : (levels : ℕ) → levelsCheck levels ≡ accepted → (1 ≤ levels) × (levels ≤ 64)
+unfolding levelsCheck
+levels-accepted levels a =
+    let q = and-true _ _ (demanded _ _ a) in
+    (leb-true _ _ (q .0), leb-true _ _ (q .1))
+
+-- a session that is lent, and then the operation's own checks
+module _ (o : Operation) (n : Node) where
+  pub lent-stops : (r : Numbered) → lentCheck o n ≡ refused r → stepCheck o n ≡ refused r
+  unfolding stepCheck
+  lent-stops r p = then-refused _ _ r p
+
+  pub lent-goes-on : lentCheck o n ≡ accepted → stepCheck o n ≡ operationCheck o n
+  unfolding stepCheck
+  lent-goes-on p = then-accepted _ _ p
+
+  pub step-accepted : stepCheck o n ≡ accepted → (lentCheck o n ≡ accepted) × (operationCheck o n ≡ accepted)
+  unfolding stepCheck
+  step-accepted p = both-accepted _ _ p
+
+-- each operation's checks
+module _ (n : Node) (p : ℕ) where
+  module _ (e : Entry) where
+    pub insert-outside : length (n .entries) < p → operationCheck (inserting p e) n ≡ refused (at 12 0 0)
+    unfolding operationCheck
+    insert-outside h = rw (lt-leb p (length (n .entries)) h)
+
+    pub insert-full : p ≤ length (n .entries) → 64 ≤ length (n .entries) → operationCheck (inserting p e) n ≡ refused (at 13 0 0)
+    unfolding operationCheck
+    insert-full h l = rw (le-leb p (length (n .entries)) h, le-ltb (length (n .entries)) 64 l)
+
+    pub insert-entry : p ≤ length (n .entries) → length (n .entries) < 64
+        → operationCheck (inserting p e) n ≡ entryCheck 0 p e
+    unfolding operationCheck
+    insert-entry h l = rw (le-leb p (length (n .entries)) h, lt-ltb (length (n .entries)) 64 l)
+
+    pub insert-accepted : operationCheck (inserting p e) n ≡ accepted
+        → (p ≤ length (n .entries)) × (length (n .entries) < 64) × (entryCheck 0 p e ≡ accepted)
+    unfolding operationCheck
+    insert-accepted a =
+        let q = both-accepted _ _ a in
+        let t = both-accepted _ _ (q .1) in
+        (leb-true _ _ (demanded _ _ (q .0)), ltb-true _ _ (demanded _ _ (t .0)), t .1)
+
+    pub replace-accepted : operationCheck (replacing p e) n ≡ accepted → (p < length (n .entries)) × (entryCheck 0 p e ≡ accepted)
+    unfolding operationCheck
+    replace-accepted a = let q = both-accepted _ _ a in (ltb-true _ _ (demanded _ _ (q .0)), q .1)
+
+    -- replacing checks what removing does, and then the entry
+    pub replace-step : stepCheck (replacing p e) n ≡ (stepCheck (removing p) n andThen entryCheck 0 p e)
+    unfolding stepCheck lentCheck operationCheck
+    replace-step = sym (then-assoc (nodeCheck 0 n) _ _)
+
+  pub remove-outside : length (n .entries) ≤ p → operationCheck (removing p) n ≡ refused (at 12 0 0)
+  unfolding operationCheck
+  remove-outside h = rw (le-ltb p (length (n .entries)) h)
+
+  pub remove-inside : p < length (n .entries) → operationCheck (removing p) n ≡ accepted
+  unfolding operationCheck
+  remove-inside h = rw (lt-ltb p (length (n .entries)) h)
+
+  pub remove-accepted : operationCheck (removing p) n ≡ accepted → p < length (n .entries)
+  unfolding operationCheck
+  remove-accepted a = ltb-true _ _ (demanded _ _ a)
+
+module _ (n : Node) (first last i : ℕ) where
+  pub time-before : i < first → operationCheck (timing first last i) n ≡ refused (at 12 0 0)
+  unfolding operationCheck
+  time-before h = rw (lt-leb first i h)
+
+  pub time-after : first ≤ i → last < i → operationCheck (timing first last i) n ≡ refused (at 12 0 0)
+  unfolding operationCheck
+  time-after h l = rw (le-leb first i h, lt-leb i last l)
+
+  pub time-outside : first ≤ i → i ≤ last → length (n .entries) ≤ last → operationCheck (timing first last i) n ≡ refused (at 12 0 0)
+  unfolding operationCheck
+  time-outside h l m = rw (le-leb first i h, le-leb i last l, le-ltb last (length (n .entries)) m)
+
+  pub time-inside : first ≤ i → i ≤ last → last < length (n .entries) → operationCheck (timing first last i) n ≡ accepted
+  unfolding operationCheck
+  time-inside h l m = rw (le-leb first i h, le-leb i last l, lt-ltb last (length (n .entries)) m)
+
+  time-bounds : leb first i && leb i last && ltb last (length (n .entries)) ≡ true
+      → (first ≤ i) × (i ≤ last) × (last < length (n .entries))
+  time-bounds p =
+      let q = and-true _ _ p in
+      let t = and-true _ _ (q .0) in
+      (leb-true _ _ (t .0), leb-true _ _ (t .1), ltb-true _ _ (q .1))
+
+  pub time-else : ((first ≤ i) → (i ≤ last) → (last < length (n .entries)) → ⊥)
+      → operationCheck (timing first last i) n ≡ refused (at 12 0 0)
+  unfolding operationCheck
+  time-else out = mustHold-refuses _ _ (decided _ time-bounds (λ h. out (h .0) (h .1) (h .2)))
+
+  pub time-accepted : operationCheck (timing first last i) n ≡ accepted
+      → (first ≤ i) × (i ≤ last) × (last < length (n .entries))
+  unfolding operationCheck
+  time-accepted a = time-bounds (demanded _ _ a)
+
+-- what a call leaves
+module _ (o : Operation) (s : Session) where
+  pub after-refused : (r : Numbered) → stepCheck o (nodeIn s) ≡ refused r → sessionAfter o s ≡ s
+  unfolding sessionAfter
+  after-refused r p = rw (p, sessionAfter)
+
+  pub after-accepted : stepCheck o (nodeIn s) ≡ accepted → sessionAfter o s ≡ sessionOf (changed o (nodeIn s))
+  unfolding sessionAfter
+  after-accepted p = rw (p, sessionAfter)
+
+  pub follows-refused : (a : Checked) (r : Numbered) → outcome a ≡ stepCheck o (nodeIn s) → outcome a ≡ refused r → Follows o s a s
+  follows-refused a r p q = record { answer = p; session = sym (after-refused r (sym p ∙ q)) }
+
+  pub follows-accepted : (a : Checked) (t : Session) → outcome a ≡ stepCheck o (nodeIn s) → outcome a ≡ accepted
+      → t ≡ sessionOf (changed o (nodeIn s)) → Follows o s a t
+  follows-accepted a t p q e = record { answer = p; session = e ∙ sym (after-accepted (sym p ∙ q)) }
+
+-- timing
+module _ (n : Node) (first last i : ℕ) where
+  pub time-refused : (r : Numbered) → stepCheck (timing first last i) n ≡ refused r → timeAnswer n first last i ≡ refuses r
+  unfolding timeAnswer
+  time-refused r p = rw p
+
+  pub time-given : stepCheck (timing first last i) n ≡ accepted
+      → timeAnswer n first last i ≡ gives (completionTest (n .entries) (groupLevel first last) i)
+  unfolding timeAnswer
+  time-given p = rw p
+
+-- what an accepted operation may go by
+module _ (s : Session) where
+  sized : length (nodeIn s .entries) ≡ s .count
+  sized = length-entries (s .words) 0 (s .count)
+
+  few : nodeCheck 0 (nodeIn s) ≡ accepted → s .count ≤ 64
+  few p = omega (arith, node-accepted 0 (nodeIn s) .0 p .fewEntries, sized)
+
+  module _ (p : ℕ) where
+    pub insert-ready : (e : Entry) → stepCheck (inserting p e) (nodeIn s) ≡ accepted → (p ≤ s .count) × (s .count < 64)
+    insert-ready e a =
+        let q = insert-accepted (nodeIn s) p e (step-accepted (inserting p e) (nodeIn s) a .1) in
+        (omega (arith, sized), omega (arith, sized))
+
+    pub remove-ready : stepCheck (removing p) (nodeIn s) ≡ accepted → (p < s .count) × (s .count ≤ 64)
+    unfolding lentCheck
+    remove-ready a =
+        let q = step-accepted (removing p) (nodeIn s) a in
+        (omega (arith, sized, remove-accepted (nodeIn s) p (q .1)), few (q .0))
+
+    pub replace-ready : (e : Entry) → stepCheck (replacing p e) (nodeIn s) ≡ accepted → (p < s .count) × (s .count ≤ 64)
+    unfolding lentCheck
+    replace-ready e a =
+        let q = step-accepted (replacing p e) (nodeIn s) a in
+        (omega (arith, sized, replace-accepted (nodeIn s) p e (q .1) .0), few (q .0))
+
+  pub levels-ready : (levels : ℕ) → stepCheck (settingLevels levels) (nodeIn s) ≡ accepted → s .count ≤ 64
+  unfolding lentCheck
+  levels-ready levels a = few (step-accepted (settingLevels levels) (nodeIn s) a .0)
+
+  pub time-ready : (first last i : ℕ) → stepCheck (timing first last i) (nodeIn s) ≡ accepted
+      → AllHold (nodeIn s .entries) × ((first ≤ i) × (i ≤ last) × (last < s .count) × (s .count ≤ 64))
+  unfolding lentCheck
+  time-ready first last i a =
+      let q = step-accepted (timing first last i) (nodeIn s) a in
+      let t = time-accepted (nodeIn s) first last i (q .1) in
+      (node-accepted 0 (nodeIn s) .0 (q .0) .each, (t .0, t .1, omega (arith, sized), few (q .0)))

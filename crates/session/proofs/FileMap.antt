@@ -1,0 +1,111 @@
+-- The map of a session is that of its node in a file.
+use Prim.Native.Nat.{ℕ, suc, _+_, _*_, _<_}
+use mathlib.Core.Path.{_≡_, _∙_, refl, ap}
+use mathlib.Core.List.{List, [], _∷_}
+use native.Mathlib.Omega.{arith}
+use lib.ListN.{length}
+use lib.Seq.{take-length}
+use borrow.Author.Tests.{le-leb, eq-eqb}
+use Rattle.task_model.specs.declared.Entry.{Entry}
+use Rattle.task_model.specs.Refusals.{accepted}
+use Rattle.task_model.specs.Limits.{Node, entryAt, EntryHolds, NodeHolds}
+use Rattle.task_model.specs.Words.{entryFrom}
+use Rattle.task_model.proofs.Laws.{sizes-true, length-entries, entry-of}
+use Rattle.task_model.proofs.Theorems.{entries-accepted}
+use Rattle.plan_file.specs.Plan.{Plan, entryCount, EntryFits, EntriesFit, PlanFits}
+use Rattle.plan_file.specs.Encoding.{encoding}
+use Rattle.plan_file.specs.Decoding.{planIn}
+use Rattle.plan_file.specs.Check.{countTest, rowTest, rowsCheck, nodesCheck, handedCheck, fileCheck, planCheck}
+use Rattle.plan_file.specs.Find.{rowIn, nodeOfRow, findCheck, nodeFound}
+use Rattle.plan_file.proofs.Theorems.{write-read, accepted-exactly, finds}
+use Rattle.planner.specs.Mapping.{heldAnswer, heldBuffer, fileAnswer, fileBuffer}
+use Rattle.session.specs.declared.Session.{Session}
+use Rattle.session.specs.State.{nodeIn}
+use Rattle.session.specs.Plan.{oneRow}
+use Rattle.session.proofs.Reading.{Kept, narrow}
+
+-- a node within the limits, with numbers of 16 bits, is a plan of one row that the writer accepts
+module _ (n : Node) (k : Kept n) (number : ℕ) (short : number < 65536) where
+  entry-fits : (e : Entry) → EntryHolds e → e .number < 65536 → EntryFits e
+  entry-fits e h l =
+      let w = narrow e h l in
+      let t = h .times in
+      record {
+        number = l;
+        kind = w .kind;
+        calls = w .calls;
+        wcet = omega arith;
+        period = omega arith;
+        deadline = omega arith;
+        blocking = omega arith;
+      }
+
+  all-fit : (es : List Entry) → ((j : ℕ) → j < length es → EntryFits (entryAt es j)) → EntriesFit es
+  all-fit [] f = tt
+  all-fit (e ∷ es) f = (f 0 (omega arith), all-fit es (λ j h. f (suc j) (omega arith)))
+
+  one-fits : PlanFits (oneRow number n)
+  one-fits =
+      record {
+        rows = (
+          record {
+            number = short;
+            levels = omega (arith, k .holds .fewLevels);
+            count = omega (arith, k .holds .fewEntries);
+          },
+          tt,
+        );
+        entries = all-fit (n .entries) (λ j h. entry-fits _ (k .holds .each j h) (k .numbers j h));
+      }
+
+  pub one-accepted : planCheck (oneRow number n) ≡ accepted
+  unfolding handedCheck rowsCheck countTest rowTest nodesCheck entryCount
+  one-accepted =
+      let c : length (n .entries) * 5 ≡ (length (n .entries) + 0) * 5 = omega arith in
+      rw (
+        le-leb 0 number (omega arith),
+        sizes-true (n .levels) (length (n .entries)) (k .holds .someLevels) (k .holds .fewLevels) (k .holds .fewEntries),
+        eq-eqb (length (n .entries) * 5) ((length (n .entries) + 0) * 5) c,
+        take-length (n .entries),
+        entries-accepted 0 0 (n .entries) .1 (k .holds .each),
+      )
+
+  -- its file, and the node that is found there
+  abbrev file : List ℕ
+  file = encoding (oneRow number n)
+
+  file-accepted : fileCheck file ≡ accepted
+  file-accepted = accepted-exactly file .1 (oneRow number n, one-fits, one-accepted, refl) .1
+
+  file-plan : planIn file ≡ oneRow number n
+  file-plan = write-read (oneRow number n) one-fits one-accepted
+
+  found : (findCheck file number ≡ accepted) × (nodeFound file number ≡ nodeOfRow (planIn file) 0)
+  found =
+      finds file file-accepted number 0 (omega (arith, ap (λ (p : Plan). length (p .rows)) file-plan))
+      (ap (λ (p : Plan). rowIn (p .rows) 0 .number) file-plan)
+
+  same-node : nodeFound file number ≡ n
+  unfolding nodeOfRow entryCount
+  same-node =
+      found .1 ∙ ap (λ (p : Plan). nodeOfRow p 0) file-plan ∙ ap (λ es. record { levels = n .levels; entries = es }) (take-length (n .entries))
+
+  pub same-answer : (room : ℕ) → fileAnswer file number room ≡ heldAnswer n room
+  unfolding fileAnswer
+  same-answer room = rw (found .0, fileAnswer) (ap (λ m. heldAnswer m room) same-node)
+
+  pub same-buffer : (buffer : List ℕ) → fileBuffer file number buffer ≡ heldBuffer n buffer
+  unfolding fileBuffer
+  same-buffer buffer = rw (found .0, fileBuffer) (ap (λ m. heldBuffer m buffer) same-node)
+
+-- what words hold has numbers of 16 bits
+pub kept-in : (s : Session) → NodeHolds (nodeIn s) → Kept (nodeIn s)
+unfolding entryFrom
+kept-in s h =
+    record {
+      holds = h;
+      numbers =
+          λ j l.
+          let i : j < s .count = omega (arith, length-entries (s .words) 0 (s .count)) in
+          rw (entry-of (s .words) (s .count) j i) (omega arith);
+    }

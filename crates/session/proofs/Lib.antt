@@ -1,0 +1,15 @@
+-- Laws that the functions' proofs cite, and the theorems of the session.
+pub mod Held
+pub mod Words
+pub mod Filling
+pub mod Building
+pub mod Checking
+pub mod Entries
+pub mod Reading
+pub mod Rows
+pub mod Theorems
+pub mod Lent
+pub mod LentOne
+pub mod LentTwo
+pub mod Mapping
+pub mod FileMap

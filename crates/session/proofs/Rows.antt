@@ -1,0 +1,144 @@
+-- Rows of operations on the session of a node: one step, and then all of them.
+use Prim.Native.Nat.{ℕ, _≤_, _<_}
+use mathlib.Core.Path.{_≡_, _∙_, refl, sym, ap}
+use mathlib.Core.Logic.{⊎-elim}
+use mathlib.Core.List.{List, [], _∷_}
+use native.Mathlib.Omega.{arith}
+use lib.ListN.{length}
+use Rattle.task_model.specs.declared.Entry.{Entry}
+use Rattle.task_model.specs.Refusals.{Numbered, accepted, refused}
+use Rattle.task_model.specs.Limits.{Node, EntryHolds, NodeHolds}
+use Rattle.task_model.proofs.Theorems.{either, entry-accepted, node-accepted}
+use Rattle.session.specs.State.{nodeIn, sessionOf}
+use Rattle.session.specs.Operations.{Operation, opening, inserting, removing, replacing, settingLevels, mapping, timing, Callable, AllCallable, operationCheck, emptyNode, changed, nodeAfter, nodeAfterAll, answersAll, lentCheck, stepCheck}
+use Rattle.session.specs.Steps.{sessionAfter, sessionAfterAll, answersOf}
+use Rattle.session.proofs.Entries.{Each, each-of, of-each, each-inserted, each-removed, each-replaced}
+use Rattle.session.proofs.Building.{size-inserted, size-removed, size-replaced}
+use Rattle.session.proofs.Reading.{Kept, read-back}
+use Rattle.session.proofs.Checking.{lent-goes-on, levels-accepted, insert-accepted, remove-accepted, replace-accepted, after-refused, after-accepted}
+
+-- a number of 16 bits
+abbrev Short : Entry → Type 0
+Short e = e .number < 65536
+
+pub kept-empty : (levels : ℕ) → 1 ≤ levels → levels ≤ 64 → Kept (emptyNode levels)
+kept-empty levels l h =
+    record {
+      holds = record { someLevels = l; fewLevels = h; fewEntries = omega arith; each = λ j h. absurd (omega arith) };
+      numbers = λ j h. absurd (omega arith);
+    }
+
+-- a list of entries in the place of another
+kept-with : (n : Node) (es : List Entry) → Kept n → length es ≤ 64 → Each EntryHolds es → Each Short es
+    → Kept (record { levels = n .levels; entries = es })
+kept-with n es k few holds short =
+    record {
+      holds =
+          record {
+            someLevels = k .holds .someLevels;
+            fewLevels = k .holds .fewLevels;
+            fewEntries = few;
+            each = of-each EntryHolds es holds;
+          };
+      numbers = of-each Short es short;
+    }
+
+module _ (n : Node) (k : Kept n) where
+  all : Each EntryHolds (n .entries)
+  all = each-of EntryHolds (n .entries) (k .holds .each)
+
+  short : Each Short (n .entries)
+  short = each-of Short (n .entries) (k .numbers)
+
+  -- an accepted operation keeps a node within the limits
+  pub kept-changed : (o : Operation) → Callable o → operationCheck o n ≡ accepted → Kept (changed o n)
+  unfolding changed operationCheck
+  kept-changed (opening levels) c a = let h = levels-accepted levels a in kept-empty levels (h .0) (h .1)
+  kept-changed (inserting p e) c a =
+      let h = insert-accepted n p e a in
+      kept-with n _ k (omega (arith, size-inserted (n .entries) e p (h .0)))
+      (each-inserted EntryHolds p e (n .entries) (entry-accepted 0 p e .0 (h .2)) all)
+      (each-inserted Short p e (n .entries) c short)
+  kept-changed (removing p) c a =
+      let h = remove-accepted n p a in
+      kept-with n _ k (omega (arith, size-removed (n .entries) p h, k .holds .fewEntries)) (each-removed EntryHolds p (n .entries) all)
+      (each-removed Short p (n .entries) short)
+  kept-changed (replacing p e) c a =
+      let h = replace-accepted n p e a in
+      kept-with n _ k (omega (arith, size-replaced (n .entries) e p (h .0), k .holds .fewEntries))
+      (each-replaced EntryHolds p e (n .entries) (entry-accepted 0 p e .0 (h .1)) all)
+      (each-replaced Short p e (n .entries) c short)
+  kept-changed (settingLevels levels) c a =
+      let h = levels-accepted levels a in
+      record {
+        holds = record { someLevels = h .0; fewLevels = h .1; fewEntries = k .holds .fewEntries; each = k .holds .each };
+        numbers = k .numbers;
+      }
+  kept-changed (mapping room) c a = k
+  kept-changed (timing first last i) c a = k
+
+module _ (o : Operation) (n : Node) where
+  node-changed : operationCheck o n ≡ accepted → nodeAfter o n ≡ changed o n
+  unfolding nodeAfter
+  node-changed p = rw (p, nodeAfter)
+
+  node-kept : (r : Numbered) → operationCheck o n ≡ refused r → nodeAfter o n ≡ n
+  unfolding nodeAfter
+  node-kept r p = rw (p, nodeAfter)
+
+-- what a session that is lent holds is within the limits, so that its own checks decide
+pub lent-within : (o : Operation) (n : Node) → NodeHolds n → lentCheck o n ≡ accepted
+unfolding lentCheck
+lent-within (opening levels) n h = refl
+lent-within (inserting p e) n h = node-accepted 0 n .1 h
+lent-within (removing p) n h = node-accepted 0 n .1 h
+lent-within (replacing p e) n h = node-accepted 0 n .1 h
+lent-within (settingLevels levels) n h = node-accepted 0 n .1 h
+lent-within (mapping room) n h = node-accepted 0 n .1 h
+lent-within (timing first last i) n h = node-accepted 0 n .1 h
+
+pub own-checks : (o : Operation) (n : Node) → NodeHolds n → stepCheck o n ≡ operationCheck o n
+own-checks o n h = lent-goes-on o n (lent-within o n h)
+
+-- one step
+module _ (o : Operation) (n : Node) (k : Kept n) where
+  answer : stepCheck o (nodeIn (sessionOf n)) ≡ operationCheck o n
+  answer = ap (stepCheck o) (read-back n k) ∙ own-checks o n (k .holds)
+
+  step-session : sessionAfter o (sessionOf n) ≡ sessionOf (nodeAfter o n)
+  step-session =
+      ⊎-elim
+      (λ p.
+      after-accepted o (sessionOf n) (answer ∙ p)
+      ∙ ap (λ m. sessionOf (changed o m)) (read-back n k)
+      ∙ ap sessionOf (sym (node-changed o n p)))
+      (λ p. after-refused o (sessionOf n) (p .0) (answer ∙ p .1) ∙ ap sessionOf (sym (node-kept o n (p .0) (p .1))))
+      (either (operationCheck o n))
+
+  step-kept : Callable o → Kept (nodeAfter o n)
+  step-kept c =
+      ⊎-elim
+      (λ p. rw (node-changed o n p) (kept-changed n k o c p))
+      (λ p. rw (node-kept o n (p .0) (p .1)) k)
+      (either (operationCheck o n))
+
+-- all of them
+pub rows-session : (os : List Operation) (n : Node) → Kept n → AllCallable os
+    → sessionAfterAll os (sessionOf n) ≡ sessionOf (nodeAfterAll os n)
+unfolding sessionAfterAll nodeAfterAll
+rows-session [] n k c = refl
+rows-session (o ∷ os) n k c =
+    ap (sessionAfterAll os) (step-session o n k) ∙ rows-session os (nodeAfter o n) (step-kept o n k (c .0)) (c .1)
+
+pub rows-answers : (os : List Operation) (n : Node) → Kept n → AllCallable os → answersOf os (sessionOf n) ≡ answersAll os n
+unfolding answersOf answersAll
+rows-answers [] n k c = refl
+rows-answers (o ∷ os) n k c =
+    ap (λ a. a ∷ answersOf os (sessionAfter o (sessionOf n))) (answer o n k)
+    ∙ ap (λ xs. operationCheck o n ∷ xs)
+    (ap (answersOf os) (step-session o n k) ∙ rows-answers os (nodeAfter o n) (step-kept o n k (c .0)) (c .1))
+
+pub rows-kept : (os : List Operation) (n : Node) → Kept n → AllCallable os → Kept (nodeAfterAll os n)
+unfolding nodeAfterAll
+rows-kept [] n k c = k
+rows-kept (o ∷ os) n k c = rows-kept os (nodeAfter o n) (step-kept o n k (c .0)) (c .1)

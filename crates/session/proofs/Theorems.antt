@@ -1,0 +1,155 @@
+-- The theorems of the session.
+use Prim.Native.Nat.{ℕ, _≤_, _<_}
+use mathlib.Core.Path.{_≡_, _∙_, refl, sym, ap}
+use mathlib.Core.List.{List, _∷_}
+use native.Mathlib.Omega.{arith}
+use lib.ListN.{length}
+use Rattle.task_model.specs.declared.Entry.{Entry}
+use Rattle.task_model.specs.Refusals.{Numbered, at, accepted, refused}
+use Rattle.task_model.specs.Limits.{Node}
+use Rattle.task_model.specs.Checks.{nodeCheck}
+use Rattle.task_model.proofs.Laws.{node-sizes}
+use Rattle.task_model.proofs.Theorems.{node-accepted}
+use Rattle.completion.specs.Group.{groupLevel}
+use Rattle.completion.specs.Test.{completionTest}
+use Rattle.plan_file.specs.Encoding.{encoding}
+use Rattle.plan_file.specs.Check.{planCheck}
+use Rattle.planner.specs.Mapping.{heldAnswer, heldBuffer, fileAnswer, fileBuffer, NodeDemand3}
+use Rattle.planner.proofs.Answers.{held-demand}
+use Rattle.session.specs.declared.Session.{Session}
+use Rattle.session.specs.State.{nodeIn, sessionOf, Sound, blankSession}
+use Rattle.session.specs.Operations.{refusalIn, Operation, opening, inserting, removing, replacing, settingLevels, mapping, timing, AllCallable, operationCheck, emptyNode, nodeAfterAll, answersAll, lentCheck, stepCheck, changed}
+use Rattle.plan_file.specs.Answers.{gives, refuses}
+use Rattle.session.specs.Timing.{timeAnswer}
+use Rattle.session.specs.Mapping.{mapAnswer, mapBuffer}
+use Rattle.session.specs.Plan.{oneRow}
+use Rattle.session.specs.Steps.{sessionAfter, sessionAfterAll, answersOf}
+use Rattle.session.proofs.Reading.{Kept, read-back}
+use Rattle.session.proofs.Checking.{levels-within, lent-stops, insert-outside, insert-full, time-inside, time-else, time-refused, time-given, after-refused, after-accepted}
+use Rattle.session.proofs.Mapping.{own-answer, own-buffer, map-outcome}
+use Rattle.session.proofs.FileMap.{kept-in, one-accepted, same-answer, same-buffer}
+use Rattle.session.proofs.Rows.{kept-empty, own-checks, rows-session, rows-answers, rows-kept}
+
+-- From the opening, by any row of operations, refused ones included, and whatever the memory held before. `levels` is
+-- the level count at opening, `os` the row.
+module _ (levels : ℕ) (some : 1 ≤ levels) (few : levels ≤ 64) (os : List Operation) (call : AllCallable os) (s : Session) where
+  opened-accepted : stepCheck (opening levels) (nodeIn s) ≡ accepted
+  unfolding stepCheck lentCheck operationCheck
+  opened-accepted = levels-within levels some few
+
+  opened-session : sessionAfter (opening levels) s ≡ sessionOf (emptyNode levels)
+  unfolding changed
+  opened-session = after-accepted (opening levels) s opened-accepted
+
+  opened-kept : Kept (emptyNode levels)
+  opened-kept = kept-empty levels some few
+
+  -- The session is the session of the node that the definition makes of the list of changes: its contents, and every slot
+  -- beyond them.
+  pub session-follows : sessionAfterAll (opening levels ∷ os) s ≡ sessionOf (nodeAfterAll os (emptyNode levels))
+  unfolding sessionAfterAll
+  session-follows =
+      ap (sessionAfterAll os) opened-session ∙ rows-session os (emptyNode levels) opened-kept call
+
+  -- Its level count and its entries are those of the definition.
+  pub contents-follow : nodeIn (sessionAfterAll (opening levels ∷ os) s) ≡ nodeAfterAll os (emptyNode levels)
+  contents-follow = ap nodeIn session-follows ∙ read-back _ (rows-kept os (emptyNode levels) opened-kept call)
+
+  -- Every operation of the row answers by its own checks, in their order, and by no others.
+  pub answers-follow : answersOf (opening levels ∷ os) s ≡ accepted ∷ answersAll os (emptyNode levels)
+  unfolding answersOf
+  answers-follow =
+      ap (λ a. a ∷ answersOf os (sessionAfter (opening levels) s)) opened-accepted
+      ∙ ap (λ xs. accepted ∷ xs) (ap (answersOf os) opened-session ∙ rows-answers os (emptyNode levels) opened-kept call)
+
+  -- Sessions made by opening and operations are sound.
+  pub made-sound : Sound (sessionAfterAll (opening levels ∷ os) s)
+  made-sound =
+      record {
+        within = rw contents-follow (rows-kept os (emptyNode levels) opened-kept call .holds);
+        determined = session-follows ∙ ap sessionOf (sym contents-follow);
+      }
+
+-- On a sound session an operation's own checks hold exactly.
+pub sound-checks : (o : Operation) (s : Session) → Sound s → stepCheck o (nodeIn s) ≡ operationCheck o (nodeIn s)
+sound-checks o s h = own-checks o (nodeIn s) (h .within)
+
+-- A sound session is determined by its level count and its list of entries.
+pub sound-same : (s t : Session) → Sound s → Sound t → nodeIn s ≡ nodeIn t → s ≡ t
+sound-same s t h g p = h .determined ∙ ap sessionOf p ∙ sym (g .determined)
+
+-- A refused call changes nothing.
+pub refused-unchanged : (o : Operation) (s : Session) (r : Numbered) → stepCheck o (nodeIn s) ≡ refused r → sessionAfter o s ≡ s
+refused-unchanged o s r p = after-refused o s r p
+
+-- A session that holds no node of a file is turned back as that node would be, by every operation but opening.
+pub forged-refused : (o : Operation) (s : Session) (r : Numbered) → ((levels : ℕ) → o ≡ opening levels → ⊥)
+    → nodeCheck 0 (nodeIn s) ≡ refused r → stepCheck o (nodeIn s) ≡ refused r
+unfolding lentCheck
+forged-refused (opening levels) s r out p = absurd (out levels refl)
+forged-refused (inserting position e) s r out p = lent-stops (inserting position e) (nodeIn s) r p
+forged-refused (removing position) s r out p = lent-stops (removing position) (nodeIn s) r p
+forged-refused (replacing position e) s r out p = lent-stops (replacing position e) (nodeIn s) r p
+forged-refused (settingLevels levels) s r out p = lent-stops (settingLevels levels) (nodeIn s) r p
+forged-refused (mapping room) s r out p = lent-stops (mapping room) (nodeIn s) r p
+forged-refused (timing first last i) s r out p = lent-stops (timing first last i) (nodeIn s) r p
+
+-- A blank session is turned back with 4.
+pub blank-refused : (o : Operation) → ((levels : ℕ) → o ≡ opening levels → ⊥)
+    → stepCheck o (nodeIn blankSession) ≡ refused (at 4 0 0)
+blank-refused o out = forged-refused o blankSession (at 4 0 0) out (node-sizes 0 (nodeIn blankSession) (λ h1 h2 h3. omega arith))
+
+-- With 64 entries an insert at 64 is 13 and at 65 is 12.
+module _ (n : Node) (full : length (n .entries) ≡ 64) (e : Entry) where
+  pub insert-at-64 : operationCheck (inserting 64 e) n ≡ refused (at 13 0 0)
+  insert-at-64 = insert-full n 64 e (omega arith) (omega arith)
+
+  pub insert-at-65 : operationCheck (inserting 65 e) n ≡ refused (at 12 0 0)
+  insert-at-65 = insert-outside n 65 e (omega arith)
+
+-- Timing in a sound session is the completion time test, for any group bounds in the list, and 12 for all others.
+module _ (s : Session) (h : Sound s) (first last i : ℕ) where
+  pub time-follows : first ≤ i → i ≤ last → last < length (nodeIn s .entries)
+      → timeAnswer (nodeIn s) first last i ≡ gives (completionTest (nodeIn s .entries) (groupLevel first last) i)
+  time-follows hf hi hl =
+      time-given (nodeIn s) first last i (sound-checks (timing first last i) s h ∙ time-inside (nodeIn s) first last i hf hi hl)
+
+  pub time-refuses : ((first ≤ i) → (i ≤ last) → (last < length (nodeIn s .entries)) → ⊥)
+      → timeAnswer (nodeIn s) first last i ≡ refuses (at 12 0 0)
+  time-refuses out =
+      time-refused (nodeIn s) first last i (at 12 0 0)
+      (sound-checks (timing first last i) s h ∙ time-else (nodeIn s) first last i out)
+
+-- Mapping, as an operation of a row, is refused exactly as its answer says; on any session.
+pub map-refusal : (s : Session) (room : ℕ) → stepCheck (mapping room) (nodeIn s) ≡ refusalIn (mapAnswer (nodeIn s) room)
+map-refusal s room = map-outcome (nodeIn s) room
+
+-- Mapping a sound session checks 10, then 11, and answers and writes as mapping a node at hand does.
+module _ (s : Session) (h : Sound s) where
+  within-checks : nodeCheck 0 (nodeIn s) ≡ accepted
+  within-checks = node-accepted 0 (nodeIn s) .1 (h .within)
+
+  pub map-answers : (room : ℕ) → mapAnswer (nodeIn s) room ≡ heldAnswer (nodeIn s) room
+  map-answers = own-answer (nodeIn s) within-checks
+
+  pub map-writes : (buffer : List ℕ) → mapBuffer (nodeIn s) buffer ≡ heldBuffer (nodeIn s) buffer
+  map-writes = own-buffer (nodeIn s) within-checks
+
+  -- Demand 3, into a buffer of a byte an entry or more.
+  pub map-demand-three : (buffer : List ℕ)
+      → NodeDemand3 (nodeIn s) buffer (mapAnswer (nodeIn s) (length buffer)) (mapBuffer (nodeIn s) buffer)
+  map-demand-three buffer =
+      rw (map-answers (length buffer), map-writes buffer) (held-demand (nodeIn s) buffer (h .within))
+
+  -- Its map is that of the same node read from a file: the node, written as a plan of one row under any number, is
+  -- accepted by the writer, and mapped from that file it gives the same answer, count and bytes.
+  module _ (number : ℕ) (short : number < 65536) where
+    pub file-accepts : planCheck (oneRow number (nodeIn s)) ≡ accepted
+    file-accepts = one-accepted (nodeIn s) (kept-in s (h .within)) number short
+
+    pub file-answers : (room : ℕ) → fileAnswer (encoding (oneRow number (nodeIn s))) number room ≡ mapAnswer (nodeIn s) room
+    file-answers room = same-answer (nodeIn s) (kept-in s (h .within)) number short room ∙ sym (map-answers room)
+
+    pub file-writes : (buffer : List ℕ)
+        → fileBuffer (encoding (oneRow number (nodeIn s))) number buffer ≡ mapBuffer (nodeIn s) buffer
+    file-writes buffer = same-buffer (nodeIn s) (kept-in s (h .within)) number short buffer ∙ sym (map-writes buffer)

@@ -1,0 +1,32 @@
+use mathlib.Core.Path.{_∙_, sym, ap}
+use Rattle.task_model.specs.Refusals.{outcome}
+use Rattle.session.proofs.Checking.{replace-step}
+use Rattle.plan_file.proofs.Outcomes.{then-refused, then-accepted}
+use borrow.Author.Needs.{needs}
+use Rattle.session.proofs.checks.check_replace.Statement.{statement}
+use Rattle.session.proofs.checks.check_replace.Tie as tie
+
+check-remove-requires : tie.Need-check-remove-requires
+check-remove-requires c κs = search needs
+
+enum-told : tie.Need-enum-told
+enum-told c = search needs
+
+enum-told-2 : tie.Need-enum-told-2
+enum-told-2 c = search needs
+
+returns : tie.Need-returns
+returns c = ap outcome (c .enum-told2 .given .1)
+    ∙ sym (replace-step _ _ _ ∙ then-refused _ _ _ (sym (c .before .before .check-remove .ensures) ∙ ap outcome (c .enum-told2 .given .1)))
+
+check-entry-requires : tie.Need-check-entry-requires
+check-entry-requires c κs = search needs
+
+returns-2 : tie.Need-returns-2
+returns-2 c = c .check-entry .ensures
+    ∙ sym (replace-step _ _ _ ∙ then-accepted _ _ (sym (c .before .before .before .check-remove .ensures) ∙ ap outcome (c .before .enum-told .given .1)))
+
+pub check-replace-spec : {M : Type 1} → statement M
+check-replace-spec =
+    tie.close
+    (tie.spec check-remove-requires enum-told enum-told-2 returns check-entry-requires returns-2)

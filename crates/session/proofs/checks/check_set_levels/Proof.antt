@@ -1,0 +1,40 @@
+use mathlib.Core.Path.{_≡_, _∙_, sym, ap}
+use Rattle.task_model.specs.Refusals.{outcome, accepted}
+use Rattle.task_model.specs.Checks.{nodeCheck}
+use Rattle.session.specs.State.{nodeIn}
+use Rattle.session.specs.Operations.{settingLevels, operationCheck, lentCheck}
+use Rattle.session.proofs.Checking.{lent-stops, lent-goes-on}
+use borrow.Author.Needs.{needs}
+use Rattle.session.proofs.checks.check_set_levels.Statement.{statement}
+use Rattle.session.proofs.checks.check_set_levels.Tie as tie
+
+-- the session is one that may be lent
+sound : (c : tie.After-enum-told) → nodeCheck 0 (nodeIn (c .before .before .before .args .s)) ≡ accepted
+sound c = sym (c .before .before .check-session .ensures) ∙ ap outcome (c .enum-told .given .1)
+
+check-session-requires : tie.Need-check-session-requires
+check-session-requires c κs = search needs
+
+enum-told : tie.Need-enum-told
+enum-told c = search needs
+
+enum-told-2 : tie.Need-enum-told-2
+enum-told-2 c = search needs
+
+returns : tie.Need-returns
+unfolding lentCheck
+returns c = ap outcome (c .enum-told2 .given .1)
+    ∙ sym (lent-stops (settingLevels _) _ _ (sym (c .before .before .check-session .ensures) ∙ ap outcome (c .enum-told2 .given .1)))
+
+check-levels-requires : tie.Need-check-levels-requires
+check-levels-requires c κs = search needs
+
+returns-2 : tie.Need-returns-2
+unfolding lentCheck operationCheck
+returns-2 c = c .check-levels .ensures
+    ∙ sym (lent-goes-on (settingLevels _) _ (sound (c .before)))
+
+pub check-set-levels-spec : {M : Type 1} → statement M
+check-set-levels-spec =
+    tie.close
+    (tie.spec check-session-requires enum-told enum-told-2 returns check-levels-requires returns-2)

@@ -1,0 +1,97 @@
+use Rattle.session.proofs.Filling.{stored-five}
+use borrow.Author.Needs.{needs}
+use Rattle.session.proofs.list.store_entry.Statement.{statement}
+use Rattle.session.proofs.list.store_entry.Tie as tie
+
+cast-words : tie.Need-cast-words
+cast-words c = search needs
+
+cast-words-2 : tie.Need-cast-words-2
+cast-words-2 c = search needs
+
+mul-words : tie.Need-mul-words
+mul-words c = search needs
+
+add-words : tie.Need-add-words
+add-words c = search needs
+
+cast-words-3 : tie.Need-cast-words-3
+cast-words-3 c = search needs
+
+mul-words-2 : tie.Need-mul-words-2
+mul-words-2 c = search needs
+
+add-words-2 : tie.Need-add-words-2
+add-words-2 c = search needs
+
+mul-words-3 : tie.Need-mul-words-3
+mul-words-3 c = search needs
+
+element-write-words : tie.Need-element-write-words
+element-write-words c = search needs
+
+add-words-3 : tie.Need-add-words-3
+add-words-3 c = search needs
+
+mul-words-4 : tie.Need-mul-words-4
+mul-words-4 c = search needs
+
+element-write-words-2 : tie.Need-element-write-words-2
+element-write-words-2 c = search needs
+
+add-words-4 : tie.Need-add-words-4
+add-words-4 c = search needs
+
+mul-words-5 : tie.Need-mul-words-5
+mul-words-5 c = search needs
+
+element-write-words-3 : tie.Need-element-write-words-3
+element-write-words-3 c = search needs
+
+add-words-5 : tie.Need-add-words-5
+add-words-5 c = search needs
+
+mul-words-6 : tie.Need-mul-words-6
+mul-words-6 c = search needs
+
+element-write-words-4 : tie.Need-element-write-words-4
+element-write-words-4 c = search needs
+
+add-words-6 : tie.Need-add-words-6
+add-words-6 c = search needs
+
+mul-words-7 : tie.Need-mul-words-7
+mul-words-7 c = search needs
+
+element-write-words-5 : tie.Need-element-write-words-5
+element-write-words-5 c = search needs
+
+returns : tie.Need-returns
+returns c = stored-five _ _ _
+
+pub store-entry-spec : {M : Type 1} → statement M
+store-entry-spec =
+    tie.close
+    (tie.spec
+    cast-words
+    cast-words-2
+    mul-words
+    add-words
+    cast-words-3
+    mul-words-2
+    add-words-2
+    mul-words-3
+    element-write-words
+    add-words-3
+    mul-words-4
+    element-write-words-2
+    add-words-4
+    mul-words-5
+    element-write-words-3
+    add-words-5
+    mul-words-6
+    element-write-words-4
+    add-words-6
+    mul-words-7
+    element-write-words-5
+    returns)

@@ -1,0 +1,71 @@
+use mathlib.Core.Path.{_≡_, _∙_, sym, ap}
+use native.Mathlib.Omega.{arith}
+use Rattle.task_model.specs.Refusals.{outcome, accepted}
+use Rattle.task_model.specs.Limits.{NodeHolds}
+use Rattle.task_model.specs.Checks.{nodeCheck}
+use Rattle.task_model.proofs.Theorems.{node-accepted}
+use Rattle.session.specs.State.{nodeIn}
+use Rattle.session.proofs.Mapping.{forged-answer, forged-buffer, own-answer, own-buffer}
+use borrow.Author.Needs.{needs}
+use Rattle.session.proofs.mapped.Statement.{statement}
+use Rattle.session.proofs.mapped.Tie as tie
+
+-- the session is one that may be lent
+module _ (c : tie.After-enum-told) where
+  abbrev at-start : tie.Start
+  at-start = c .before .before .before .before
+
+  lent : nodeCheck 0 (nodeIn (at-start .args .s)) ≡ accepted
+  lent = sym (c .before .before .check-session .ensures) ∙ ap outcome (c .enum-told .given .1)
+
+  within : NodeHolds (nodeIn (at-start .args .s))
+  within = node-accepted 0 _ .0 lent
+
+check-session-requires : tie.Need-check-session-requires
+check-session-requires c κs = search needs
+
+enum-known-found : tie.Need-enum-known-found
+enum-known-found c = search needs
+
+returns : tie.Need-returns
+returns c =
+    let p = sym (c .before .before .before .check-session .ensures) ∙ ap outcome (c .before .found .given .1) in
+    record { answers = sym (forged-answer _ _ p _); written = sym (forged-buffer _ _ p _) }
+
+enum-told : tie.Need-enum-told
+enum-told c = search needs
+
+cast-map-held : tie.Need-cast-map-held
+cast-map-held c = search needs
+
+cast-map-held-2 : tie.Need-cast-map-held-2
+cast-map-held-2 c = omega (arith, within (c .before .before .before .before) .fewLevels)
+
+map-held-requires : tie.Need-map-held-requires
+map-held-requires c κs = within (c .before .before .before .before .before)
+
+same-length : tie.Need-same-length
+same-length c = search needs
+
+returns-2 : tie.Need-returns-2
+returns-2 c =
+    let m = c .before .before in
+    let p = lent (m .before .before .before .before .before .before) in
+    record {
+      answers = m .map-held .ensures .0 ∙ sym (own-answer _ p _);
+      written = m .map-held .ensures .1 ∙ sym (own-buffer _ p _);
+    }
+
+pub mapped-spec : {M : Type 1} → statement M
+mapped-spec =
+    tie.close
+    (tie.spec
+    check-session-requires
+    enum-known-found
+    returns
+    enum-told
+    cast-map-held
+    cast-map-held-2
+    map-held-requires
+    same-length
+    returns-2)

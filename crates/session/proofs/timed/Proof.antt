@@ -1,0 +1,46 @@
+use mathlib.Core.Path.{_∙_, sym, ap}
+use Rattle.task_model.specs.Refusals.{outcome}
+use Rattle.plan_file.specs.Answers.{gives}
+use Rattle.session.proofs.Checking.{time-ready, time-refused, time-given}
+use borrow.Author.Needs.{needs}
+use Rattle.session.proofs.timed.Statement.{statement}
+use Rattle.session.proofs.timed.Tie as tie
+
+check-time-requires : tie.Need-check-time-requires
+check-time-requires c κs = search needs
+
+enum-known-found : tie.Need-enum-known-found
+enum-known-found c = search needs
+
+returns : tie.Need-returns
+returns c = sym (time-refused _ _ _ _ _ (sym (c .before .before .before .check-time .ensures) ∙ ap outcome (c .before .found .given .1)))
+
+enum-told : tie.Need-enum-told
+enum-told c = search needs
+
+cast-completion-test : tie.Need-cast-completion-test
+cast-completion-test c = search needs
+
+completion-test-requires : tie.Need-completion-test-requires
+completion-test-requires c κs =
+    let d = c .before .before .before in
+    let a = d .before .before .before .args in
+    time-ready (a .s) (a .first) (a .last) (a .i) (sym (d .before .before .check-time .ensures) ∙ ap outcome (d .enum-told .given .1))
+
+returns-2 : tie.Need-returns-2
+returns-2 c =
+    let d = c .before .before .before .before in
+    ap gives (c .completion-test .ensures)
+    ∙ sym (time-given _ _ _ _ (sym (d .before .before .check-time .ensures) ∙ ap outcome (d .enum-told .given .1)))
+
+pub timed-spec : {M : Type 1} → statement M
+timed-spec =
+    tie.close
+    (tie.spec
+    check-time-requires
+    enum-known-found
+    returns
+    enum-told
+    cast-completion-test
+    completion-test-requires
+    returns-2)

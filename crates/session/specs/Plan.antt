@@ -1,0 +1,14 @@
+-- The node of a session in a plan file.
+use Prim.Native.Nat.{ℕ}
+use mathlib.Core.List.{[], _∷_}
+use lib.ListN.{length}
+use Rattle.task_model.specs.Limits.{Node}
+use Rattle.plan_file.specs.Plan.{Plan}
+
+-- The plan of one row that has the node, under a number.
+abbrev pub oneRow : ℕ → Node → Plan
+oneRow number n =
+    record {
+      rows = record { number = number; levels = n .levels; count = length (n .entries) } ∷ [];
+      entries = n .entries;
+    }

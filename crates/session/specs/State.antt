@@ -1,0 +1,33 @@
+-- What a session holds: a node, and zero in every word beyond its entries.
+use Prim.Native.Nat.{ℕ, _-_}
+use mathlib.Core.Path.{_≡_}
+use mathlib.Core.List.{List, _++_}
+use lib.ListN.{length, replicate}
+use Rattle.task_model.specs.Limits.{Node, NodeHolds}
+use Rattle.task_model.specs.Words.{nodeOf}
+use Rattle.plan_file.specs.Plan.{wordsOf}
+use Rattle.session.specs.declared.Session.{Session}
+
+-- The node that a session holds: its level count, and the entries that its first words hold.
+abbrev pub nodeIn : Session → Node
+nodeIn s = nodeOf (s .words) (s .count) (s .levels)
+
+abbrev pub zeros : ℕ → List ℕ
+zeros n = replicate n 0
+
+-- Words from the start on, and zero in every slot beyond them.
+unfoldable pub filled : List ℕ → List ℕ
+filled ws = ws ++ zeros (320 - length ws)
+
+-- The session of a node. Nothing in it is left free.
+unfoldable pub sessionOf : Node → Session
+sessionOf n = record { levels = n .levels; count = length (n .entries); words = filled (wordsOf (n .entries)) }
+
+-- A sound session holds a node within the limits, and is the session of that node.
+pub record Sound (s : Session) : Type 0 where
+  pub within : NodeHolds (nodeIn s)
+  pub determined : s ≡ sessionOf (nodeIn s)
+
+-- A session that is not open: no levels, no entries.
+abbrev pub blankSession : Session
+blankSession = record { levels = 0; count = 0; words = zeros 320 }

@@ -1,0 +1,30 @@
+-- What an operation answers, and the session that it leaves.
+use mathlib.Core.Path.{_≡_}
+use mathlib.Core.List.{List, [], _∷_}
+use Rattle.task_model.specs.declared.Checked.{Checked}
+use Rattle.task_model.specs.Refusals.{Outcome, accepted, refused, outcome}
+use Rattle.session.specs.declared.Session.{Session}
+use Rattle.session.specs.State.{nodeIn, sessionOf}
+use Rattle.session.specs.Operations.{Operation, stepCheck, changed}
+
+-- The session after an operation: that of the changed node; a refused operation leaves it as it was.
+unfoldable pub sessionAfter : Operation → Session → Session
+sessionAfter o s =
+    elim (stepCheck o (nodeIn s)) [
+      | accepted ↦ sessionOf (changed o (nodeIn s))
+      | refused r ↦ s
+    ]
+
+-- A session after a row of operations, and what they answered.
+unfoldable pub sessionAfterAll : List Operation → Session → Session
+sessionAfterAll [] s = s
+sessionAfterAll (o ∷ os) s = sessionAfterAll os (sessionAfter o s)
+
+unfoldable pub answersOf : List Operation → Session → List Outcome
+answersOf [] s = []
+answersOf (o ∷ os) s = stepCheck o (nodeIn s) ∷ answersOf os (sessionAfter o s)
+
+-- An operation on s answers a and leaves t.
+pub record Follows (o : Operation) (s : Session) (a : Checked) (t : Session) : Type 0 where
+  pub answer : outcome a ≡ stepCheck o (nodeIn s)
+  pub session : t ≡ sessionAfter o s

@@ -1,0 +1,21 @@
+-- What timing answers.
+use Prim.Native.Nat.{ℕ}
+use Rattle.task_model.specs.Refusals.{numbered}
+use Rattle.task_model.specs.Limits.{Node}
+use Rattle.completion.specs.Group.{groupLevel}
+use Rattle.completion.specs.Test.{Completion, completion, completionTest}
+use Rattle.session.specs.declared.TimeAnswer.{TimeAnswer}
+use Rattle.session.specs.declared.TimeAnswer.the-variants.{Answered, Refused}
+use Rattle.session.specs.Operations.{timing, stepCheck}
+use Rattle.plan_file.specs.Answers.{Answer, gives, refuses, giving}
+
+-- What the code's answer says: on time, with the completion time and the rounds, or late, with the rounds; or the refusal.
+abbrev pub timeGives : TimeAnswer → Answer Completion
+timeGives (Answered t) = gives (completion t)
+timeGives (Refused r) = refuses (numbered r)
+
+-- The checks, and then the completion time test of the entry at i, in the group from `first` to `last`; the entries before
+-- the group are more urgent.
+unfoldable pub timeAnswer : Node → ℕ → ℕ → ℕ → Answer Completion
+timeAnswer n first last i =
+    giving (stepCheck (timing first last i) n) (completionTest (n .entries) (groupLevel first last) i)

@@ -1,0 +1,209 @@
+// The session: one node, changed entry by entry until it maps.
+mod checks;
+mod list;
+
+use checks::check_insert;
+use checks::check_levels;
+use checks::check_remove;
+use checks::check_replace;
+use checks::check_session;
+use checks::check_set_levels;
+use checks::check_time;
+use completion::Timing;
+use completion::completion_test;
+use list::insert_at;
+use list::remove_at;
+use list::replace_at;
+use list::set_count_of_levels;
+use planner::MappedNode;
+use planner::map_held;
+use task_model::Checked;
+use task_model::Entry;
+use task_model::Refusal;
+ghost use mathlib.Core.Path.{_≡_};
+ghost use Rattle.session.specs.State.{nodeIn, blankSession};
+ghost use Rattle.session.specs.Operations.{opening, inserting, removing, replacing, settingLevels};
+ghost use Rattle.session.specs.Steps.{Follows};
+ghost use Rattle.session.specs.Mapping.{Maps};
+ghost use Rattle.session.specs.Timing.{timeGives, timeAnswer};
+
+// One node, and room for 64 entries: 322 words of 32 bits, without padding. `words` has five to an entry.
+#[repr(C)]
+pub struct Session {
+    levels: u32,
+    count: u32,
+    words: [u32; 320],
+}
+
+// What an operation answers, and the session that it leaves.
+pub struct Changed {
+    pub answer: Checked,
+    pub session: Session,
+}
+
+// The timing of an entry, or why it is refused.
+pub enum TimeAnswer {
+    Answered(Timing),
+    Refused(Refusal),
+}
+
+// A session that is not open: every operation but opening refuses it.
+pub fn blank() -> Session
+    ensures { λ s. ⌜ s ≡ blankSession ⌝ }
+{
+    Session {
+        levels: 0,
+        count: 0,
+        words: [0u32; 320],
+    }
+}
+
+// Opens a session: an empty node with the given level count.
+pub fn opened(s: Session, levels: u8) -> Changed
+    ensures { λ c. ⌜ Follows (opening levels) s (c .answer) (c .session) ⌝ }
+{
+    let empty = Session {
+        levels: levels as u32,
+        count: 0,
+        words: [0u32; 320],
+    };
+    let answer = check_levels(levels);
+    let Checked::Accepted = answer else {
+        return Changed { answer, session: s };
+    };
+    Changed {
+        answer,
+        session: empty,
+    }
+}
+
+// Inserts an entry before a position; just after the last entry it appends.
+pub fn inserted(s: Session, position: usize, e: Entry) -> Changed
+    ensures { λ c. ⌜ Follows (inserting position e) s (c .answer) (c .session) ⌝ }
+{
+    let answer = check_insert(s, position, e);
+    let Checked::Accepted = answer else {
+        return Changed { answer, session: s };
+    };
+    let session = insert_at(s, position, e);
+    Changed { answer, session }
+}
+
+// Removes the entry at a position.
+pub fn removed(s: Session, position: usize) -> Changed
+    ensures { λ c. ⌜ Follows (removing position) s (c .answer) (c .session) ⌝ }
+{
+    let answer = check_remove(s, position);
+    let Checked::Accepted = answer else {
+        return Changed { answer, session: s };
+    };
+    let session = remove_at(s, position);
+    Changed { answer, session }
+}
+
+// Replaces the entry at a position.
+pub fn replaced(s: Session, position: usize, e: Entry) -> Changed
+    ensures { λ c. ⌜ Follows (replacing position e) s (c .answer) (c .session) ⌝ }
+{
+    let answer = check_replace(s, position, e);
+    let Checked::Accepted = answer else {
+        return Changed { answer, session: s };
+    };
+    let session = replace_at(s, position, e);
+    Changed { answer, session }
+}
+
+// Sets the level count.
+pub fn with_levels(s: Session, levels: u8) -> Changed
+    ensures { λ c. ⌜ Follows (settingLevels levels) s (c .answer) (c .session) ⌝ }
+{
+    let answer = check_set_levels(s, levels);
+    let Checked::Accepted = answer else {
+        return Changed { answer, session: s };
+    };
+    let session = set_count_of_levels(s, levels);
+    Changed { answer, session }
+}
+
+// Times the entry at `i` in the group from `first` to `last`; the entries before the group are more urgent.
+pub fn timed(s: Session, first: usize, last: usize, i: usize) -> TimeAnswer
+    ensures { λ a. ⌜ timeGives a ≡ timeAnswer (nodeIn s) first last i ⌝ }
+{
+    let found = check_time(s, first, last, i);
+    if let Checked::Refused(r) = found {
+        return TimeAnswer::Refused(r);
+    }
+    let words = s.words;
+    TimeAnswer::Answered(completion_test(&words, s.count as usize, first, last, i))
+}
+
+// Maps the node: one byte an entry from the start of `out`, which a refusal leaves untouched.
+pub fn mapped(s: Session, out: &mut [u8]) -> MappedNode
+    ensures { λ a. ⌜ Maps (nodeIn s) (now (out .entry)) a (now (out .exit)) ⌝ }
+{
+    let found = check_session(s);
+    if let Checked::Refused(r) = found {
+        return MappedNode::Refused(r);
+    }
+    let words = s.words;
+    map_held(&words, s.count as usize, s.levels as u8, out)
+}
+
+// Opens the session that is lent, whatever it held: an empty node with the given level count (4).
+pub fn open(s: &mut Session, levels: u8) -> Checked
+    ensures { λ a. ⌜ Follows (opening levels) (now (s .entry)) a (now (s .exit)) ⌝ }
+{
+    let c = opened(*s, levels);
+    *s = c.session;
+    c.answer
+}
+
+// Sets the level count (4).
+pub fn set_levels(s: &mut Session, levels: u8) -> Checked
+    ensures { λ a. ⌜ Follows (settingLevels levels) (now (s .entry)) a (now (s .exit)) ⌝ }
+{
+    let c = with_levels(*s, levels);
+    *s = c.session;
+    c.answer
+}
+
+// Inserts an entry before a position, or just after the last entry (12, 13, 7, 8).
+pub fn insert(s: &mut Session, position: usize, e: Entry) -> Checked
+    ensures { λ a. ⌜ Follows (inserting position e) (now (s .entry)) a (now (s .exit)) ⌝ }
+{
+    let c = inserted(*s, position, e);
+    *s = c.session;
+    c.answer
+}
+
+// Removes the entry at a position (12).
+pub fn remove(s: &mut Session, position: usize) -> Checked
+    ensures { λ a. ⌜ Follows (removing position) (now (s .entry)) a (now (s .exit)) ⌝ }
+{
+    let c = removed(*s, position);
+    *s = c.session;
+    c.answer
+}
+
+// Replaces the entry at a position (12, 7, 8).
+pub fn replace(s: &mut Session, position: usize, e: Entry) -> Checked
+    ensures { λ a. ⌜ Follows (replacing position e) (now (s .entry)) a (now (s .exit)) ⌝ }
+{
+    let c = replaced(*s, position, e);
+    *s = c.session;
+    c.answer
+}
+
+// Times the entry at `i` in the group from `first` to `last` (12). The session is only read.
+pub fn time(s: &Session, first: usize, last: usize, i: usize) -> TimeAnswer
+    ensures { λ a. ⌜ timeGives a ≡ timeAnswer (nodeIn (now (s .entry))) first last i ⌝ }
+{
+    timed(*s, first, last, i)
+}
+
+// Maps the node into `out`, one byte an entry (10, 11). The session is only read.
+pub fn map(s: &Session, out: &mut [u8]) -> MappedNode
+    ensures { λ a. ⌜ Maps (nodeIn (now (s .entry))) (now (out .entry)) a (now (out .exit)) ⌝ }
+{
+    mapped(*s, out)
+}
