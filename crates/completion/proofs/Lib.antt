@@ -8,3 +8,4 @@ pub mod Groups
 pub mod Alike
 pub mod Words
 pub mod Theorems
+pub mod Load
