@@ -51,7 +51,7 @@ pub fn line(name: &str, parts: usize, (proved, plain): (f64, f64)) {
     let per_part = 1e6 / parts as f64;
     let (proved_us, plain_us) = (proved * per_part, plain * per_part);
     println!(
-        "| {name} | {proved_us:.2} | {plain_us:.2} | {:.2} |",
+        "| {name} | {proved_us:.3} | {plain_us:.3} | {:.2} |",
         proved / plain
     );
 }
