@@ -19,11 +19,12 @@ pub fn measure_turns(
     mut proved: impl FnMut(),
     mut plain: impl FnMut(),
 ) -> (f64, f64) {
-    let calls = calls_in(LONG, &mut proved);
+    // Each in as many calls as it takes for a run: one may be far slower.
+    let calls = (calls_in(LONG, &mut proved), calls_in(LONG, &mut plain));
     let mut best = (f64::MAX, f64::MAX);
     for _ in 0..turns {
-        best.0 = best.0.min(seconds(calls, &mut proved));
-        best.1 = best.1.min(seconds(calls, &mut plain));
+        best.0 = best.0.min(seconds(calls.0, &mut proved));
+        best.1 = best.1.min(seconds(calls.1, &mut plain));
     }
     best
 }
