@@ -1,4 +1,4 @@
-/* Maiplur for C: plan files, level maps and listings.
+/* Maiplur for C: plan files, level maps, listings and sessions.
  *
  * Link with target/staticlib/libplanner_c.a, which `rt staticlib planner_c` makes (x86-64 Linux).
  *
@@ -22,17 +22,19 @@ extern "C" {
 
 /* The refusals. */
 enum {
-    MAIPLUR_SHORT_FILE = 1,   /* fewer than 8 bytes, or the contents cut off */
+    MAIPLUR_SHORT_FILE = 1,     /* fewer than 8 bytes, or the contents cut off */
     MAIPLUR_OPENING_BYTES = 2,
-    MAIPLUR_NODE_COUNT = 3,   /* node count 0 or above 32, or a zero byte is not zero */
-    MAIPLUR_ROW = 4,          /* node number not above the last, levels not 1 to 64, entries above 64 */
+    MAIPLUR_NODE_COUNT = 3,     /* node count 0 or above 32, or a zero byte is not zero */
+    MAIPLUR_ROW = 4,            /* node number not above the last, levels not 1 to 64, entries above 64 */
     MAIPLUR_OFFSET = 5,
-    MAIPLUR_FILE_LENGTH = 6,  /* to the writer: more or fewer entries than the rows count */
-    MAIPLUR_KIND = 7,         /* kind not 1 or 2, r above 15, kind 2 with r above 0 */
-    MAIPLUR_TIMES = 8,        /* C, T, D or B outside the limits */
+    MAIPLUR_FILE_LENGTH = 6,    /* to the writer: more or fewer entries than the rows count */
+    MAIPLUR_KIND = 7,           /* kind not 1 or 2, r above 15, kind 2 with r above 0 */
+    MAIPLUR_TIMES = 8,          /* C, T, D or B outside the limits */
     MAIPLUR_NO_SUCH_NODE = 9,
     MAIPLUR_SHORT_BUFFER = 10,
-    MAIPLUR_NO_MAP = 11
+    MAIPLUR_NO_MAP = 11,
+    MAIPLUR_OUTSIDE_LIST = 12,  /* a position or a group outside the session's list */
+    MAIPLUR_FULL_LIST = 13      /* insert into 64 entries */
 };
 
 /* Buffers of these sizes always suffice. */
@@ -78,6 +80,51 @@ uint32_t maiplur_map(const uint8_t *file, size_t file_length, uint16_t number, u
  * the text (10). It takes about 128 KiB of stack.
  */
 uint32_t maiplur_list(const uint8_t *file, size_t file_length, uint8_t *text, size_t text_length, size_t values[2]);
+
+/* A session: one node that is changed entry by entry. The caller owns the struct and lends it to each call. A zeroed
+ * struct is a session that is not open, which every function but maiplur_session_open refuses (4).
+ *
+ * Each function but maiplur_session_open first checks the session as a node of a file: 4 where its level count or its
+ * entry count is outside the limits, then 7 and 8 entry by entry, with the place. A session that was opened and changed
+ * by these functions is never refused so. Its own checks follow, as said at the function.
+ */
+typedef struct {
+    uint32_t levels;      /* 1 to 64 */
+    uint32_t count;       /* entries, 0 to 64 */
+    uint32_t words[320];  /* five to an entry, as above; zero beyond the entries */
+} maiplur_session;
+
+/* Opens a session, whatever the struct holds: an empty node with `levels` levels. Values: 0 and 0. Refuses levels that
+ * are not 1 to 64 (4).
+ */
+uint32_t maiplur_session_open(maiplur_session *session, uint8_t levels, size_t values[2]);
+
+/* Sets the level count. Values: 0 and 0. Refuses levels that are not 1 to 64 (4). */
+uint32_t maiplur_session_set_levels(maiplur_session *session, uint8_t levels, size_t values[2]);
+
+/* Inserts an entry, given by its five words, before a position; just after the last entry it appends. Values: 0 and 0.
+ * Refuses a position past that (12), a list of 64 entries (13), then the entry (7, 8) with row 0 and the position.
+ */
+uint32_t maiplur_session_insert(maiplur_session *session, size_t position, const uint32_t entry[5], size_t values[2]);
+
+/* Removes the entry at a position. Values: 0 and 0. Refuses a position that has no entry (12). */
+uint32_t maiplur_session_remove(maiplur_session *session, size_t position, size_t values[2]);
+
+/* Replaces the entry at a position. Values: 0 and 0. Refuses a position that has no entry (12), then the entry (7, 8) with
+ * row 0 and the position.
+ */
+uint32_t maiplur_session_replace(maiplur_session *session, size_t position, const uint32_t entry[5], size_t values[2]);
+
+/* Times the entry at `i` in the group from `first` to `last`; the entries before the group are more urgent. Values: the
+ * completion time, or 0 where the entry is late (no completion time is 0), and the rounds. Refuses anything but
+ * first <= i <= last with `last` in the list (12).
+ */
+uint32_t maiplur_session_time(const maiplur_session *session, size_t first, size_t last, size_t i, size_t values[2]);
+
+/* Maps the node as maiplur_map does. Values: how many levels the map uses, and 0. Refuses a buffer with less than a byte
+ * an entry (10), and a node that has no map (11).
+ */
+uint32_t maiplur_session_map(const maiplur_session *session, uint8_t *levels, size_t level_count, size_t values[2]);
 
 #ifdef __cplusplus
 }

@@ -201,6 +201,11 @@ pub fn map(file: &[u8], number: u16, levels: &mut [u8]) -> Option<usize> {
 /// Lists an accepted file from the start of `text`, and gives the length.
 #[inline(never)]
 pub fn list(file: &[u8], text: &mut [u8]) -> Option<usize> {
+    list_and_tell(file, text, || ())
+}
+
+/// The same, and calls `tell` after each node.
+pub fn list_and_tell(file: &[u8], text: &mut [u8], mut tell: impl FnMut()) -> Option<usize> {
     if !check(file) {
         return None;
     }
@@ -210,6 +215,7 @@ pub fn list(file: &[u8], text: &mut [u8]) -> Option<usize> {
     writeln!(rest, "plan {nodes}").ok()?;
     for row in 0..nodes {
         list_node(&load(file, row), &mut rest)?;
+        tell();
     }
     Some(room - rest.len())
 }

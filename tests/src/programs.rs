@@ -1,10 +1,10 @@
 //! Programs that are run on a file by standard input.
 
-use std::io::{ErrorKind, Write};
+use std::io::{ErrorKind, Read, Write};
 use std::path::{Path, PathBuf};
 use std::process::{Command, Stdio};
 use std::thread;
-use std::time::Duration;
+use std::time::{Duration, Instant};
 
 /// The repository's root.
 pub fn root() -> PathBuf {
@@ -35,4 +35,37 @@ pub fn run(program: &Path, pieces: &[&[u8]], pause: Duration) -> (Vec<u8>, bool)
     drop(input);
     let done = child.wait_with_output().expect("the program ends");
     (done.stdout, done.status.success())
+}
+
+/// What the command writes on this input, up to its end or to the limit, and
+/// whether its exit status is 0. At the limit it is ended, and the second is
+/// `None`. The input must fit into a pipe.
+pub fn run_within(command: &mut Command, input: &[u8], limit: Duration) -> (Vec<u8>, Option<bool>) {
+    let mut child = command
+        .stdin(Stdio::piped())
+        .stdout(Stdio::piped())
+        .spawn()
+        .expect("the program starts");
+    let mut lent = child.stdin.take().expect("standard input is a pipe");
+    lent.write_all(input).expect("the program takes its input");
+    drop(lent);
+    let mut output = child.stdout.take().expect("standard output is a pipe");
+    let reader = thread::spawn(move || {
+        let mut text = Vec::new();
+        output.read_to_end(&mut text).expect("output can be read");
+        text
+    });
+    let until = Instant::now() + limit;
+    let ended = loop {
+        if let Some(status) = child.try_wait().expect("the program can be waited for") {
+            break Some(status.success());
+        }
+        if Instant::now() >= until {
+            child.kill().expect("the program can be ended");
+            child.wait().expect("the program ends");
+            break None;
+        }
+        thread::sleep(Duration::from_millis(2));
+    };
+    (reader.join().expect("the reader ends"), ended)
 }

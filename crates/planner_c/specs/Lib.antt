@@ -1,2 +1,3 @@
 -- What a reader of the C functions must believe.
 pub mod Returned
+pub mod Changes

@@ -2,6 +2,7 @@
 use Prim.Native.Nat.{ℕ}
 use mathlib.Core.List.{List, [], _∷_}
 use Rattle.task_model.specs.Refusals.{Numbered, Outcome, accepted, refused}
+use Rattle.completion.specs.Test.{Completion, on-time, late}
 use Rattle.plan_file.specs.Answers.{Answer, gives, refuses, Sizes}
 use Rattle.level_map.specs.Answer as map
 
@@ -40,3 +41,12 @@ sized (refuses r) = back r
 abbrev pub levelled : map.Answer → Returned
 levelled (map.mapped n) = given n 0
 levelled (map.refused r) = back r
+
+-- Timing gives the completion time and the rounds; a late entry has no time, and 0 stands in its place.
+abbrev pub givenTime : Completion → Returned
+givenTime (on-time time rounds) = given time rounds
+givenTime (late rounds) = given 0 rounds
+
+abbrev pub timed : Answer Completion → Returned
+timed (gives c) = givenTime c
+timed (refuses r) = back r

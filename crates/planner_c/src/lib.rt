@@ -2,6 +2,8 @@
 //
 // Each function returns a refusal's number, or 0, and leaves two values in `values`: the row and the entry position of
 // the refusal, or what the call gives (specs/Returned.antt). The other lent buffers are untouched where it refuses.
+pub mod sessions;
+
 ghost use mathlib.Core.Path.{_≡_};
 ghost use mathlib.Core.List.{map};
 ghost use lib.ListN.{length};

@@ -1,5 +1,6 @@
 -- Laws that the functions' proofs cite, and the theorems of the session.
 pub mod Held
+pub mod Copying
 pub mod Words
 pub mod Filling
 pub mod Building
@@ -7,6 +8,7 @@ pub mod Checking
 pub mod Entries
 pub mod Reading
 pub mod Rows
+pub mod InWords
 pub mod Theorems
 pub mod Lent
 pub mod LentOne

@@ -3,12 +3,14 @@ use Prim.Native.Nat.{ℕ}
 use mathlib.Core.Path.{_≡_, _∙_, sym, ap}
 use mathlib.Core.Logic.{⊎-elim}
 use mathlib.Core.List.{List}
+use lib.ListN.{length}
 use Rattle.task_model.specs.Refusals.{Numbered, accepted, refused}
 use Rattle.task_model.specs.Limits.{Node}
 use Rattle.task_model.specs.Checks.{nodeCheck}
-use Rattle.task_model.proofs.Theorems.{either}
+use Rattle.task_model.proofs.Theorems.{either, node-accepted}
 use Rattle.level_map.specs.Answer as map
-use Rattle.planner.specs.Mapping.{heldAnswer, heldBuffer}
+use Rattle.planner.specs.Mapping.{heldAnswer, heldBuffer, NodeDemand3}
+use Rattle.planner.proofs.Answers.{held-demand}
 use Rattle.session.specs.Operations.{refusalIn, mapping, operationCheck, lentCheck, stepCheck}
 use Rattle.session.specs.Mapping.{mapAnswer, mapBuffer}
 use Rattle.session.proofs.Checking.{lent-stops, lent-goes-on}
@@ -33,6 +35,10 @@ module _ (n : Node) where
     pub own-buffer : (buffer : List ℕ) → mapBuffer n buffer ≡ heldBuffer n buffer
     unfolding mapBuffer
     own-buffer buffer = rw (p, mapBuffer)
+
+    pub own-demand : (buffer : List ℕ) → NodeDemand3 n buffer (mapAnswer n (length buffer)) (mapBuffer n buffer)
+    own-demand buffer =
+        rw (own-answer (length buffer), own-buffer buffer) (held-demand n buffer (node-accepted 0 n .0 p))
 
   -- the operation is refused exactly as the answer says
   pub map-outcome : (room : ℕ) → stepCheck (mapping room) n ≡ refusalIn (mapAnswer n room)

@@ -1,6 +1,7 @@
 -- The theorems of the session.
 use Prim.Native.Nat.{ℕ, _≤_, _<_}
 use mathlib.Core.Path.{_≡_, _∙_, refl, sym, ap}
+use mathlib.Core.Logic.{⊎-elim}
 use mathlib.Core.List.{List, _∷_}
 use native.Mathlib.Omega.{arith}
 use lib.ListN.{length}
@@ -8,14 +9,14 @@ use Rattle.task_model.specs.declared.Entry.{Entry}
 use Rattle.task_model.specs.Refusals.{Numbered, at, accepted, refused}
 use Rattle.task_model.specs.Limits.{Node}
 use Rattle.task_model.specs.Checks.{nodeCheck}
-use Rattle.task_model.proofs.Laws.{node-sizes}
-use Rattle.task_model.proofs.Theorems.{node-accepted}
+use Rattle.task_model.proofs.Laws.{node-sizes, length-entries}
+use Rattle.task_model.proofs.Theorems.{node-accepted, either}
 use Rattle.completion.specs.Group.{groupLevel}
-use Rattle.completion.specs.Test.{completionTest}
+use Rattle.completion.specs.Test.{completionTest, on-time}
+use Rattle.completion.proofs.Theorems.{completion-least}
 use Rattle.plan_file.specs.Encoding.{encoding}
 use Rattle.plan_file.specs.Check.{planCheck}
 use Rattle.planner.specs.Mapping.{heldAnswer, heldBuffer, fileAnswer, fileBuffer, NodeDemand3}
-use Rattle.planner.proofs.Answers.{held-demand}
 use Rattle.session.specs.declared.Session.{Session}
 use Rattle.session.specs.State.{nodeIn, sessionOf, Sound, blankSession}
 use Rattle.session.specs.Operations.{refusalIn, Operation, opening, inserting, removing, replacing, settingLevels, mapping, timing, AllCallable, operationCheck, emptyNode, nodeAfterAll, answersAll, lentCheck, stepCheck, changed}
@@ -24,10 +25,12 @@ use Rattle.session.specs.Timing.{timeAnswer}
 use Rattle.session.specs.Mapping.{mapAnswer, mapBuffer}
 use Rattle.session.specs.Plan.{oneRow}
 use Rattle.session.specs.Steps.{sessionAfter, sessionAfterAll, answersOf}
+use Rattle.session.specs.InWords.{sessionIn, wordsIn, wordsAfter, wordsAfterAll}
 use Rattle.session.proofs.Reading.{Kept, read-back}
-use Rattle.session.proofs.Checking.{levels-within, lent-stops, insert-outside, insert-full, time-inside, time-else, time-refused, time-given, after-refused, after-accepted}
-use Rattle.session.proofs.Mapping.{own-answer, own-buffer, map-outcome}
+use Rattle.session.proofs.Checking.{levels-within, lent-stops, insert-outside, insert-full, time-inside, time-else, time-refused, time-given, time-ready, after-refused, after-accepted}
+use Rattle.session.proofs.Mapping.{own-answer, own-buffer, own-demand, map-outcome}
 use Rattle.session.proofs.FileMap.{kept-in, one-accepted, same-answer, same-buffer}
+use Rattle.session.proofs.InWords.{words-back, words-refused, rows-words}
 use Rattle.session.proofs.Rows.{kept-empty, own-checks, rows-session, rows-answers, rows-kept}
 
 -- From the opening, by any row of operations, refused ones included, and whatever the memory held before. `levels` is
@@ -120,6 +123,18 @@ module _ (s : Session) (h : Sound s) (first last i : ℕ) where
       time-refused (nodeIn s) first last i (at 12 0 0)
       (sound-checks (timing first last i) s h ∙ time-else (nodeIn s) first last i out)
 
+-- A completion time is never 0, whatever the session holds.
+pub time-some : (s : Session) (first last i time rounds : ℕ)
+    → timeAnswer (nodeIn s) first last i ≡ gives (on-time time rounds) → 1 ≤ time
+time-some s first last i time rounds p =
+    ⊎-elim
+    (λ a.
+    let q = time-ready s first last i a in
+    let t = time-given (nodeIn s) first last i a in
+    completion-least (nodeIn s .entries) (q .0) (groupLevel first last) i (omega (arith, length-entries (s .words) 0 (s .count))) time rounds (cc) .0)
+    (λ a. let t = time-refused (nodeIn s) first last i (a .0) (a .1) in let z : _≡_ {A = ℕ} 0 1 = cc in omega arith)
+    (either (stepCheck (timing first last i) (nodeIn s)))
+
 -- Mapping, as an operation of a row, is refused exactly as its answer says; on any session.
 pub map-refusal : (s : Session) (room : ℕ) → stepCheck (mapping room) (nodeIn s) ≡ refusalIn (mapAnswer (nodeIn s) room)
 map-refusal s room = map-outcome (nodeIn s) room
@@ -138,8 +153,7 @@ module _ (s : Session) (h : Sound s) where
   -- Demand 3, into a buffer of a byte an entry or more.
   pub map-demand-three : (buffer : List ℕ)
       → NodeDemand3 (nodeIn s) buffer (mapAnswer (nodeIn s) (length buffer)) (mapBuffer (nodeIn s) buffer)
-  map-demand-three buffer =
-      rw (map-answers (length buffer), map-writes buffer) (held-demand (nodeIn s) buffer (h .within))
+  map-demand-three buffer = own-demand (nodeIn s) within-checks buffer
 
   -- Its map is that of the same node read from a file: the node, written as a plan of one row under any number, is
   -- accepted by the writer, and mapped from that file it gives the same answer, count and bytes.
@@ -153,3 +167,19 @@ module _ (s : Session) (h : Sound s) where
     pub file-writes : (buffer : List ℕ)
         → fileBuffer (encoding (oneRow number (nodeIn s))) number buffer ≡ mapBuffer (nodeIn s) buffer
     file-writes buffer = same-buffer (nodeIn s) (kept-in s (h .within)) number short buffer ∙ sym (map-writes buffer)
+
+-- A session as 322 words: each form is the inverse of the other.
+pub words-inverse : (w : List ℕ) → length w ≡ 322 → wordsIn (sessionIn w) ≡ w
+words-inverse w h = words-back w h
+
+pub session-inverse : (s : Session) → sessionIn (wordsIn s) ≡ s
+session-inverse s = refl
+
+-- A refused operation leaves the words untouched.
+pub words-unchanged : (o : Operation) (w : List ℕ) (r : Numbered) → stepCheck o (nodeIn (sessionIn w)) ≡ refused r
+    → wordsAfter o w ≡ w
+words-unchanged o w r p = words-refused o w r p
+
+-- After any row of operations the words hold the session after that row, so what is said of sessions above holds of them.
+pub words-follow : (os : List Operation) (w : List ℕ) → sessionIn (wordsAfterAll os w) ≡ sessionAfterAll os (sessionIn w)
+words-follow os w = rows-words os w

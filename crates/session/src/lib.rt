@@ -26,6 +26,7 @@ ghost use Rattle.session.specs.Operations.{opening, inserting, removing,
 ghost use Rattle.session.specs.Steps.{Follows};
 ghost use Rattle.session.specs.Mapping.{Maps};
 ghost use Rattle.session.specs.Timing.{timeGives, timeAnswer};
+ghost use Rattle.session.specs.InWords.{sessionIn, wordsIn};
 
 // One node, and room for 64 entries: 322 words of 32 bits, without padding. `words` has five to an entry.
 #[repr(C)]
@@ -206,4 +207,33 @@ pub fn map(s: &Session, out: &mut [u8]) -> MappedNode
     ensures { λ a. ⌜ Maps (nodeIn (now (s .entry))) (now (out .entry)) a (now (out .exit)) ⌝ }
 {
     mapped(*s, out)
+}
+
+// The session that 322 words hold: the level count, the entry count, and the words of the entries.
+pub fn from_words(w: [u32; 322]) -> Session
+    ensures { λ s. ⌜ s ≡ sessionIn w ⌝ }
+{
+    let mut words = [0u32; 320];
+    for j in 0..320 {
+        words[j] = w[2 + j];
+    }
+    Session {
+        levels: w[0],
+        count: w[1],
+        words,
+    }
+}
+
+// The words of a session.
+pub fn to_words(s: Session) -> [u32; 322]
+    ensures { λ w. ⌜ w ≡ wordsIn s ⌝ }
+{
+    let words = s.words;
+    let mut w = [0u32; 322];
+    w[0] = s.levels;
+    w[1] = s.count;
+    for j in 0..320 {
+        w[2 + j] = words[j];
+    }
+    w
 }

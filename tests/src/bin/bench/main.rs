@@ -1,9 +1,10 @@
 //! Ratios of the proved library to plain Rust that does the same work, both
 //! in this process. A ratio below 1 says that the proved one is faster.
-//!
-//! Each measure is the best of many runs, taken in turns, so that what else
-//! the machine does hurts both alike.
 
+mod measure;
+mod odd;
+
+use measure::{line, measure};
 use oracle::ffi;
 use oracle::file::encode;
 use oracle::gen::entries;
@@ -12,51 +13,6 @@ use oracle::model::{Node, Plan};
 use oracle::plain;
 use oracle::rng::Rng;
 use std::hint::black_box;
-use std::time::Instant;
-
-/// Rounds of turns of a measure.
-const TURNS: usize = 30;
-/// What one run of a measure takes at least, in seconds.
-const LONG: f64 = 0.004;
-
-/// The best seconds of one call each of the proved and of the plain one.
-fn measure(mut proved: impl FnMut(), mut plain: impl FnMut()) -> (f64, f64) {
-    let calls = calls_in(LONG, &mut proved);
-    let mut best = (f64::MAX, f64::MAX);
-    for _ in 0..TURNS {
-        best.0 = best.0.min(seconds(calls, &mut proved));
-        best.1 = best.1.min(seconds(calls, &mut plain));
-    }
-    best
-}
-
-/// Seconds of a call, over so many calls.
-fn seconds(calls: u32, call: &mut impl FnMut()) -> f64 {
-    let begin = Instant::now();
-    for _ in 0..calls {
-        call();
-    }
-    begin.elapsed().as_secs_f64() / f64::from(calls)
-}
-
-/// How many calls take so long.
-fn calls_in(long: f64, call: &mut impl FnMut()) -> u32 {
-    let mut calls = 1;
-    while seconds(calls, call) * f64::from(calls) < long {
-        calls *= 2;
-    }
-    calls
-}
-
-/// A line of the table, per part where a call has several.
-fn line(name: &str, parts: usize, (proved, plain): (f64, f64)) {
-    let per_part = 1e6 / parts as f64;
-    let (proved_us, plain_us) = (proved * per_part, plain * per_part);
-    println!(
-        "| {name} | {proved_us:.2} | {plain_us:.2} | {:.2} |",
-        proved / plain
-    );
-}
 
 /// A plan of one node with so many entries that has a map.
 fn one_node(rng: &mut Rng, count: usize, levels: u8) -> Vec<u8> {
@@ -164,10 +120,8 @@ fn station(rng: &mut Rng, nodes: u16, count: usize) -> Vec<u8> {
     encode(&Plan { nodes }).expect("a good plan")
 }
 
-fn main() {
+fn usual() {
     let mut rng = Rng::new(7);
-    println!("| Work | proved, µs | plain, µs | ratio |");
-    println!("|---|---|---|---|");
     for count in [8, 16, 32, 64] {
         mapping(&mut rng, count);
     }
@@ -177,4 +131,17 @@ fn main() {
         let file = station(&mut rng, nodes, 12);
         listing(&file, &format!("a station of {nodes} nodes of 12 entries"));
     }
+}
+
+fn main() {
+    let arguments: Vec<String> = std::env::args().skip(1).collect();
+    if let [odd, who, family] = &arguments[..] {
+        assert_eq!(odd, "odd");
+        return odd::child(who, family);
+    }
+    println!("| Work | proved, µs | plain, µs | ratio |");
+    println!("|---|---|---|---|");
+    usual();
+    odd::rounds(8);
+    odd::families();
 }

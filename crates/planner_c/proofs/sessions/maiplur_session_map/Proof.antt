@@ -1,0 +1,71 @@
+use mathlib.Core.Path.{_∙_, ap, sym}
+use Rattle.planner.specs.Mapping.{answer}
+use Rattle.session.specs.InWords.{sessionIn}
+use Rattle.planner_c.specs.Returned.{levelled}
+use Rattle.planner_c.proofs.Mapping.{map-returned, map-buffer, map-demand}
+use borrow.Author.Needs.{needs}
+use Rattle.planner_c.proofs.sessions.maiplur_session_map.Statement.{statement}
+use Rattle.planner_c.proofs.sessions.maiplur_session_map.Tie as tie
+
+from-words-requires : tie.Need-from-words-requires
+from-words-requires c κs = search needs
+
+mapped-requires : tie.Need-mapped-requires
+mapped-requires c κs = search needs
+
+enum-known-mapped : tie.Need-enum-known-mapped
+enum-known-mapped c = search needs
+
+cast-give : tie.Need-cast-give
+cast-give c = search needs
+
+give-requires : tie.Need-give-requires
+give-requires c κs = search needs
+
+enum-known-mapped-2 : tie.Need-enum-known-mapped-2
+enum-known-mapped-2 c = search needs
+
+refuse-requires : tie.Need-refuse-requires
+refuse-requires c κs = search needs
+
+same-length : tie.Need-same-length
+same-length c = search needs
+
+returns : tie.Need-returns
+returns c =
+    let a = c .before .before .before .before .before .before .before .before .before .before .before .before .args in
+    let e = c .before .before .before .before .before .before .before .mapped .ensures in
+    let read = c .before .before .before .before .before .before .before .before .before .from-words .ensures in
+    let t = sessionIn (a .session .now) in (
+      map-returned t read (a .levels .now) e _ (c .give .ensures ∙ ap levelled (sym (ap answer (c .before .before .before .mapped2 .given .1)))),
+      (map-buffer t read (a .levels .now) e, map-demand t read (a .levels .now) e),
+    )
+
+same-length-2 : tie.Need-same-length-2
+same-length-2 c = search needs
+
+returns-2 : tie.Need-returns-2
+returns-2 c =
+    let a = c .before .before .before .before .before .before .before .before .before .before .before .before .args in
+    let e = c .before .before .before .before .before .before .before .mapped .ensures in
+    let read = c .before .before .before .before .before .before .before .before .before .from-words .ensures in
+    let t = sessionIn (a .session .now) in (
+      map-returned t read (a .levels .now) e _ (c .refuse .ensures ∙ ap levelled (sym (ap answer (c .before .before .before .mapped3 .given .1)))),
+      (map-buffer t read (a .levels .now) e, map-demand t read (a .levels .now) e),
+    )
+
+pub maiplur-session-map-spec : {M : Type 1} → statement M
+maiplur-session-map-spec =
+    tie.close
+    (tie.spec
+    from-words-requires
+    mapped-requires
+    enum-known-mapped
+    cast-give
+    give-requires
+    enum-known-mapped-2
+    refuse-requires
+    same-length
+    returns
+    same-length-2
+    returns-2)

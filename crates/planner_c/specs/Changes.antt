@@ -1,0 +1,14 @@
+-- What a change to a lent session returns, and the words that it leaves.
+use Prim.Native.Nat.{ℕ}
+use mathlib.Core.Path.{_≡_}
+use mathlib.Core.List.{List}
+use Rattle.session.specs.State.{nodeIn}
+use Rattle.session.specs.Operations.{Operation, stepCheck}
+use Rattle.session.specs.InWords.{sessionIn, wordsAfter}
+use Rattle.planner_c.specs.Returned.{Returned, checked}
+
+-- The operation o on a session of words w returns r and leaves the words `after`: those of the session after it, and w
+-- where it is refused.
+pub record Changes (o : Operation) (w : List ℕ) (r : Returned) (after : List ℕ) : Type 0 where
+  pub answer : r ≡ checked (stepCheck o (nodeIn (sessionIn w)))
+  pub words : after ≡ wordsAfter o w

@@ -1,0 +1,185 @@
+// The session for C. It is lent as 322 words: its level count, its entry count and the words of its entries.
+use super::give;
+use super::refuse;
+use completion::Timing;
+use planner::MappedNode;
+use session::Changed;
+use session::TimeAnswer;
+use session::from_words;
+use session::to_words;
+use task_model::Checked;
+use task_model::Entry;
+ghost use mathlib.Core.Path.{_≡_};
+ghost use lib.ListN.{length};
+ghost use Rattle.task_model.specs.Refusals.{outcome, accepted};
+ghost use Rattle.task_model.specs.Checks.{nodeCheck};
+ghost use Rattle.task_model.specs.Words.{entryFrom};
+ghost use Rattle.completion.specs.Test.{completion};
+ghost use Rattle.planner.specs.Mapping.{NodeDemand3};
+ghost use Rattle.session.specs.State.{nodeIn};
+ghost use Rattle.session.specs.Operations.{opening, inserting, removing, replacing, settingLevels};
+ghost use Rattle.session.specs.Timing.{timeAnswer};
+ghost use Rattle.session.specs.Mapping.{mapAnswer, mapBuffer};
+ghost use Rattle.session.specs.InWords.{sessionIn, wordsLeft};
+ghost use Rattle.planner_c.specs.Returned.{returned, checked, levelled, givenTime, timed};
+ghost use Rattle.planner_c.specs.Changes.{Changes};
+
+// The entry that five words hold.
+fn entry_in(words: &[u32; 5]) -> Entry
+    ensures { λ e. ⌜ e ≡ entryFrom (now (words .entry)) 0 ⌝ }
+{
+    task_model::entry_with(words[0], words[1], words[2], words[3], words[4])
+}
+
+// Ends a change: an accepted one stores its session, a refused one leaves the words alone.
+fn keep(c: Changed, session: &mut [u32; 322], values: &mut [usize; 2]) -> u32
+    ensures { λ a. ⌜ returned a (now (values .exit)) ≡ checked (outcome (c .answer)) ⌝ }
+    ensures { λ a. ⌜ now (session .exit) ≡ wordsLeft (outcome (c .answer)) (c .session) (now (session .entry)) ⌝ }
+{
+    let answer = c.answer;
+    let made = c.session;
+    match answer {
+        Checked::Accepted => {
+            *session = to_words(made);
+            give(0, 0, values)
+        }
+        Checked::Refused(r) => refuse(r, values),
+    }
+}
+
+// Opens a session, whatever the words held: an empty node with the given level count.
+#[no_mangle]
+pub extern "C" fn maiplur_session_open(
+    session: &mut [u32; 322],
+    levels: u8,
+    values: &mut [usize; 2],
+) -> u32
+    ensures { λ a.
+        ⌜ Changes (opening levels) (now (session .entry)) (returned a (now (values .exit))) (now (session .exit)) ⌝ }
+{
+    let s = from_words(*session);
+    let c = session::opened(s, levels);
+    keep(c, session, values)
+}
+
+// Sets the level count.
+#[no_mangle]
+pub extern "C" fn maiplur_session_set_levels(
+    session: &mut [u32; 322],
+    levels: u8,
+    values: &mut [usize; 2],
+) -> u32
+    ensures { λ a.
+        ⌜ Changes (settingLevels levels) (now (session .entry)) (returned a (now (values .exit))) (now (session .exit)) ⌝ }
+{
+    let s = from_words(*session);
+    let c = session::with_levels(s, levels);
+    keep(c, session, values)
+}
+
+// Inserts an entry before a position; just after the last entry it appends.
+#[no_mangle]
+pub extern "C" fn maiplur_session_insert(
+    session: &mut [u32; 322],
+    position: usize,
+    entry: &[u32; 5],
+    values: &mut [usize; 2],
+) -> u32
+    ensures { λ a.
+        ⌜ Changes (inserting position (entryFrom (now (entry .entry)) 0)) (now (session .entry))
+        (returned a (now (values .exit))) (now (session .exit)) ⌝ }
+{
+    let s = from_words(*session);
+    let e = entry_in(entry);
+    let c = session::inserted(s, position, e);
+    keep(c, session, values)
+}
+
+// Removes the entry at a position.
+#[no_mangle]
+pub extern "C" fn maiplur_session_remove(
+    session: &mut [u32; 322],
+    position: usize,
+    values: &mut [usize; 2],
+) -> u32
+    ensures { λ a.
+        ⌜ Changes (removing position) (now (session .entry)) (returned a (now (values .exit))) (now (session .exit)) ⌝ }
+{
+    let s = from_words(*session);
+    let c = session::removed(s, position);
+    keep(c, session, values)
+}
+
+// Replaces the entry at a position.
+#[no_mangle]
+pub extern "C" fn maiplur_session_replace(
+    session: &mut [u32; 322],
+    position: usize,
+    entry: &[u32; 5],
+    values: &mut [usize; 2],
+) -> u32
+    ensures { λ a.
+        ⌜ Changes (replacing position (entryFrom (now (entry .entry)) 0)) (now (session .entry))
+        (returned a (now (values .exit))) (now (session .exit)) ⌝ }
+{
+    let s = from_words(*session);
+    let e = entry_in(entry);
+    let c = session::replaced(s, position, e);
+    keep(c, session, values)
+}
+
+fn give_time(t: Timing, values: &mut [usize; 2]) -> u32
+    ensures { λ a. ⌜ returned a (now (values .exit)) ≡ givenTime (completion t) ⌝ }
+{
+    match t {
+        Timing::OnTime { time, rounds } => give(time as usize, rounds as usize, values),
+        Timing::Late { rounds } => give(0, rounds as usize, values),
+    }
+}
+
+// Times the entry at `i` in the group from `first` to `last`. Gives the completion time, or 0 where the entry is late, and
+// the rounds.
+#[no_mangle]
+pub extern "C" fn maiplur_session_time(
+    session: &[u32; 322],
+    first: usize,
+    last: usize,
+    i: usize,
+    values: &mut [usize; 2],
+) -> u32
+    ensures { λ a.
+        ⌜ returned a (now (values .exit)) ≡
+        timed (timeAnswer (nodeIn (sessionIn (now (session .entry)))) first last i) ⌝ }
+{
+    let s = from_words(*session);
+    let answer = session::timed(s, first, last, i);
+    match answer {
+        TimeAnswer::Answered(t) => give_time(t, values),
+        TimeAnswer::Refused(r) => refuse(r, values),
+    }
+}
+
+// Maps the node, one byte an entry from the buffer's start. Gives the levels used.
+#[no_mangle]
+pub extern "C" fn maiplur_session_map(
+    session: &[u32; 322],
+    levels: &mut [u8],
+    values: &mut [usize; 2],
+) -> u32
+    ensures { λ a.
+        ⌜ returned a (now (values .exit)) ≡
+        levelled (mapAnswer (nodeIn (sessionIn (now (session .entry)))) (length (now (levels .entry)))) ⌝ }
+    ensures { λ a.
+        ⌜ now (levels .exit) ≡ mapBuffer (nodeIn (sessionIn (now (session .entry)))) (now (levels .entry)) ⌝ }
+    ensures { λ a.
+        ⌜ (nodeCheck 0 (nodeIn (sessionIn (now (session .entry)))) ≡ accepted →
+        NodeDemand3 (nodeIn (sessionIn (now (session .entry)))) (now (levels .entry))
+        (mapAnswer (nodeIn (sessionIn (now (session .entry)))) (length (now (levels .entry)))) (now (levels .exit))) ⌝ }
+{
+    let s = from_words(*session);
+    let mapped = session::mapped(s, levels);
+    match mapped {
+        MappedNode::Levels(used) => give(used as usize, 0, values),
+        MappedNode::Refused(r) => refuse(r, values),
+    }
+}

@@ -1,0 +1,90 @@
+use Prim.Native.Nat.{_-_, _≤_}
+use mathlib.Core.Path.{_≡_, _∙_, refl, ap}
+use native.Mathlib.Omega.{arith}
+use lib.ListN.{length, drop, length-drop}
+use lib.Seq.{paste, paste-zero, getD-drop}
+use mir.Syntax.{w32}
+use borrow.Kind.Array.{eInt, good-length}
+use borrow.Author.Needs.{needs}
+use Rattle.session.specs.State.{zeros}
+use Rattle.session.proofs.Copying.{copy-next, copy-all}
+use Rattle.session.proofs.from_words.Statement.{statement}
+use Rattle.session.proofs.from_words.Tie as tie
+
+abbrev Inv-loop : tie.InvT-loop
+Inv-loop w words₀ j₀ words j = (j ≤ 320) × (length w ≡ 322) × (words ≡ paste (zeros 320) 0 (drop 2 w) j)
+
+abbrev μ-loop : tie.MeasureT-loop
+μ-loop w words₀ j₀ words j = 320 - j
+
+loop-holds : tie.Need-loop-holds Inv-loop μ-loop
+loop-holds c = (
+  omega arith,
+  good-length (eInt w32) 322 (c .args .t1) _ (c .good .0),
+  paste-zero (zeros 320) 0 (drop 2 (c .args .t1)),
+)
+
+add-words : tie.Need-add-words Inv-loop μ-loop
+add-words c = search needs
+
+mul-words : tie.Need-mul-words Inv-loop μ-loop
+mul-words c = search needs
+
+array-read-words : tie.Need-array-read-words Inv-loop μ-loop
+array-read-words c = search needs
+
+mul-words-2 : tie.Need-mul-words-2 Inv-loop μ-loop
+mul-words-2 c = search needs
+
+array-write-words : tie.Need-array-write-words Inv-loop μ-loop
+array-write-words c = search needs
+
+add-j : tie.Need-add-j Inv-loop μ-loop
+add-j c = search needs
+
+loop-less : tie.Need-loop-less Inv-loop μ-loop
+loop-less c = search needs
+
+loop-again : tie.Need-loop-again Inv-loop μ-loop
+loop-again c =
+    let w = c .before .before .args .t1 in
+    let j = c .before .loop .j in
+    let i = c .before .loop .inv in (
+      omega arith,
+      i .1,
+      rw (← getD-drop 2 w j 0) (copy-next (zeros 320) 0 (drop 2 w) j j _ (omega arith) (omega arith) (omega (arith, length-drop 2 w)) (i .2)),
+    )
+
+array-read-t16 : tie.Need-array-read-t16 Inv-loop μ-loop
+array-read-t16 c = search needs
+
+array-read-t19 : tie.Need-array-read-t19 Inv-loop μ-loop
+array-read-t19 c = search needs
+
+returns : tie.Need-returns Inv-loop μ-loop
+returns c =
+    let w = c .before .before .args .t1 in
+    let i = c .before .loop .inv in
+    let e : c .before .loop .j ≡ 320 = omega arith in
+    let all : c .before .loop .words ≡ drop 2 w =
+    i .2 ∙ ap (paste (zeros 320) 0 (drop 2 w)) e ∙ copy-all (zeros 320) 0 (drop 2 w) 320 (omega (arith, length-drop 2 w)) refl in
+    rw all
+
+pub from-words-spec : {M : Type 1} → statement M
+from-words-spec =
+    tie.close
+    (tie.spec
+    Inv-loop
+    μ-loop
+    loop-holds
+    add-words
+    mul-words
+    array-read-words
+    mul-words-2
+    array-write-words
+    add-j
+    loop-less
+    loop-again
+    array-read-t16
+    array-read-t19
+    returns)

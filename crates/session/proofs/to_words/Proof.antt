@@ -1,0 +1,89 @@
+use Prim.Native.Nat.{ℕ, _+_, _-_, _≤_}
+use mathlib.Core.Path.{_≡_, _∙_, refl, ap}
+use mathlib.Core.List.{List, _∷_}
+use native.Mathlib.Omega.{arith}
+use lib.ListN.{length}
+use lib.Seq.{paste, paste-zero}
+use borrow.Author.Needs.{needs}
+use Rattle.session.specs.declared.Session.{Session}
+use Rattle.session.specs.State.{zeros}
+use Rattle.session.proofs.Held.{held}
+use Rattle.session.proofs.Copying.{copy-next, copy-all}
+use Rattle.session.proofs.to_words.Statement.{statement}
+use Rattle.session.proofs.to_words.Tie as tie
+
+abbrev Inv-loop : tie.InvT-loop
+Inv-loop words w₀ j₀ w j = (j ≤ 320) × (length words ≡ 320) × (w ≡ paste w₀ 2 words j)
+
+abbrev μ-loop : tie.MeasureT-loop
+μ-loop words w₀ j₀ w j = 320 - j
+
+-- the array before the loop
+abbrev start : Session → List ℕ
+start s = s .levels ∷ s .count ∷ zeros 320
+
+array-write-w : tie.Need-array-write-w Inv-loop μ-loop
+array-write-w c = search needs
+
+array-write-w-2 : tie.Need-array-write-w-2 Inv-loop μ-loop
+array-write-w-2 c = search needs
+
+loop-holds : tie.Need-loop-holds Inv-loop μ-loop
+loop-holds c = (omega arith, held (c .before .args .s) (c .before .good .0) .size, paste-zero (start (c .before .args .s)) 2 (c .before .args .s .words))
+
+mul-w : tie.Need-mul-w Inv-loop μ-loop
+mul-w c = search needs
+
+array-read-w : tie.Need-array-read-w Inv-loop μ-loop
+array-read-w c = search needs
+
+add-w : tie.Need-add-w Inv-loop μ-loop
+add-w c = search needs
+
+mul-w-2 : tie.Need-mul-w-2 Inv-loop μ-loop
+mul-w-2 c = search needs
+
+array-write-w-3 : tie.Need-array-write-w-3 Inv-loop μ-loop
+array-write-w-3 c = search needs
+
+add-j : tie.Need-add-j Inv-loop μ-loop
+add-j c = search needs
+
+loop-less : tie.Need-loop-less Inv-loop μ-loop
+loop-less c = search needs
+
+loop-again : tie.Need-loop-again Inv-loop μ-loop
+loop-again c =
+    let s = c .before .before .before .args .s in
+    let j = c .before .loop .j in
+    let i = c .before .loop .inv in (
+      omega arith,
+      i .1,
+      copy-next (start s) 2 (s .words) j (2 + j) _ refl (omega arith) (omega arith) (i .2),
+    )
+
+returns : tie.Need-returns Inv-loop μ-loop
+returns c =
+    let s = c .before .before .before .args .s in
+    let i = c .before .loop .inv in
+    let e : c .before .loop .j ≡ 320 = omega arith in
+    i .2 ∙ ap (paste (start s) 2 (s .words)) e ∙ copy-all (start s) 2 (s .words) 320 (omega arith) refl
+
+pub to-words-spec : {M : Type 1} → statement M
+to-words-spec =
+    tie.close
+    (tie.spec
+    Inv-loop
+    μ-loop
+    array-write-w
+    array-write-w-2
+    loop-holds
+    mul-w
+    array-read-w
+    add-w
+    mul-w-2
+    array-write-w-3
+    add-j
+    loop-less
+    loop-again
+    returns)

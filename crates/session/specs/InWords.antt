@@ -1,0 +1,29 @@
+-- A session that is lent as an array of 322 words: the level count, the entry count, and the words of the entries.
+use Prim.Native.Nat.{ℕ}
+use mathlib.Core.List.{List, [], _∷_}
+use lib.ListN.{getD, drop}
+use Rattle.task_model.specs.Refusals.{Outcome, accepted, refused}
+use Rattle.session.specs.declared.Session.{Session}
+use Rattle.session.specs.State.{nodeIn}
+use Rattle.session.specs.Operations.{Operation, stepCheck}
+use Rattle.session.specs.Steps.{sessionAfter}
+
+-- The session that words hold, and the words of a session.
+abbrev pub sessionIn : List ℕ → Session
+sessionIn w = record { levels = getD w 0 0; count = getD w 1 0; words = drop 2 w }
+
+abbrev pub wordsIn : Session → List ℕ
+wordsIn s = s .levels ∷ s .count ∷ s .words
+
+-- An accepted change leaves the words of the session that it made, a refused one the words as they were.
+abbrev pub wordsLeft : Outcome → Session → List ℕ → List ℕ
+wordsLeft accepted made w = wordsIn made
+wordsLeft (refused r) made w = w
+
+-- The words after an operation, and after a row of them.
+unfoldable pub wordsAfter : Operation → List ℕ → List ℕ
+wordsAfter o w = wordsLeft (stepCheck o (nodeIn (sessionIn w))) (sessionAfter o (sessionIn w)) w
+
+unfoldable pub wordsAfterAll : List Operation → List ℕ → List ℕ
+wordsAfterAll [] w = w
+wordsAfterAll (o ∷ os) w = wordsAfterAll os (wordsAfter o w)

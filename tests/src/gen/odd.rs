@@ -1,0 +1,182 @@
+//! Odd plans: nodes whose load is close to 1, so that the test of an entry may
+//! take very many rounds.
+
+use crate::model::{Entry, Node, Plan, MAX_ENTRIES, MAX_NODES, MAX_R, MAX_TICKS};
+use crate::rng::Rng;
+use crate::timing::{completion_in_group, Timing};
+
+/// Entries of a full node that no grouping lets pass, with a name.
+pub type Family = (&'static str, fn() -> Vec<Entry>);
+
+/// Full nodes without a map; tests/odd.rs says why they have none.
+pub const FAMILIES: [Family; 5] = [
+    ("load 1 by one entry", one_entry),
+    ("load 1 by three entries", three_entries),
+    ("periods of powers of 2", powers),
+    ("a long run before powers of 2", long_run),
+    ("load 1 by 62 entries", sixty_two),
+];
+
+/// Level count of the nodes of the families.
+pub const LEVELS: u8 = 8;
+
+/// 1/1/1, then 1/10^9/10^9.
+fn one_entry() -> Vec<Entry> {
+    filled(vec![task(1, 1)], task(1, MAX_TICKS))
+}
+
+/// Three times 1/3/3, then 1/10^9/10^9.
+fn three_entries() -> Vec<Entry> {
+    filled(vec![task(1, 3); 3], task(1, MAX_TICKS))
+}
+
+/// 1/2/2, 1/4/4 and so on to 1/2^29/2^29, then 1/10^9/10^9.
+fn powers() -> Vec<Entry> {
+    filled(powers_to(29), task(1, MAX_TICKS))
+}
+
+/// 20/10^9/10^9, then 1/2/2 to 1/2^25/2^25, then 1/10^9/600000000.
+fn long_run() -> Vec<Entry> {
+    let mut entries = vec![task(20, MAX_TICKS)];
+    entries.extend(powers_to(25));
+    let last = Entry {
+        d: 600_000_000,
+        ..task(1, MAX_TICKS)
+    };
+    filled(entries, last)
+}
+
+/// 62 times 1/62/62, then 1/10^9/10^9.
+fn sixty_two() -> Vec<Entry> {
+    filled(vec![task(1, 62); 62], task(1, MAX_TICKS))
+}
+
+/// A node with a map whose last entries truly take millions of rounds:
+/// 1/2/2, 1/3/3, 1/7/7, 1/43/43, 1/1807/1807, then 1/10^9/10^9 up to `count`.
+///
+/// The load of the first five is 1 - 1/3,263,442.
+pub fn many_rounds(count: usize) -> Vec<Entry> {
+    let mut entries: Vec<Entry> = [2, 3, 7, 43, 1_807].map(|t| task(1, t)).to_vec();
+    entries.resize(count, task(1, MAX_TICKS));
+    numbered(entries)
+}
+
+/// The longest plan file, each node with these entries.
+pub fn full_plan(entries: &[Entry]) -> Plan {
+    let nodes = (1..=MAX_NODES as u16)
+        .map(|number| Node {
+            number,
+            levels: LEVELS,
+            entries: entries.to_vec(),
+        })
+        .collect();
+    Plan { nodes }
+}
+
+fn task(c: u64, t: u64) -> Entry {
+    Entry::task(1, c, t, t)
+}
+
+fn powers_to(last: u32) -> Vec<Entry> {
+    (1..=last).map(|power| task(1, 1 << power)).collect()
+}
+
+/// As many of the last entry as a full node takes.
+fn filled(mut entries: Vec<Entry>, last: Entry) -> Vec<Entry> {
+    entries.resize(MAX_ENTRIES, last);
+    numbered(entries)
+}
+
+/// The entries with numbers from 1 on.
+fn numbered(mut entries: Vec<Entry>) -> Vec<Entry> {
+    for (number, entry) in (1..).zip(&mut entries) {
+        entry.number = number;
+    }
+    entries
+}
+
+/// Numbers with many divisors; the periods of the urgent entries divide one.
+const WHOLES: [u64; 10] = [8, 12, 32, 60, 62, 64, 126, 420, 512, 5_040];
+
+/// A few entries with a load just below, at or just above 1, and one or two
+/// with long deadlines behind them, some of these at the very completion time.
+/// All numbers may be multiplied, which leaves the rounds as they are.
+pub fn near_one(rng: &mut Rng) -> Vec<Entry> {
+    let whole = rng.pick(&WHOLES);
+    let excess = rng.pick(&[-3, -2, -1, -1, -1, -1, 0, 1]);
+    let mut entries = urgent(rng, whole, excess);
+    for _ in 0..rng.range(1, 2) {
+        entries.push(long(rng, whole));
+    }
+    if rng.chance(2, 3) {
+        tighten_last(rng, &mut entries);
+    }
+    let longest = entries.iter().map(|e| e.t.max(e.b)).max().unwrap_or(1);
+    let factor = rng.pick(&[1, 1, 2, 3, MAX_TICKS / longest]);
+    numbered(entries.iter().map(|e| times(e, factor)).collect())
+}
+
+/// One to four entries with a load of 1 + `excess`/`whole`, where they can.
+fn urgent(rng: &mut Rng, whole: u64, excess: i64) -> Vec<Entry> {
+    let periods: Vec<u64> = (2..=whole).filter(|t| whole % t == 0).collect();
+    let mut left = whole.saturating_add_signed(excess);
+    let mut entries = Vec::new();
+    for _ in 0..rng.below(4) {
+        let t = rng.pick(&periods);
+        let share = whole / t;
+        if share < left {
+            let c = rng.range(1, ((left - 1) / share).min(t).min(3));
+            left -= c * share;
+            entries.push(with_deadline(rng, c, t));
+        }
+    }
+    entries.push(with_deadline(rng, left.min(whole), whole));
+    if rng.chance(3, 4) {
+        entries.sort_by_key(|entry| entry.d);
+    }
+    entries
+}
+
+/// Mostly with a deadline at the period.
+fn with_deadline(rng: &mut Rng, c: u64, t: u64) -> Entry {
+    let d = rng.pick(&[t, t, t, t.max(c + 1) - 1]);
+    let r = rng.pick(&[0, 0, 0, 0, 1, MAX_R]);
+    Entry { d, ..task(c, t) }.calling(r)
+}
+
+/// An entry with a long deadline, which may be before its period.
+fn long(rng: &mut Rng, whole: u64) -> Entry {
+    let t = whole * rng.range(2, 8) + rng.below(whole);
+    let d = rng.pick(&[t, t, t / 2, t - 1]);
+    let c = rng.range(1, 3);
+    let b = rng.pick(&[0, 0, 0, 1, 2, whole]);
+    let r = rng.pick(&[0, 0, 0, 1, 2, MAX_R]);
+    Entry { d, ..task(c, t) }.calling(r).blocked(b)
+}
+
+/// Puts the last deadline at the completion time in a group of its own, a
+/// tick before it, or a tick behind it.
+fn tighten_last(rng: &mut Rng, entries: &mut [Entry]) {
+    let last = entries.len() - 1;
+    let kept = entries[last];
+    entries[last].t = 100_000;
+    entries[last].d = 100_000;
+    let Timing::OnTime { time, .. } = completion_in_group(entries, last, last, last) else {
+        entries[last] = kept;
+        return;
+    };
+    entries[last].d = (time + rng.pick(&[0, 0, 1]))
+        .saturating_sub(rng.below(2))
+        .max(kept.c);
+    entries[last].t = entries[last].d + rng.pick(&[0, 1, 500]);
+}
+
+fn times(e: &Entry, factor: u64) -> Entry {
+    Entry {
+        c: e.c * factor,
+        t: e.t * factor,
+        d: e.d * factor,
+        b: e.b * factor,
+        ..*e
+    }
+}

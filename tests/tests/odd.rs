@@ -1,0 +1,181 @@
+//! Odd plans: nodes whose load is close to 1, so that a search which follows
+//! every round may take hours.
+
+use oracle::cases;
+use oracle::compare;
+use oracle::gen::odd::{many_rounds, near_one, FAMILIES};
+use oracle::map::by_groups;
+use oracle::model::Entry;
+use oracle::options::{rng, times};
+use oracle::tally::Tally;
+use oracle::timing::{completion, completion_in_group, Timing};
+use std::io::Write;
+
+/// Whether the entry at `i` surely is late in the group from `start` to the
+/// last entry, in whole numbers and without a round.
+///
+/// Its demand at a time t up to its D is at least K + U t. K has the runs of
+/// the group, its own blocking, and one run of each entry before the group
+/// with a period of D or more; U is the load of the other entries before it.
+/// If the demand is at most t, then K is at most (1 - U) t, so at most
+/// (1 - U) D where U is below 1, and impossible elsewhere.
+fn surely_late(entries: &[Entry], start: usize, i: usize) -> bool {
+    let own = &entries[i];
+    let (short, long): (Vec<&Entry>, Vec<&Entry>) =
+        entries[..start].iter().partition(|e| e.t < own.d);
+    let runs = |some: &[&Entry]| some.iter().map(|e| i128::from(e.c)).sum::<i128>();
+    let group: Vec<&Entry> = entries[start..].iter().collect();
+    let k = i128::from(own.b) + runs(&group) + runs(&long);
+    let whole = short.iter().fold(1, |whole, e| least_multiple(whole, e.t));
+    let load: i128 = short
+        .iter()
+        .map(|e| i128::from(e.c) * (whole / i128::from(e.t)))
+        .sum();
+    k * whole > (whole - load) * i128::from(own.d)
+}
+
+fn least_multiple(whole: i128, t: u64) -> i128 {
+    let (mut a, mut b) = (whole, i128::from(t));
+    while b != 0 {
+        (a, b) = (b, a % b);
+    }
+    whole / a * i128::from(t)
+}
+
+/// Wherever the last group of a map starts, an entry of it is late.
+#[test]
+fn the_families_have_no_map() {
+    for (name, entries) in FAMILIES {
+        let entries = entries();
+        for start in 0..entries.len() {
+            let late = (start..entries.len()).any(|i| surely_late(&entries, start, i));
+            assert!(late, "{name}: {start}");
+        }
+    }
+}
+
+/// How many entries are surely late in some last group; the second
+/// implementation finds them late too.
+fn late_by_load(entries: &[Entry]) -> u64 {
+    let last = entries.len() - 1;
+    let mut sure = 0;
+    for start in 0..=last {
+        for i in start..=last {
+            if surely_late(entries, start, i) {
+                let timing = completion_in_group(entries, start, last, i);
+                assert!(!timing.is_on_time(), "{start}, {i}: {entries:?}");
+                sure += 1;
+            }
+        }
+    }
+    sure
+}
+
+/// Loads just below, at and just above 1: every call against the second
+/// implementation, which follows every round.
+#[test]
+fn loads_near_one() {
+    let (mut rng, mut tally) = (rng(260), Tally::default());
+    let (mut maps, mut none, mut sure) = (0, 0, 0);
+    for _ in 0..times(8_000) {
+        let entries = near_one(&mut rng);
+        sure += late_by_load(&entries);
+        let file = cases::file(cases::node(rng.pick(&[2, 3, 64]), &entries));
+        let before = tally.accepted();
+        compare::map(&mut tally, &file, 7, entries.len());
+        let mapped = tally.accepted() > before;
+        maps += u64::from(mapped);
+        none += u64::from(!mapped);
+        compare::list(&mut tally, &file);
+    }
+    // Written past the harness, which keeps what passing tests print.
+    writeln!(
+        std::io::stdout(),
+        "\n{} nodes with a load near 1: {maps} with a map, {none} without; {sure} entries late by load",
+        maps + none
+    )
+    .expect("output is open");
+    assert!(maps > times(500) && none > times(500) && sure > times(1_000));
+}
+
+/// Entries that end in time after millions of rounds, each counted.
+#[test]
+fn millions_of_rounds() {
+    let entries = many_rounds(8);
+    let map = by_groups(&entries, 64).expect("the node has a map");
+    let mut due = format!("plan 1\nnode 7 levels {} of 64\n", map.used);
+    for (i, entry) in entries.iter().enumerate() {
+        let Timing::OnTime { time, rounds } = completion(&entries, &map.levels, i) else {
+            panic!("no entry of a passing map is late");
+        };
+        let (number, level) = (entry.number, map.levels[i]);
+        due += &format!("entry {number} level {level} time {time} rounds {rounds}\n");
+    }
+    assert!(due.ends_with("time 9790326 rounds 3057940\n"), "{due}");
+    let mut text = vec![0; due.len()];
+    let file = cases::file(cases::node(64, &entries));
+    assert_eq!(oracle::ffi::list(&file, &mut text), Ok(due.len()));
+    assert_eq!(String::from_utf8_lossy(&text), due);
+}
+
+/// The proved program and library on full plans, with a limit of time. The
+/// second implementation follows every round and cannot be asked.
+#[cfg(list_plan)]
+mod full {
+    use super::*;
+    use oracle::ffi;
+    use oracle::file::encode;
+    use oracle::gen::buffers::known;
+    use oracle::gen::odd::full_plan;
+    use oracle::programs::{root, run_within};
+    use oracle::refusal::{Refusal, NO_MAP};
+    use std::process::Command;
+    use std::time::Duration;
+
+    /// Most seconds of a listing; it takes milliseconds.
+    const LIMIT: Duration = Duration::from_secs(10);
+
+    fn assert_listed(family: usize) {
+        let (name, entries) = FAMILIES[family];
+        let plan = full_plan(&entries());
+        let file = encode(&plan).unwrap();
+        let mut program = Command::new(root().join("target/bin/list_plan"));
+        let (text, ended) = run_within(&mut program, &file, LIMIT);
+        assert_eq!(ended, Some(true), "{name}: ended in {LIMIT:?}");
+        let lines: String = plan
+            .nodes
+            .iter()
+            .map(|node| format!("node {} no map\n", node.number))
+            .collect();
+        assert_eq!(String::from_utf8_lossy(&text), format!("plan 32\n{lines}"));
+        let mut levels = known(64);
+        let answer = ffi::map(&file, plan.nodes[31].number, &mut levels);
+        assert_eq!(answer, Err(Refusal::plain(NO_MAP)));
+        assert_eq!(levels, known(64));
+    }
+
+    #[test]
+    fn load_1_by_one_entry() {
+        assert_listed(0);
+    }
+
+    #[test]
+    fn load_1_by_three_entries() {
+        assert_listed(1);
+    }
+
+    #[test]
+    fn powers_of_2() {
+        assert_listed(2);
+    }
+
+    #[test]
+    fn a_long_run_before_powers_of_2() {
+        assert_listed(3);
+    }
+
+    #[test]
+    fn load_1_by_62_entries() {
+        assert_listed(4);
+    }
+}
