@@ -61,6 +61,6 @@ module _ (ws : List ℕ) (n : ℕ) (all : AllHold (entriesOf ws n)) (first last 
         sym p,
       ) h)
 
-  -- the start has a run of each more urgent entry
-  pub runs-first : (s : ℕ) → s ≡ start (entriesOf ws n) (groupLevel first last) i → sumTo (wcetOf ws) first ≤ s
-  runs-first s p = omega (arith, words-start ws n first last i hf hi hl, sumTo-up (wcetOf ws) first (last + 1) (omega arith))
+  -- the start has a run of each entry up to the last of the group
+  pub runs-begin : (s m : ℕ) → s ≡ start (entriesOf ws n) (groupLevel first last) i → m ≤ last + 1 → sumTo (wcetOf ws) m ≤ s
+  runs-begin s m p h = omega (arith, words-start ws n first last i hf hi hl, sumTo-up (wcetOf ws) m (last + 1) h)

@@ -7,7 +7,7 @@ use Rattle.task_model.specs.declared.Entry.{Entry}
 use Rattle.task_model.specs.Words.{entryOf}
 use Rattle.task_model.proofs.Laws.{all-at, all-fewer}
 use Rattle.completion.specs.Test.{completion, isOnTime}
-use Rattle.completion.proofs.Early.{late-start, on-time-due, late-load, runs-first}
+use Rattle.completion.proofs.Early.{late-start, on-time-due, late-load, runs-begin}
 use Rattle.completion.proofs.ending.ends_on_time.Statement.{statement}
 use Rattle.completion.proofs.ending.ends_on_time.Tie as tie
 
@@ -39,7 +39,7 @@ returns c =
 demand-at-requires : tie.Need-demand-at-requires
 demand-at-requires c κs =
     let p = c .before .before .before .pre in
-    (p .0, (p .1, few (c .before .before)))
+    (p .0, ((omega arith, omega arith, omega arith, omega arith), few (c .before .before)))
 
 cast-if2 : tie.Need-cast-if2
 cast-if2 c = search needs
@@ -57,8 +57,8 @@ overloaded-requires c κs =
       (
         omega arith,
         (
-          runs-first _ _ (p .0) _ _ _ (omega arith) (omega arith) (omega arith) _ (own (c .before .before .before .before)) _
-              (c .before .before .before .start-at .ensures),
+          runs-begin _ _ (p .0) _ _ _ (omega arith) (omega arith) (omega arith) _ (own (c .before .before .before .before)) _ _
+              (c .before .before .before .start-at .ensures) (omega arith),
           omega (arith, c .before .before .if1 .left),
           few (c .before .before .before .before) .1,
         ),
