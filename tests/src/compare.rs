@@ -4,6 +4,8 @@
 //! Each buffer is lent with known contents, so that a byte written beyond the
 //! result, or by a refused call, is a difference.
 
+pub mod session;
+
 use crate::ffi;
 use crate::file;
 use crate::gen::budget;

@@ -1,26 +1,41 @@
-//! Plan files that are kept: the samples, and what a fuzz run has found.
+//! Plan files and rows of session operations that are kept: the samples, and
+//! what a fuzz run has found.
 
 use crate::programs::root;
+use crate::rows::Row;
 use std::fs;
 use std::path::PathBuf;
 
-/// Where a fuzz run puts a file on which the implementations differ.
+/// Where a fuzz run puts a file or a row on which the implementations differ.
 pub fn found() -> PathBuf {
     root().join("tests/corpus")
 }
 
 /// Every kept file, sorted by name.
 pub fn kept() -> Vec<Vec<u8>> {
+    ending("plan")
+        .into_iter()
+        .map(|path| fs::read(path).expect("the file can be read"))
+        .collect()
+}
+
+/// Every kept row, sorted by name.
+pub fn kept_rows() -> Vec<Row> {
+    ending("session")
+        .into_iter()
+        .map(|path| Row::from_text(&fs::read_to_string(path).expect("the file can be read")))
+        .collect()
+}
+
+/// The kept files whose names end so.
+fn ending(end: &str) -> Vec<PathBuf> {
     let mut names: Vec<PathBuf> = [root().join("samples"), found()]
         .into_iter()
         .filter_map(|folder| fs::read_dir(folder).ok())
         .flatten()
         .map(|entry| entry.expect("the folder can be read").path())
-        .filter(|path| path.extension().is_some_and(|end| end == "plan"))
+        .filter(|path| path.extension().is_some_and(|found| found == end))
         .collect();
     names.sort();
     names
-        .into_iter()
-        .map(|path| fs::read(path).expect("the file can be read"))
-        .collect()
 }

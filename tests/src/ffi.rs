@@ -3,6 +3,8 @@
 //! Each function here is one of include/maiplur.h; a refusal comes back as
 //! the second implementation gives it.
 
+pub mod session;
+
 use crate::refusal::{Refusal, NUMBERS};
 
 /// What stands in the values before a call, which each call overwrites.

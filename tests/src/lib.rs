@@ -5,7 +5,8 @@
 //! Every capability is a function over numbers and byte slices.
 //!
 //! - [`mod@file`], [`map`], [`listing`] and [`session`] answer as the paper says;
-//!   [`timing`] and [`assignments`] are what their answers are made of.
+//!   [`timing`] and [`assignments`] are what their answers are made of, and
+//!   [`lent`] has a session in memory.
 //! - [`cases`] has the paper's own nodes, [`gen`] generated ones, with
 //!   [`options`] for the seed and the size of a run.
 //! - [`ffi`] calls the proved library, with [`words`] as it takes plans, and
@@ -23,6 +24,7 @@ pub mod corpus;
 pub mod ffi;
 pub mod file;
 pub mod gen;
+pub mod lent;
 pub mod limits;
 pub mod listing;
 pub mod map;
@@ -33,6 +35,7 @@ pub mod plain;
 pub mod programs;
 pub mod refusal;
 pub mod rng;
+pub mod rows;
 pub mod session;
 pub mod tally;
 pub mod timing;

@@ -4,6 +4,8 @@
 //! Written for speed as one would write it by hand, with structs and slices;
 //! nothing here is compared but its time, and that its answers agree.
 
+pub mod session;
+
 use std::io::Write;
 
 /// Most entries of a node.

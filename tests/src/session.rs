@@ -3,7 +3,7 @@
 use crate::limits::{check_entry, check_levels};
 use crate::map::map_into;
 use crate::model::{Entry, MAX_ENTRIES};
-use crate::refusal::{Refusal, FULL, POSITION};
+use crate::refusal::{Refusal, FULL, POSITION, ROW};
 use crate::timing::{completion_in_group, Timing};
 
 /// The open session.
@@ -13,9 +13,11 @@ pub struct Session {
     entries: Vec<Entry>,
 }
 
-/// One operation on an open session.
+/// One operation on a session.
 #[derive(Clone, Copy, Debug, PartialEq, Eq)]
 pub enum Op {
+    /// Open anew with a level count, whatever the session holds.
+    Open(usize),
     /// Insert the entry before the position.
     Insert(usize, Entry),
     /// Remove the entry at the position.
@@ -49,6 +51,20 @@ impl Session {
             levels: levels as u8,
             entries: Vec::new(),
         })
+    }
+
+    /// A session that holds a node, which is checked as that of a file is: 4,
+    /// then 7 and 8 entry by entry.
+    pub fn holding(levels: usize, entries: &[Entry]) -> Result<Session, Refusal> {
+        let mut session = Session::open(levels)?;
+        if entries.len() > MAX_ENTRIES {
+            return Err(Refusal::at_row(ROW, 0));
+        }
+        for (position, entry) in entries.iter().enumerate() {
+            check_entry(entry, 0, position)?;
+        }
+        session.entries = entries.to_vec();
+        Ok(session)
     }
 
     /// The level count.
@@ -113,6 +129,7 @@ impl Session {
     /// Any operation; only `Op::Map` looks at the buffer.
     pub fn apply(&mut self, op: &Op, buffer: &mut [u8]) -> Result<Reply, Refusal> {
         match *op {
+            Op::Open(levels) => *self = Session::open(levels)?,
             Op::Insert(position, entry) => self.insert(position, entry)?,
             Op::Remove(position) => self.remove(position)?,
             Op::Replace(position, entry) => self.replace(position, entry)?,

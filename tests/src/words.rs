@@ -23,6 +23,21 @@ pub fn entry_words(entry: &Entry) -> [u32; ENTRY_WORDS] {
     ]
 }
 
+/// The entry that five words hold.
+pub fn entry_of(words: &[u32; ENTRY_WORDS]) -> Entry {
+    let [head, c, t, d, b] = *words;
+    let [low, high, kind, r] = head.to_le_bytes();
+    Entry {
+        number: u16::from_le_bytes([low, high]),
+        kind,
+        r,
+        c: u64::from(c),
+        t: u64::from(t),
+        d: u64::from(d),
+        b: u64::from(b),
+    }
+}
+
 /// A word for each row.
 pub fn of_rows(rows: &[Row]) -> Vec<u32> {
     rows.iter().map(row_word).collect()

@@ -8,6 +8,8 @@ use oracle::map::map_entries;
 use oracle::model::Plan;
 use oracle::options::rng;
 use oracle::programs::{root, run};
+use oracle::session::Session;
+use oracle::timing::Timing;
 use std::path::{Path, PathBuf};
 use std::process::Command;
 use std::time::Duration;
@@ -37,16 +39,48 @@ fn files() -> Vec<Vec<u8>> {
     ]
 }
 
-#[test]
-fn c() {
-    let program = built("list_c");
+/// The program of an example in C.
+fn compiled_c(source: &str, name: &str) -> PathBuf {
+    let program = built(name);
     compile(
         Command::new("cc")
             .args(["-std=c11", "-Wall", "-Wextra", "-Wpedantic", "-Werror"])
-            .args(["-Iinclude", "examples/list.c"])
+            .args(["-Iinclude", source])
             .args(["target/staticlib/libplanner_c.a", "-o"])
             .arg(&program),
     );
+    program
+}
+
+/// Case P, then case R.
+#[test]
+fn c_session() {
+    let program = compiled_c("examples/session.c", "session_c");
+    let (text, ended) = run(&program, &[], Duration::ZERO);
+    assert!(ended);
+    let mut due = String::new();
+    for node in [cases::p(), cases::r()] {
+        let mut levels = vec![0; 3];
+        let session = Session::holding(2, &node.entries).unwrap();
+        due += &match session.map(&mut levels) {
+            Ok(used) => {
+                let levels: Vec<String> = levels.iter().map(u8::to_string).collect();
+                format!("map: {used} levels, {}\n", levels.join(" "))
+            }
+            Err(refusal) => format!("map: refused {}\n", refusal.number),
+        };
+        due += &match session.time(1, 2, 2).unwrap() {
+            Timing::OnTime { time, rounds } => format!("time: {time}, rounds {rounds}\n"),
+            Timing::Late { rounds } => format!("time: late, rounds {rounds}\n"),
+        };
+    }
+    due += "remove: refused 12\n";
+    assert_eq!(String::from_utf8_lossy(&text), due);
+}
+
+#[test]
+fn c() {
+    let program = compiled_c("examples/list.c", "list_c");
     for file in files() {
         let (text, ended) = run(&program, &[&file], Duration::ZERO);
         let plan = oracle::file::decode(&file);

@@ -1,5 +1,5 @@
-//! The proved library on the files that are kept: the samples, and what a
-//! fuzz run has found.
+//! The proved library on the files and the rows of session operations that
+//! are kept: the samples, and what a fuzz run has found.
 
 use oracle::compare;
 use oracle::corpus;
@@ -13,4 +13,17 @@ fn every_kept_file() {
         compare::file(&mut tally, file);
     }
     assert!(files.len() >= 8, "the samples are there");
+}
+
+#[test]
+fn every_kept_row() {
+    let mut tally = Tally::default();
+    let rows = corpus::kept_rows();
+    for row in &rows {
+        compare::session::row(&mut tally, row);
+    }
+    assert!(
+        tally.met(12) > 0 && tally.met(11) > 0,
+        "case P's row is there"
+    );
 }

@@ -1,7 +1,7 @@
-//! The examples of the table, by name, from the proved library; 12 and 13 are
-//! the session's.
+//! The examples of the table, by name, from the proved library.
 
 use oracle::cases;
+use oracle::ffi::session::Session;
 use oracle::ffi::{check, list, map, write};
 use oracle::file::encode;
 use oracle::model::{Entry, Plan};
@@ -93,6 +93,30 @@ fn example_11_case_f() {
     let answer = map(&cases::file(cases::f()), 7, &mut buffer);
     assert_eq!(answer, Err(PLAIN(11)));
     assert_eq!(buffer, [0xAA; 3]);
+}
+
+#[test]
+fn example_12_remove_0_when_empty() {
+    let mut session = Session::of(&[0; 322]);
+    session.open(3).unwrap();
+    let empty = session.clone();
+    assert_eq!(session.remove(0), Err(PLAIN(12)));
+    assert_eq!(session, empty);
+}
+
+#[test]
+fn example_13_65th_insert() {
+    let mut session = Session::of(&[0; 322]);
+    session.open(3).unwrap();
+    let entry = words::entry_words(&Entry::task(1, 1, 900, 900));
+    for position in 0..64 {
+        assert_eq!(session.insert(position, &entry), Ok(()));
+    }
+    let full = session.clone();
+    assert_eq!(session.insert(64, &entry), Err(PLAIN(13)));
+    assert_eq!(session.insert(0, &entry), Err(PLAIN(13)));
+    assert_eq!(session, full);
+    assert_eq!((full.levels, full.count), (3, 64));
 }
 
 #[test]

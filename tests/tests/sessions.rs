@@ -16,6 +16,7 @@ use oracle::timing::Timing;
 /// The contents that an accepted change leaves, by cutting and joining.
 fn changed(entries: &[Entry], op: &Op) -> Vec<Entry> {
     match *op {
+        Op::Open(_) => Vec::new(),
         Op::Insert(at, entry) => [&entries[..at], &[entry], &entries[at..]].concat(),
         Op::Remove(at) => [&entries[..at], &entries[at + 1..]].concat(),
         Op::Replace(at, entry) => [&entries[..at], &[entry], &entries[at + 1..]].concat(),
@@ -47,7 +48,7 @@ fn step(rng: &mut Rng, session: &mut Session, course: Course, tally: &mut Tally)
     };
     assert_eq!(session.entries(), changed(before.entries(), &op));
     match (op, reply) {
-        (Op::SetLevels(levels), Reply::Changed) => {
+        (Op::Open(levels) | Op::SetLevels(levels), Reply::Changed) => {
             assert_eq!(usize::from(session.levels()), levels);
             assert_eq!(buffer, lent);
         }

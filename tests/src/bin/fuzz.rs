@@ -1,13 +1,15 @@
 //! A random run against the second implementation, for a given time.
 //!
 //! `MAIPLUR_SECONDS` says for how long, `MAIPLUR_SEED` from which numbers.
-//! Files that get an answer of a new kind are changed further. A file on which
-//! the implementations differ goes to tests/corpus, where the tests take it up.
+//! Files that get an answer of a new kind are changed further. Rows of session
+//! operations come in between. A file or a row on which the implementations
+//! differ goes to tests/corpus, where the tests take it up.
 
 use oracle::compare;
 use oracle::corpus;
 use oracle::file::{check, decode, encode};
 use oracle::gen::budget;
+use oracle::gen::ops::row;
 use oracle::gen::plans;
 use oracle::listing::list;
 use oracle::mutate::mutate;
@@ -26,12 +28,17 @@ fn main() {
     let until = Instant::now() + Duration::from_secs(options::setting("MAIPLUR_SECONDS", 10));
     let mut pool = first_pool(&mut rng);
     let (mut kinds, mut tally, mut files) = (HashSet::new(), Tally::default(), 0_u64);
+    let (mut sessions, mut rows) = (Tally::default(), 0_u64);
     while Instant::now() < until {
+        if rng.chance(1, 10) {
+            compare_row(&mut rng, &mut sessions);
+            rows += 1;
+        }
         let (one, other) = (rng.index(pool.len()), rng.index(pool.len()));
         let file = mutate(&mut rng, &pool[one], &pool[other]);
         let compared = panic::AssertUnwindSafe(|| compare::file(&mut tally, &file));
         if panic::catch_unwind(compared).is_err() {
-            report(&file);
+            report("plan", &file);
         }
         files += 1;
         if kinds.insert(kind(&file)) {
@@ -39,6 +46,15 @@ fn main() {
         }
     }
     println!("{files} files, {} kinds of answers: {tally}", kinds.len());
+    println!("{rows} rows of session operations: {sessions}");
+}
+
+fn compare_row(rng: &mut Rng, tally: &mut Tally) {
+    let row = row(rng);
+    let compared = panic::AssertUnwindSafe(|| compare::session::row(tally, &row));
+    if panic::catch_unwind(compared).is_err() {
+        report("session", row.to_text().as_bytes());
+    }
 }
 
 /// The kept files, and a few of some generators.
@@ -78,11 +94,11 @@ fn kind(file: &[u8]) -> String {
     used.collect::<Vec<&str>>().join(" ")
 }
 
-fn report(file: &[u8]) -> ! {
+fn report(end: &str, file: &[u8]) -> ! {
     let sum = file.iter().fold(0_u64, |sum, &byte| {
         sum.wrapping_mul(0x100_0000_01B3) ^ u64::from(byte)
     });
-    let path = corpus::found().join(format!("{sum:016x}.plan"));
+    let path = corpus::found().join(format!("{sum:016x}.{end}"));
     fs::create_dir_all(corpus::found()).expect("tests/ can be written");
     fs::write(&path, file).expect("tests/corpus can be written");
     eprintln!("a difference: {}", path.display());

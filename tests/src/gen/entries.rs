@@ -57,6 +57,20 @@ pub fn many(rng: &mut Rng, count: usize) -> Vec<Entry> {
     loaded(rng, count, 10_000, &PERIODS[..7])
 }
 
+/// Periods from 1,000 to 1,000,000 in no usual steps, load about 0.6.
+pub fn mixed(rng: &mut Rng, count: usize) -> Vec<Entry> {
+    let mut entries: Vec<Entry> = (1..=count as u16)
+        .map(|number| {
+            let t = rng.pick(&[1, 10, 100]) * rng.range(1_000, 10_000);
+            let c = (t * 6 / 10 / count as u64).max(1);
+            let r = rng.pick(&[0, 0, 0, 1, 2, 3, MAX_R]);
+            kinded(rng, Entry::task(number, c, t, t).calling(r))
+        })
+        .collect();
+    entries.sort_by_key(|entry| entry.d);
+    entries
+}
+
 /// Many entries that cost next to nothing to test, in half of the draws
 /// listed by deadline.
 pub fn light(rng: &mut Rng, count: usize) -> Vec<Entry> {

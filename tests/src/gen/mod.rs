@@ -5,6 +5,7 @@ pub mod buffers;
 pub mod damage;
 pub mod entries;
 pub mod faults;
+pub mod lent;
 pub mod odd;
 pub mod ops;
 pub mod parts;

@@ -2,8 +2,11 @@
 
 use super::entries;
 use super::faults::{break_kind, break_ticks};
+use super::lent::{damaged, sound};
+use crate::lent::{apply, session_in};
 use crate::model::{Entry, MAX_LEVELS};
 use crate::rng::Rng;
+use crate::rows::Row;
 use crate::session::{Op, Session};
 
 /// How a row of operations goes.
@@ -23,15 +26,39 @@ pub fn next_op(rng: &mut Rng, session: &Session, course: Course) -> Op {
     // Mapping a long list takes long.
     let maps = if len <= 12 || rng.chance(1, 40) { 4 } else { 0 };
     let removes = if course == Course::Growing { 1 } else { 3 };
-    let weights = [inserts, removes, 3, 1, 4, maps];
+    let opens = u64::from(course == Course::Short && rng.chance(1, 3));
+    let weights = [inserts, removes, 3, 1, 4, maps, opens];
     match weighted(rng, &weights) {
         0 => Op::Insert(position(rng, len + 1), entry(rng, course)),
         1 => Op::Remove(position(rng, len)),
         2 => Op::Replace(position(rng, len), entry(rng, course)),
         3 => Op::SetLevels(levels(rng)),
         4 => group(rng, len),
-        _ => Op::Map,
+        5 => Op::Map,
+        _ => Op::Open(levels(rng)),
     }
+}
+
+/// A row of operations on a blank, short, full or damaged session.
+pub fn row(rng: &mut Rng) -> Row {
+    let (start, course) = match rng.below(4) {
+        0 => ([0; 322], Course::Short),
+        1 => (sound(rng, 4), Course::Short),
+        2 => (sound(rng, 63), Course::Growing),
+        _ => (damaged(rng), Course::Short),
+    };
+    let mut ops = vec![Op::Open(levels(rng))];
+    if start[0] > 0 {
+        ops.clear();
+    }
+    let mut words = start;
+    for _ in 0..rng.range(1, 20) {
+        let held = session_in(&words).or_else(|_| Session::open(1));
+        let op = next_op(rng, &held.expect("1 is a level count"), course);
+        let _ = apply(&mut words, &op, &mut []);
+        ops.push(op);
+    }
+    Row { start, ops }
 }
 
 /// A level count, now and then outside the limits.
@@ -49,8 +76,8 @@ fn position(rng: &mut Rng, end: usize) -> usize {
     }
 }
 
-/// First, last and entry; now and then in a wrong order.
-fn group(rng: &mut Rng, len: usize) -> Op {
+/// Timing with first, last and entry, now and then in a wrong order.
+pub fn group(rng: &mut Rng, len: usize) -> Op {
     let mut places = [position(rng, len), position(rng, len), position(rng, len)];
     if !rng.chance(1, 5) {
         places.sort();
@@ -65,8 +92,8 @@ fn entry(rng: &mut Rng, course: Course) -> Entry {
     };
     match rng.below(16) {
         0 => break_kind(rng, &mut entry),
-        1 => break_ticks(rng, &mut entry),
-        2 => {
+        1 | 2 => break_ticks(rng, &mut entry),
+        3 => {
             break_kind(rng, &mut entry);
             break_ticks(rng, &mut entry);
         }

@@ -3,6 +3,7 @@
 
 mod measure;
 mod odd;
+mod sessions;
 
 use measure::{line, measure};
 use oracle::ffi;
@@ -142,6 +143,7 @@ fn main() {
     println!("| Work | proved, µs | plain, µs | ratio |");
     println!("|---|---|---|---|");
     usual();
+    sessions::table();
     odd::rounds(8);
     odd::families();
 }

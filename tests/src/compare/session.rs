@@ -1,0 +1,130 @@
+//! One session in both implementations, held against each other after each
+//! operation: the answer, all 322 words, and every lent buffer.
+
+use super::rooms;
+use crate::ffi;
+use crate::file::encode;
+use crate::gen::buffers::known;
+use crate::lent::{self, Words};
+use crate::map::EXHAUSTIVE_ENTRIES;
+use crate::model::{Node, Plan};
+use crate::refusal::Refusal;
+use crate::rng::Rng;
+use crate::rows::Row;
+use crate::session::{Op, Reply, Session};
+use crate::tally::Tally;
+use crate::words::entry_words;
+
+/// The same session in the proved library and in the second implementation.
+#[derive(Clone, Debug)]
+pub struct Both {
+    proved: ffi::session::Session,
+    due: Words,
+}
+
+impl Both {
+    /// Both sessions in this memory.
+    pub fn of(words: &Words) -> Both {
+        Both {
+            proved: ffi::session::Session::of(words),
+            due: *words,
+        }
+    }
+
+    /// The words, which are the same in both.
+    pub fn words(&self) -> &Words {
+        &self.due
+    }
+
+    /// The session that the words hold, or why they hold none.
+    pub fn session(&self) -> Result<Session, Refusal> {
+        lent::session_in(&self.due)
+    }
+
+    /// One operation, with so many bytes lent to a map.
+    pub fn step(&mut self, tally: &mut Tally, op: &Op, room: usize) -> Result<Reply, Refusal> {
+        let op = &callable(op);
+        let (before, mut due_buffer, mut buffer) = (self.due, known(room), known(room));
+        let due = tally.note(lent::apply(&mut self.due, op, &mut due_buffer));
+        let answer = proved(&mut self.proved, op, &mut buffer);
+        let lent = || format!("{op:?}, {room} bytes, on {before:?}");
+        assert_eq!(answer, due, "{}", lent());
+        assert_eq!(self.proved.memory(), self.due, "{}", lent());
+        assert_eq!(buffer, due_buffer, "{}", lent());
+        due
+    }
+
+    /// Maps into buffers that are too short, and into an exact one, a longer
+    /// one, or both. The map of a session is that of the same node in a file.
+    pub fn map(&mut self, tally: &mut Tally, rng: &mut Rng) {
+        let session = self.session();
+        let count = session.as_ref().map_or(3, |held| held.entries().len());
+        let mut rooms = rooms(count).to_vec();
+        if count > EXHAUSTIVE_ENTRIES {
+            // The second implementation takes long for a long list.
+            rooms.remove(rng.pick(&[2, 3]));
+        }
+        for room in rooms {
+            let answer = self.step(tally, &Op::Map, room);
+            if let Ok(session) = &session {
+                let (mut mine, mut from_file) = (known(room), known(room));
+                let used = ffi::map(&file_of(session), 7, &mut from_file);
+                assert_eq!(used.map(|used| Reply::Mapped(used as u8)), answer);
+                assert_eq!(self.proved.map(&mut mine), used);
+                assert_eq!(mine, from_file, "{:?}", self.due);
+            }
+        }
+    }
+}
+
+/// A row of operations; a short list is mapped after each.
+pub fn row(tally: &mut Tally, row: &Row) {
+    let mut both = Both::of(&row.start);
+    for op in &row.ops {
+        let _ = both.step(tally, op, 64);
+        if both.session().is_ok_and(|held| held.entries().len() <= 8) {
+            both.map(tally, &mut Rng::new(0));
+        }
+    }
+}
+
+/// A level count is a byte to the C functions.
+fn callable(op: &Op) -> Op {
+    match *op {
+        Op::Open(levels) => Op::Open(levels.min(255)),
+        Op::SetLevels(levels) => Op::SetLevels(levels.min(255)),
+        other => other,
+    }
+}
+
+/// The operation by its C function.
+fn proved(
+    session: &mut ffi::session::Session,
+    op: &Op,
+    buffer: &mut [u8],
+) -> Result<Reply, Refusal> {
+    match *op {
+        Op::Open(levels) => session.open(levels as u8)?,
+        Op::SetLevels(levels) => session.set_levels(levels as u8)?,
+        Op::Insert(position, entry) => session.insert(position, &entry_words(&entry))?,
+        Op::Remove(position) => session.remove(position)?,
+        Op::Replace(position, entry) => session.replace(position, &entry_words(&entry))?,
+        Op::Map => {
+            return session
+                .map(buffer)
+                .map(|used| Reply::Mapped(u8::try_from(used).expect("at most 64 levels")))
+        }
+        Op::Time(first, last, i) => return session.time(first, last, i).map(Reply::Timed),
+    }
+    Ok(Reply::Changed)
+}
+
+/// The file of a plan with the session's node, which has number 7.
+fn file_of(session: &Session) -> Vec<u8> {
+    let node = Node {
+        number: 7,
+        levels: session.levels(),
+        entries: session.entries().to_vec(),
+    };
+    encode(&Plan { nodes: vec![node] }).expect("a session holds a good node")
+}

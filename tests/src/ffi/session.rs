@@ -1,0 +1,147 @@
+//! The session's C functions.
+
+use super::{answer, one, UNSET};
+use crate::lent::Words;
+use crate::refusal::Refusal;
+use crate::timing::Timing;
+use crate::words::ENTRY_WORDS;
+
+/// `maiplur_session` of include/maiplur.h.
+#[repr(C)]
+#[derive(Clone, Debug, PartialEq, Eq)]
+pub struct Session {
+    /// Level count.
+    pub levels: u32,
+    /// Entry count.
+    pub count: u32,
+    /// Five words an entry.
+    pub words: [u32; 320],
+}
+
+extern "C" {
+    fn maiplur_session_open(session: *mut Session, levels: u8, values: *mut [usize; 2]) -> u32;
+    fn maiplur_session_set_levels(
+        session: *mut Session,
+        levels: u8,
+        values: *mut [usize; 2],
+    ) -> u32;
+    fn maiplur_session_insert(
+        session: *mut Session,
+        position: usize,
+        entry: *const [u32; ENTRY_WORDS],
+        values: *mut [usize; 2],
+    ) -> u32;
+    fn maiplur_session_remove(
+        session: *mut Session,
+        position: usize,
+        values: *mut [usize; 2],
+    ) -> u32;
+    fn maiplur_session_replace(
+        session: *mut Session,
+        position: usize,
+        entry: *const [u32; ENTRY_WORDS],
+        values: *mut [usize; 2],
+    ) -> u32;
+    fn maiplur_session_time(
+        session: *const Session,
+        first: usize,
+        last: usize,
+        i: usize,
+        values: *mut [usize; 2],
+    ) -> u32;
+    fn maiplur_session_map(
+        session: *const Session,
+        levels: *mut u8,
+        level_count: usize,
+        values: *mut [usize; 2],
+    ) -> u32;
+}
+
+impl Session {
+    /// The session in any memory.
+    pub fn of(words: &Words) -> Session {
+        let [levels, count, words @ ..] = *words;
+        Session {
+            levels,
+            count,
+            words,
+        }
+    }
+
+    /// Its memory, all 322 words.
+    pub fn memory(&self) -> Words {
+        let mut words = [0; 322];
+        words[0] = self.levels;
+        words[1] = self.count;
+        words[2..].copy_from_slice(&self.words);
+        words
+    }
+
+    /// Opens the session, whatever it held.
+    pub fn open(&mut self, levels: u8) -> Result<(), Refusal> {
+        let mut values = [UNSET; 2];
+        // SAFETY: the struct has C's layout, and the pointers come from borrows that live through the call.
+        let number = unsafe { maiplur_session_open(self, levels, &mut values) };
+        nothing(number, values)
+    }
+
+    /// Sets the level count.
+    pub fn set_levels(&mut self, levels: u8) -> Result<(), Refusal> {
+        let mut values = [UNSET; 2];
+        // SAFETY: as above.
+        let number = unsafe { maiplur_session_set_levels(self, levels, &mut values) };
+        nothing(number, values)
+    }
+
+    /// Inserts before a position, or appends.
+    pub fn insert(&mut self, position: usize, entry: &[u32; ENTRY_WORDS]) -> Result<(), Refusal> {
+        let mut values = [UNSET; 2];
+        // SAFETY: as above.
+        let number = unsafe { maiplur_session_insert(self, position, entry, &mut values) };
+        nothing(number, values)
+    }
+
+    /// Removes the entry at a position.
+    pub fn remove(&mut self, position: usize) -> Result<(), Refusal> {
+        let mut values = [UNSET; 2];
+        // SAFETY: as above.
+        let number = unsafe { maiplur_session_remove(self, position, &mut values) };
+        nothing(number, values)
+    }
+
+    /// Replaces the entry at a position.
+    pub fn replace(&mut self, position: usize, entry: &[u32; ENTRY_WORDS]) -> Result<(), Refusal> {
+        let mut values = [UNSET; 2];
+        // SAFETY: as above.
+        let number = unsafe { maiplur_session_replace(self, position, entry, &mut values) };
+        nothing(number, values)
+    }
+
+    /// Times the entry at `i` in the group from `first` to `last`.
+    pub fn time(&self, first: usize, last: usize, i: usize) -> Result<Timing, Refusal> {
+        let mut values = [UNSET; 2];
+        // SAFETY: as above; the session is only read.
+        let number = unsafe { maiplur_session_time(self, first, last, i, &mut values) };
+        let [time, rounds] = answer(number, values)?.map(|value| value as u64);
+        Ok(match time {
+            0 => Timing::Late { rounds },
+            _ => Timing::OnTime { time, rounds },
+        })
+    }
+
+    /// Maps the node, and gives the levels used.
+    pub fn map(&self, levels: &mut [u8]) -> Result<usize, Refusal> {
+        let mut values = [UNSET; 2];
+        // SAFETY: as above; what is written is borrowed mutably, so nothing overlaps.
+        let number =
+            unsafe { maiplur_session_map(self, levels.as_mut_ptr(), levels.len(), &mut values) };
+        one(answer(number, values)?)
+    }
+}
+
+/// A change gives nothing.
+fn nothing(number: u32, values: [usize; 2]) -> Result<(), Refusal> {
+    let given = answer(number, values)?;
+    assert_eq!(given, [0, 0], "a change gives nothing");
+    Ok(())
+}

@@ -1,0 +1,56 @@
+//! Memory that is lent as a session: full ones, and ones that no operation
+//! has made.
+
+use super::entries;
+use super::faults::{break_kind, break_ticks};
+use crate::lent::{words_of, Words};
+use crate::model::Entry;
+use crate::rng::Rng;
+use crate::session::Session;
+use crate::words::{entry_of, entry_words};
+
+/// A sound session of so many entries.
+pub fn sound(rng: &mut Rng, count: usize) -> Words {
+    let entries: Vec<Entry> = match count {
+        0..=8 => entries::tiny(rng, count),
+        _ => entries::light(rng, count),
+    };
+    let levels = rng.count(1, 64);
+    words_of(&Session::holding(levels, &entries).expect("the generators give good entries"))
+}
+
+/// Memory with one or two faults, which may still hold a session.
+pub fn damaged(rng: &mut Rng) -> Words {
+    if rng.chance(1, 20) {
+        return [(); 322].map(|_| rng.word() as u32);
+    }
+    let count = rng.count(0, 6);
+    let mut words = sound(rng, count);
+    for _ in 0..rng.range(1, 2) {
+        damage(rng, &mut words, count);
+    }
+    words
+}
+
+fn damage(rng: &mut Rng, words: &mut Words, count: usize) {
+    match rng.below(6) {
+        0 => words[0] = rng.pick(&[0, 65, 255, 256, 257, 1 << 16 | 3, u32::MAX]),
+        1 => words[1] = rng.pick(&[65, 66, 255, 256, 257, 1 << 16 | 1, u32::MAX]),
+        // One entry less leaves words beyond, one more has kind 0.
+        2 => words[1] = rng.pick(&[count.saturating_sub(1), count + 1, 64]) as u32,
+        3 => words[rng.count(2, 321)] = rng.word() as u32,
+        4 if count > 0 => break_entry(rng, words, count),
+        _ => words[rng.count(2 + 5 * count, 321)] = rng.word() as u32,
+    }
+}
+
+fn break_entry(rng: &mut Rng, words: &mut Words, count: usize) {
+    let at = rng.index(count);
+    let slot = &mut words[2..].as_chunks_mut().0[at];
+    let mut entry = entry_of(slot);
+    match rng.chance(1, 2) {
+        true => break_kind(rng, &mut entry),
+        false => break_ticks(rng, &mut entry),
+    }
+    *slot = entry_words(&entry);
+}

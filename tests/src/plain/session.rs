@@ -1,0 +1,77 @@
+//! The session in plain Rust: the lent memory is checked as the proved
+//! functions check it, and changed in place.
+
+use super::{completion, entry_holds, Entry, MOST};
+use crate::ffi::session::Session;
+use crate::words::ENTRY_WORDS;
+
+fn entry(words: &[u32; ENTRY_WORDS]) -> Entry {
+    let [low, high, kind, r] = words[0].to_le_bytes();
+    Entry {
+        number: u16::from_le_bytes([low, high]),
+        kind,
+        r: u32::from(r),
+        c: words[1],
+        t: words[2],
+        d: words[3],
+        b: words[4],
+    }
+}
+
+/// How many entries a sound session has.
+fn count_of(session: &Session) -> Option<usize> {
+    let count = session.count as usize;
+    if !(1..=64).contains(&session.levels) || count > MOST {
+        return None;
+    }
+    let entries = &session.words.as_chunks().0[..count];
+    let sound = entries.iter().all(|words| entry_holds(&entry(words)));
+    sound.then_some(count)
+}
+
+/// Inserts an entry, and says whether it did.
+#[inline(never)]
+pub fn insert(session: &mut Session, position: usize, words: &[u32; ENTRY_WORDS]) -> bool {
+    let Some(count) = count_of(session) else {
+        return false;
+    };
+    if position > count || count == MOST || !entry_holds(&entry(words)) {
+        return false;
+    }
+    let entries = session.words.as_chunks_mut().0;
+    entries.copy_within(position..count, position + 1);
+    entries[position] = *words;
+    entries[count + 1..].fill([0; ENTRY_WORDS]);
+    session.count += 1;
+    true
+}
+
+/// Removes an entry, and says whether it did.
+#[inline(never)]
+pub fn remove(session: &mut Session, position: usize) -> bool {
+    let Some(count) = count_of(session) else {
+        return false;
+    };
+    if position >= count {
+        return false;
+    }
+    let entries: &mut [[u32; ENTRY_WORDS]] = session.words.as_chunks_mut().0;
+    entries.copy_within(position + 1..count, position);
+    entries[count - 1..].fill([0; ENTRY_WORDS]);
+    session.count -= 1;
+    true
+}
+
+/// The completion time and the rounds of an entry that is on time.
+#[inline(never)]
+pub fn time(session: &Session, first: usize, last: usize, i: usize) -> Option<(u32, u32)> {
+    let count = count_of(session)?;
+    if first > i || i > last || last >= count {
+        return None;
+    }
+    let mut entries = [Entry::default(); MOST];
+    for (target, words) in entries[..=last].iter_mut().zip(session.words.as_chunks().0) {
+        *target = entry(words);
+    }
+    completion(&entries[..=last], first, last, i)
+}

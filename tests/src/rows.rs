@@ -1,0 +1,113 @@
+//! Rows of session operations, and how they are kept as text.
+
+use crate::lent::Words;
+use crate::session::Op;
+use crate::words::{entry_of, entry_words};
+use std::fmt::Write;
+
+/// The memory that is lent first, and what is done to it.
+#[derive(Clone, Debug, PartialEq, Eq)]
+pub struct Row {
+    /// All 322 words.
+    pub start: Words,
+    /// The operations.
+    pub ops: Vec<Op>,
+}
+
+impl Row {
+    /// The words on one line, without the zeros at the end, then a line for
+    /// each operation. An entry is its five words.
+    pub fn to_text(&self) -> String {
+        let used = self.start.iter().rposition(|word| *word != 0);
+        let words = &self.start[..used.map_or(0, |last| last + 1)];
+        let mut text = line("words", words.iter().map(|word| *word as usize));
+        for op in &self.ops {
+            text += &op_line(op);
+        }
+        text
+    }
+
+    /// The row that a text holds. It must be one.
+    pub fn from_text(text: &str) -> Row {
+        let mut row = Row {
+            start: [0; 322],
+            ops: Vec::new(),
+        };
+        for line in text.lines() {
+            let mut parts = line.split(' ');
+            let name = parts.next().unwrap_or("");
+            let numbers: Vec<usize> = parts.map(|part| part.parse().expect("a number")).collect();
+            match name {
+                "words" => {
+                    for (target, number) in row.start.iter_mut().zip(numbers) {
+                        *target = word(number);
+                    }
+                }
+                _ => row.ops.push(op_of(name, &numbers)),
+            }
+        }
+        row
+    }
+}
+
+fn op_line(op: &Op) -> String {
+    let with_entry = |name, position, entry| {
+        let words = entry_words(entry).map(|word| word as usize);
+        line(name, [position].into_iter().chain(words))
+    };
+    match op {
+        Op::Open(levels) => line("open", [*levels]),
+        Op::SetLevels(levels) => line("levels", [*levels]),
+        Op::Insert(position, entry) => with_entry("insert", *position, entry),
+        Op::Replace(position, entry) => with_entry("replace", *position, entry),
+        Op::Remove(position) => line("remove", [*position]),
+        Op::Map => line("map", []),
+        Op::Time(first, last, i) => line("time", [*first, *last, *i]),
+    }
+}
+
+fn op_of(name: &str, numbers: &[usize]) -> Op {
+    match (name, numbers) {
+        ("open", &[levels]) => Op::Open(levels),
+        ("levels", &[levels]) => Op::SetLevels(levels),
+        ("remove", &[position]) => Op::Remove(position),
+        ("map", &[]) => Op::Map,
+        ("time", &[first, last, i]) => Op::Time(first, last, i),
+        ("insert" | "replace", &[position, head, c, t, d, b]) => {
+            let entry = entry_of(&[head, c, t, d, b].map(word));
+            match name {
+                "insert" => Op::Insert(position, entry),
+                _ => Op::Replace(position, entry),
+            }
+        }
+        _ => panic!("{name} {numbers:?} is no operation"),
+    }
+}
+
+fn line(name: &str, numbers: impl IntoIterator<Item = usize>) -> String {
+    let mut line = name.to_string();
+    for number in numbers {
+        write!(line, " {number}").expect("text takes any number");
+    }
+    line + "\n"
+}
+
+fn word(number: usize) -> u32 {
+    u32::try_from(number).expect("a word has 32 bits")
+}
+
+#[cfg(test)]
+mod tests {
+    use super::*;
+    use crate::gen::ops::row;
+    use crate::rng::Rng;
+
+    #[test]
+    fn a_row_is_kept_by_its_text() {
+        let mut rng = Rng::new(3);
+        for _ in 0..50 {
+            let row = row(&mut rng);
+            assert_eq!(Row::from_text(&row.to_text()), row);
+        }
+    }
+}

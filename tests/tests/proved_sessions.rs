@@ -1,0 +1,220 @@
+//! The proved library's sessions: rows of operations, refused ones included,
+//! with the contents, the map and a timing after each, against the second
+//! implementation.
+
+use oracle::cases;
+use oracle::compare::session::Both;
+use oracle::ffi;
+use oracle::gen::lent::{damaged, sound};
+use oracle::gen::ops::{group, levels, next_op, Course};
+use oracle::lent::words_of;
+use oracle::model::Entry;
+use oracle::options::{rng, times};
+use oracle::refusal::Refusal;
+use oracle::rng::Rng;
+use oracle::session::{Op, Session};
+use oracle::tally::Tally;
+use oracle::timing::Timing;
+use std::io::Write;
+
+fn say(name: &str, tally: &Tally) {
+    // Written past the harness, which keeps what passing tests print.
+    writeln!(std::io::stdout(), "\n{name}: {tally}").expect("output is open");
+}
+
+/// One operation, then the map and a timing.
+fn step(rng: &mut Rng, tally: &mut Tally, both: &mut Both, op: &Op) {
+    let _ = both.step(tally, op, rng.pick(&[0, 3, 64]));
+    both.map(tally, rng);
+    let count = both.session().map_or(4, |held| held.entries().len());
+    let _ = both.step(tally, &group(rng, count), 0);
+}
+
+/// A row of operations.
+fn walk(rng: &mut Rng, tally: &mut Tally, both: &mut Both, course: Course, steps: u64) {
+    for _ in 0..steps {
+        // On memory that holds no session, operations as on an empty one.
+        let held = both.session().or_else(|_| Session::open(1));
+        let op = next_op(rng, &held.expect("1 is a level count"), course);
+        step(rng, tally, both, &op);
+    }
+}
+
+#[test]
+fn short_sessions() {
+    let (mut rng, mut tally) = (rng(270), Tally::default());
+    for _ in 0..times(150) {
+        let mut both = Both::of(&[0; 322]);
+        while both.session().is_err() {
+            let opening = Op::Open(levels(&mut rng));
+            step(&mut rng, &mut tally, &mut both, &opening);
+        }
+        walk(&mut rng, &mut tally, &mut both, Course::Short, 60);
+    }
+    say("short sessions", &tally);
+    for number in [4, 7, 8, 10, 11, 12] {
+        assert!(tally.met(number) > times(100), "{number}: {tally}");
+    }
+    assert!(tally.accepted() > times(10_000), "{tally}");
+}
+
+#[test]
+fn full_sessions() {
+    let (mut rng, mut tally) = (rng(271), Tally::default());
+    for _ in 0..times(40) {
+        let count = rng.count(60, 64);
+        let mut both = Both::of(&sound(&mut rng, count));
+        walk(&mut rng, &mut tally, &mut both, Course::Growing, 15);
+    }
+    say("full sessions", &tally);
+    for number in [7, 8, 10, 11, 12, 13] {
+        assert!(tally.met(number) > times(20), "{number}: {tally}");
+    }
+}
+
+/// From opening until the list is full, without the map of each step.
+#[test]
+fn sessions_that_fill_up() {
+    let (mut rng, mut tally) = (rng(272), Tally::default());
+    for _ in 0..times(40) {
+        let mut both = Both::of(&[u32::MAX; 322]);
+        both.step(&mut tally, &Op::Open(9), 0).unwrap();
+        let before = tally.met(13);
+        while tally.met(13) < before + 5 {
+            let op = next_op(&mut rng, &both.session().unwrap(), Course::Growing);
+            let _ = both.step(&mut tally, &op, 64);
+        }
+    }
+    say("sessions that fill up", &tally);
+}
+
+/// Memory that no operation has made is checked first, and only opening mends
+/// it. Some of it holds a session with other words beyond its entries.
+#[test]
+fn memory_from_elsewhere() {
+    let (mut rng, mut tally) = (rng(273), Tally::default());
+    let (mut forged, mut held) = (0, 0);
+    for _ in 0..times(2_500) {
+        let mut both = Both::of(&damaged(&mut rng));
+        match both.session() {
+            Ok(_) => held += 1,
+            Err(_) => forged += 1,
+        }
+        walk(&mut rng, &mut tally, &mut both, Course::Short, 3);
+    }
+    say("memory from elsewhere", &tally);
+    for number in [4, 7, 8] {
+        assert!(tally.met(number) > times(1_000), "{number}: {tally}");
+    }
+    assert!(
+        forged > times(1_000) && held > times(300),
+        "{forged} {held}"
+    );
+}
+
+const GOOD: Entry = Entry::task(1, 1, 900, 900);
+const BAD_TICKS: Entry = Entry::task(1, 6, 9, 5);
+const BAD_KIND: Entry = Entry { kind: 3, ..GOOD };
+const BAD_BOTH: Entry = Entry {
+    kind: 3,
+    ..BAD_TICKS
+};
+
+/// Every operation at every kind of position, on short, long and full lists.
+#[test]
+fn the_order_of_the_checks() {
+    let mut tally = Tally::default();
+    for count in [0, 1, 4, 63, 64] {
+        let words = words_of(&Session::holding(2, &vec![GOOD; count]).unwrap());
+        for position in [0, count / 2, count, count + 1, 64, 65, 1 << 32, usize::MAX] {
+            for entry in [GOOD, BAD_TICKS, BAD_KIND, BAD_BOTH] {
+                for op in [Op::Insert(position, entry), Op::Replace(position, entry)] {
+                    let _ = Both::of(&words).step(&mut tally, &op, 0);
+                }
+            }
+            let _ = Both::of(&words).step(&mut tally, &Op::Remove(position), 0);
+            for (first, last) in [(0, position), (position, position), (position, 0)] {
+                let op = Op::Time(first, last, position);
+                let _ = Both::of(&words).step(&mut tally, &op, 0);
+            }
+        }
+        for levels in 0..=255 {
+            for op in [Op::Open(levels), Op::SetLevels(levels)] {
+                let _ = Both::of(&words).step(&mut tally, &op, 0);
+            }
+        }
+    }
+    say("the order of the checks", &tally);
+    for number in [4, 7, 8, 12, 13] {
+        assert!(tally.met(number) > 10, "{number}: {tally}");
+    }
+}
+
+/// All groups and entries of a short list, and positions just outside.
+#[test]
+fn every_group() {
+    let mut tally = Tally::default();
+    let mut rng = rng(274);
+    for _ in 0..times(30) {
+        let mut both = Both::of(&sound(&mut rng, 4));
+        for first in 0..6 {
+            for last in 0..6 {
+                for i in 0..6 {
+                    let _ = both.step(&mut tally, &Op::Time(first, last, i), 0);
+                }
+            }
+        }
+    }
+    assert_eq!(
+        tally.accepted(),
+        times(30) * 20,
+        "groups with an entry in them"
+    );
+}
+
+#[test]
+fn a_blank_session_is_refused_until_it_is_opened() {
+    let mut session = ffi::session::Session::of(&[0; 322]);
+    let blank = session.clone();
+    let due = Refusal::at_row(4, 0);
+    let entry = oracle::words::entry_words(&GOOD);
+    assert_eq!(session.insert(0, &entry), Err(due));
+    assert_eq!(session.replace(0, &entry), Err(due));
+    assert_eq!(session.remove(0), Err(due));
+    assert_eq!(session.set_levels(3), Err(due));
+    assert_eq!(session.time(0, 0, 0), Err(due));
+    assert_eq!(session.map(&mut []), Err(due));
+    assert_eq!(session, blank);
+    assert_eq!(session.open(3), Ok(()));
+    assert_eq!(session.map(&mut []), Ok(0));
+    assert_eq!(std::mem::size_of_val(&session), 4 * 322);
+}
+
+#[test]
+fn cases_built_step_by_step() {
+    let (mut rng, mut tally) = (rng(275), Tally::default());
+    for node in [cases::p(), cases::f(), cases::h(), cases::u(), cases::e()] {
+        let mut both = Both::of(&[7; 322]);
+        let opening = Op::Open(usize::from(node.levels));
+        step(&mut rng, &mut tally, &mut both, &opening);
+        // From the last entry to the first, each before the others.
+        for entry in node.entries.iter().rev() {
+            step(&mut rng, &mut tally, &mut both, &Op::Insert(0, *entry));
+        }
+        assert_eq!(both.session().unwrap().entries(), node.entries);
+    }
+}
+
+#[test]
+fn timing_case_v_in_named_groups() {
+    let words = words_of(&Session::holding(2, &cases::v().entries).unwrap());
+    let session = ffi::session::Session::of(&words);
+    let on_time = |time, rounds| Ok(Timing::OnTime { time, rounds });
+    assert_eq!(session.time(0, 1, 1), on_time(16, 2));
+    assert_eq!(session.time(1, 1, 1), on_time(18, 3));
+    assert_eq!(session.time(0, 1, 0), on_time(5, 1));
+    // Case R's third entry has a demand of 138 at 138, and D 137.
+    let words = words_of(&Session::holding(2, &cases::r().entries).unwrap());
+    let session = ffi::session::Session::of(&words);
+    assert_eq!(session.time(1, 2, 2), Ok(Timing::Late { rounds: 1 }));
+}
