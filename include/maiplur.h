@@ -85,8 +85,9 @@ uint32_t maiplur_list(const uint8_t *file, size_t file_length, uint8_t *text, si
  * struct is a session that is not open, which every function but maiplur_session_open refuses (4).
  *
  * Each function but maiplur_session_open first checks the session as a node of a file: 4 where its level count or its
- * entry count is outside the limits, then 7 and 8 entry by entry, with the place. A session that was opened and changed
- * by these functions is never refused so. Its own checks follow, as said at the function.
+ * entry count is outside the limits, then 7 and 8 entry by entry, with row 0 and the entry's position. A session that was
+ * opened and changed by these functions is never refused so. Then come the function's own checks, in the order in which
+ * they stand at the function.
  */
 typedef struct {
     uint32_t levels;      /* 1 to 64 */
@@ -104,14 +105,15 @@ uint32_t maiplur_session_set_levels(maiplur_session *session, uint8_t levels, si
 
 /* Inserts an entry, given by its five words, before a position; just after the last entry it appends. Values: 0 and 0.
  * Refuses a position past that (12), a list of 64 entries (13), then the entry (7, 8) with row 0 and the position.
+ * `entry` lies outside the session: an entry of the session itself is copied first.
  */
 uint32_t maiplur_session_insert(maiplur_session *session, size_t position, const uint32_t entry[5], size_t values[2]);
 
 /* Removes the entry at a position. Values: 0 and 0. Refuses a position that has no entry (12). */
 uint32_t maiplur_session_remove(maiplur_session *session, size_t position, size_t values[2]);
 
-/* Replaces the entry at a position. Values: 0 and 0. Refuses a position that has no entry (12), then the entry (7, 8) with
- * row 0 and the position.
+/* Replaces the entry at a position; `entry` as for maiplur_session_insert. Values: 0 and 0. Refuses a position that has
+ * no entry (12), then the entry (7, 8) with row 0 and the position.
  */
 uint32_t maiplur_session_replace(maiplur_session *session, size_t position, const uint32_t entry[5], size_t values[2]);
 

@@ -18,7 +18,7 @@ use Rattle.plan_file.specs.Encoding.{encoding}
 use Rattle.plan_file.specs.Check.{planCheck}
 use Rattle.planner.specs.Mapping.{heldAnswer, heldBuffer, fileAnswer, fileBuffer, NodeDemand3}
 use Rattle.session.specs.declared.Session.{Session}
-use Rattle.session.specs.State.{nodeIn, sessionOf, Sound, blankSession}
+use Rattle.session.specs.State.{nodeIn, sessionOf, Sound, zeros, blankSession}
 use Rattle.session.specs.Operations.{refusalIn, Operation, opening, inserting, removing, replacing, settingLevels, mapping, timing, AllCallable, operationCheck, emptyNode, nodeAfterAll, answersAll, lentCheck, stepCheck, changed}
 use Rattle.plan_file.specs.Answers.{gives, refuses}
 use Rattle.session.specs.Timing.{timeAnswer}
@@ -174,6 +174,10 @@ words-inverse w h = words-back w h
 
 pub session-inverse : (s : Session) → sessionIn (wordsIn s) ≡ s
 session-inverse s = refl
+
+-- Zero in every word is the session that is not open.
+pub zero-words : sessionIn (zeros 322) ≡ blankSession
+zero-words = refl
 
 -- A refused operation leaves the words untouched.
 pub words-unchanged : (o : Operation) (w : List ℕ) (r : Numbered) → stepCheck o (nodeIn (sessionIn w)) ≡ refused r

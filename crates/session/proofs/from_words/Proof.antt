@@ -1,7 +1,7 @@
 use Prim.Native.Nat.{_-_, _≤_}
-use mathlib.Core.Path.{_≡_, _∙_, refl, ap}
+use mathlib.Core.Path.{_≡_, _∙_, refl, sym, ap}
 use native.Mathlib.Omega.{arith}
-use lib.ListN.{length, drop, length-drop}
+use lib.ListN.{length, drop, set, length-drop}
 use lib.Seq.{paste, paste-zero, getD-drop}
 use mir.Syntax.{w32}
 use borrow.Kind.Array.{eInt, good-length}
@@ -52,7 +52,8 @@ loop-again c =
     let i = c .before .loop .inv in (
       omega arith,
       i .1,
-      rw (← getD-drop 2 w j 0) (copy-next (zeros 320) 0 (drop 2 w) j j _ (omega arith) (omega arith) (omega (arith, length-drop 2 w)) (i .2)),
+      ap (set (c .before .loop .words) j) (sym (getD-drop 2 w j 0))
+          ∙ copy-next (zeros 320) 0 (drop 2 w) j j _ (omega arith) (omega arith) (omega (arith, length-drop 2 w)) (i .2),
     )
 
 array-read-t16 : tie.Need-array-read-t16 Inv-loop μ-loop

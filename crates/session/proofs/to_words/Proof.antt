@@ -29,7 +29,7 @@ array-write-w-2 : tie.Need-array-write-w-2 Inv-loop μ-loop
 array-write-w-2 c = search needs
 
 loop-holds : tie.Need-loop-holds Inv-loop μ-loop
-loop-holds c = (omega arith, held (c .before .args .s) (c .before .good .0) .size, paste-zero (start (c .before .args .s)) 2 (c .before .args .s .words))
+loop-holds c = (omega arith, held (c .before .args .s) (c .before .good .0) .size, paste-zero _ 2 (c .before .args .s .words))
 
 mul-w : tie.Need-mul-w Inv-loop μ-loop
 mul-w c = search needs
