@@ -1,27 +1,25 @@
 -- The load of the more urgent entries, as a bound that shows an entry late before any round.
 use Prim.Native.Nat.{ℕ, zero, suc, _+_, _-_, _*_, _/_, _≤_, _<_, zero-le}
-use mathlib.Core.Path.{_≡_, _∙_, sym}
-use mathlib.Core.Bool.{true, false}
+use mathlib.Core.Path.{_≡_, _∙_, refl, sym}
+use mathlib.Core.Bool.{false}
 use mathlib.Core.Logic.{by-cases}
 use mathlib.Core.List.{List}
-use native.Mathlib.Nat.{le-refl, le-trans, zero-mul, add-mul, mul-assoc, mul-comm, mul-le-mul-left, mul-le-mul-right, div-mul-le-self}
-use native.Mathlib.Decide.{decLe}
+use native.Mathlib.Nat.{le-trans, zero-mul, add-mul, mul-assoc, mul-le-mul-left, mul-le-mul-right, div-mul-le-self, div-lt-iff-lt-mul}
+use native.Mathlib.Decide.{decLe, decLt}
 use native.Mathlib.Omega.{arith}
 use lib.ListN.{length}
+use borrow.Author.Tests.{lt-ltb, le-ltb}
 use Rattle.task_model.specs.declared.Entry.{Entry}
 use Rattle.task_model.specs.Limits.{entryAt, TimesHold, AllHold}
-use Rattle.completion.specs.Demand.{releases, sumTo, urgentShare, besideShare, demand}
+use Rattle.completion.specs.Demand.{releases, sumTo, urgentShare, demand, start}
 use Rattle.completion.specs.Group.{groupLevel}
 use Rattle.completion.specs.Test.{completionTest, isOnTime}
-use Rattle.completion.proofs.Releases.{releases-more, beside-first, beside-up}
-use Rattle.completion.proofs.Sums.{sumTo-none, sumTo-suc, sumTo-more, sumTo-eq, sumTo-add, sumTo-up}
+use Rattle.completion.specs.Load.{load, recurringLoad, recurringRun}
+use Rattle.completion.proofs.Releases.{releases-more, urgent-first, urgent-up, beside-first, beside-up}
+use Rattle.completion.proofs.Sums.{sumTo-none, sumTo-suc, sumTo-more, sumTo-eq, sumTo-add, sumTo-up, sumTo-le}
 use Rattle.completion.proofs.Shares.{demand-some}
-use Rattle.completion.proofs.Groups.{urgentIn, besideIn, wcetIn, named-group, demand-in}
+use Rattle.completion.proofs.Groups.{urgentIn, besideIn, wcetIn, named-group, demand-in, start-in}
 use Rattle.completion.proofs.Theorems.{late-none}
-
--- C / T in units of 1 / 2^32, rounded down
-unfoldable pub load : Entry → ℕ
-load e = (4294967296 * e .wcet) / e .period
 
 -- t ticks are covered by the periods that begin in them
 covered : (e : Entry) → 1 ≤ e .period → (t : ℕ) → t ≤ e .period * releases e t
@@ -39,18 +37,69 @@ load-share e h t =
     let runs : (q * e .period) * releases e t ≤ (4294967296 * e .wcet) * releases e t = mul-le-mul-right (releases e t) below in
     omega (arith, sym (mul-assoc q (e .period) (releases e t)), mul-assoc 4294967296 (e .wcet) (releases e t))
 
-abbrev pub loadIn : List Entry → ℕ → ℕ
-loadIn es j = load (entryAt es j)
+-- no entry has a load above 1, since C is at most T
+load-most : (e : Entry) → TimesHold e → load e ≤ 4294967296
+unfolding load
+load-most e h =
+    let below : (4294967296 * e .wcet) / e .period < 4294967297 =
+    div-lt-iff-lt-mul {k = e .period} {x = 4294967296 * e .wcet} {y = 4294967297} (omega arith) .1 (omega (arith, h .due, h .periodic)) in
+    omega arith
 
-load-sum : (es : List Entry) (t n : ℕ) → ((j : ℕ) → j < n → TimesHold (entryAt es j))
-    → sumTo (loadIn es) n * t ≤ 4294967296 * sumTo (urgentIn es t) n
-load-sum es t zero h = rw (sumTo-none (loadIn es), zero-mul t) zero-le
-load-sum es t (suc n) h =
-    let l = loadIn es in
-    let u = urgentIn es t in
+-- what an entry adds to the sums of the code, by whether its period is shorter than the deadline
+module _ (d : ℕ) (e : Entry) where
+  pub recurs : e .period < d → (recurringLoad d e ≡ load e) × (recurringRun d e ≡ e .wcet)
+  unfolding recurringLoad recurringRun
+  recurs h = rw (lt-ltb (e .period) d h) (refl, refl)
+
+  pub recurs-not : d ≤ e .period → (recurringLoad d e ≡ 0) × (recurringRun d e ≡ 0)
+  unfolding recurringLoad recurringRun
+  recurs-not h = rw (le-ltb (e .period) d h) (refl, refl)
+
+  pub run-most : recurringRun d e ≤ e .wcet
+  run-most =
+      by-cases (decLt (e .period) d)
+      (λ h. omega (arith, recurs h))
+      (λ h. omega (arith, recurs-not (omega arith)))
+
+  pub recurring-load-most : TimesHold e → recurringLoad d e ≤ 4294967296
+  recurring-load-most ok =
+      by-cases (decLt (e .period) d)
+      (λ h. omega (arith, recurs h, load-most e ok))
+      (λ h. omega (arith, recurs-not (omega arith)))
+
+  -- one run, or the load times t, is no more than the share
+  recurring-share : TimesHold e → (t : ℕ) → 1 ≤ t
+      → 4294967296 * e .wcet + recurringLoad d e * t ≤ 4294967296 * (urgentShare e t + recurringRun d e)
+  recurring-share ok t p =
+      by-cases (decLt (e .period) d)
+      (λ h. rw (recurs h .0, recurs h .1) (omega (arith, load-share e ok t)))
+      (λ h.
+      let no-load = recurs-not (omega arith) in
+      rw (no-load .0, no-load .1, zero-mul t) (omega (arith, urgent-first e ok, urgent-up e ok 1 t p)))
+
+abbrev pub loadIn : ℕ → List Entry → ℕ → ℕ
+loadIn d es j = recurringLoad d (entryAt es j)
+
+abbrev pub runIn : ℕ → List Entry → ℕ → ℕ
+runIn d es j = recurringRun d (entryAt es j)
+
+recurring-sum : (d : ℕ) (es : List Entry) (t n : ℕ) → 1 ≤ t → ((j : ℕ) → j < n → TimesHold (entryAt es j))
+    → 4294967296 * sumTo (wcetIn es) n + sumTo (loadIn d es) n * t
+    ≤ 4294967296 * (sumTo (urgentIn es t) n + sumTo (runIn d es) n)
+recurring-sum d es t zero p h =
+    rw (sumTo-none (wcetIn es), sumTo-none (loadIn d es), zero-mul t) zero-le
+recurring-sum d es t (suc n) p h =
+    let l = loadIn d es in
     let more : (sumTo l n + l n) * t ≡ sumTo l n * t + l n * t = add-mul (sumTo l n) (l n) t in
     rw (sumTo-suc l n)
-    (omega (arith, sumTo-suc u n, load-sum es t n (λ j k. h j (omega arith)), load-share (entryAt es n) (h n (omega arith)) t))
+    (omega (
+      arith,
+      sumTo-suc (wcetIn es) n,
+      sumTo-suc (urgentIn es t) n,
+      sumTo-suc (runIn d es) n,
+      recurring-sum d es t n p (λ j k. h j (omega arith)),
+      recurring-share d (entryAt es n) (h n (omega arith)) t p,
+    ))
 
 -- what a greater summand adds over a part
 part-le : (f g : ℕ → ℕ) (a b : ℕ) → a ≤ b → ((j : ℕ) → j < b → f j ≤ g j) → sumTo f b - sumTo f a ≤ sumTo g b - sumTo g a
@@ -62,10 +111,6 @@ part-le f g a b le h =
     sumTo-eq g (λ j. f j + d j) a (λ j l. omega (arith, h j (omega arith))) ∙ sumTo-add f d a in
     omega (arith, sumTo-up d a b le, sumTo-up f a b le)
 
--- The part of the demand in a group that no time changes: B, and one run of each entry of the group.
-abbrev pub onceIn : List Entry → ℕ → ℕ → ℕ → ℕ
-onceIn es first last i = entryAt es i .blocking + (sumTo (wcetIn es) (last + 1) - sumTo (wcetIn es) first)
-
 module _ (es : List Entry) (all : AllHold es) (first last i : ℕ) (hf : first ≤ i) (hi : i ≤ last) (hl : last < length es) where
   once : (t a b : ℕ) → 1 ≤ t → a ≤ b → b ≤ last + 1
       → sumTo (wcetIn es) b - sumTo (wcetIn es) a ≤ sumTo (besideIn es i t) b - sumTo (besideIn es i t) a
@@ -76,30 +121,41 @@ module _ (es : List Entry) (all : AllHold es) (first last i : ℕ) (hf : first �
       let ok = all j (omega arith) .times in
       omega (arith, beside-first e ok (entryAt es i .calls), beside-up e ok (entryAt es i .calls) 1 t p))
 
-  -- The demand is at least a constant, and the load of the more urgent entries times t.
-  pub demand-load : (t : ℕ) → 1 ≤ t
-      → 4294967296 * onceIn es first last i + sumTo (loadIn es) first * t ≤ 4294967296 * demand es (groupLevel first last) i t
-  demand-load t p =
-      let named = demand-in es first last i (groupLevel first last) (named-group first last (length es) i hf hi) hf hi hl t in
-      let own : sumTo (wcetIn es) (i + 1) ≡ sumTo (wcetIn es) i + wcetIn es i = sumTo-more (wcetIn es) i in
+  -- The runs that the load stands for are among those that the test starts with.
+  pub runs-within : (d : ℕ) → sumTo (runIn d es) first ≤ sumTo (wcetIn es) first
+  runs-within d = sumTo-le (runIn d es) (wcetIn es) first (λ j k. run-most d (entryAt es j))
+
+  -- The demand is at least the start without those runs, and the load times t.
+  pub demand-load : (d t : ℕ) → 1 ≤ t
+      → 4294967296 * (start es (groupLevel first last) i - sumTo (runIn d es) first) + sumTo (loadIn d es) first * t
+      ≤ 4294967296 * demand es (groupLevel first last) i t
+  demand-load d t p =
+      let g = named-group first last (length es) i hf hi in
+      let named = demand-in es first last i (groupLevel first last) g hf hi hl t in
+      let begin = start-in es first last i (groupLevel first last) g hf hi hl in
       omega (
         arith,
         once t first i p hf (omega arith),
         once t (i + 1) (last + 1) p (omega arith) (omega arith),
+        sumTo-more (wcetIn es) i,
         sumTo-up (wcetIn es) first i hf,
         sumTo-up (wcetIn es) (i + 1) (last + 1) (omega arith),
-        load-sum es t first (λ j k. all j (omega arith) .times),
+        runs-within d,
+        recurring-sum d es t first p (λ j k. all j (omega arith) .times),
       )
 
-  -- An entry whose constant is above what the load leaves free up to its deadline is late.
-  pub late-by-load : (4294967296 - sumTo (loadIn es) first) * entryAt es i .deadline < 4294967296 * onceIn es first last i
+  -- An entry with more to run once than the load leaves free up to its deadline is late.
+  pub late-by-load :
+      (4294967296 - sumTo (loadIn (entryAt es i .deadline) es) first) * entryAt es i .deadline
+      < 4294967296 * (start es (groupLevel first last) i - sumTo (runIn (entryAt es i .deadline) es) first)
       → isOnTime (completionTest es (groupLevel first last) i) ≡ false
   late-by-load small =
       late-none es all (groupLevel first last) i (omega arith) .1
-      (λ t due d.
-      let u = sumTo (loadIn es) first in
-      let some : 1 ≤ t = le-trans (demand-some es all (groupLevel first last) i (omega arith) t) d in
-      let free : (4294967296 - u) * t ≤ (4294967296 - u) * entryAt es i .deadline = mul-le-mul-left (4294967296 - u) due in
+      (λ t due w.
+      let d = entryAt es i .deadline in
+      let u = sumTo (loadIn d es) first in
+      let some : 1 ≤ t = le-trans (demand-some es all (groupLevel first last) i (omega arith) t) w in
+      let free : (4294967296 - u) * t ≤ (4294967296 - u) * d = mul-le-mul-left (4294967296 - u) due in
       let both : ((4294967296 - u) + u) * t ≡ (4294967296 - u) * t + u * t = add-mul (4294967296 - u) u t in
       let whole : 4294967296 * t ≤ ((4294967296 - u) + u) * t = mul-le-mul-right t (omega arith) in
-      omega (arith, demand-load t some))
+      omega (arith, demand-load d t some))

@@ -41,7 +41,7 @@ module _ (es : List Entry) (all : AllHold es) (level : ℕ → ℕ) (i : ℕ) (k
   begins = rw first (up 1 (demand es level i 1) (some 1))
 
   -- a time whose demand is at most that time is not before the start
-  not-before : (t : ℕ) → demand es level i t ≤ t → start es level i ≤ t
+  pub not-before : (t : ℕ) → demand es level i t ≤ t → start es level i ≤ t
   not-before t h = rw first (le-trans (up 1 t (le-trans (some t) h)) h)
 
   least : Least (demand es level i) (entryAt es i .deadline) up (start es level i) (completionTest es level i)

@@ -28,7 +28,7 @@ wcetOf ws j = entryOf ws j .wcet
 
 module _ (ws : List ℕ) (n : ℕ) where
   -- a sum over entries is one over their words
-  in-words : (f : Entry → ℕ) (m : ℕ) → m ≤ n
+  pub in-words : (f : Entry → ℕ) (m : ℕ) → m ≤ n
       → sumTo (λ j. f (entryAt (entriesOf ws n) j)) m ≡ sumTo (λ j. f (entryOf ws j)) m
   in-words f m h = sumTo-eq _ _ m (λ j l. ap f (entry-of ws n j (omega arith)))
 

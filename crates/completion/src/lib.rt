@@ -1,4 +1,7 @@
 // The completion time test of an entry in a group of its node.
+mod ending;
+
+pub use ending::ends_on_time;
 ghost use mathlib.Core.Path.{_≡_};
 ghost use Prim.Native.Nat.{_+_, _-_, _≤_, _<_};
 ghost use Rattle.task_model.specs.Limits.{AllHold, TimesHold};

@@ -8,8 +8,7 @@ ghost use Rattle.task_model.specs.Words.{entriesOf, nodeOf};
 ghost use Rattle.level_map.specs.Map.{theMap};
 ghost use Rattle.level_map.specs.Answer.{answer, answerOf, bufferOf, Demand3};
 ghost use Rattle.level_map.specs.Groups.{GroupPasses, LeastStart, levelsByRank, Ranked};
-use completion::Timing;
-use completion::completion_test;
+use completion::ends_on_time;
 
 // A map, with the number of its levels, or that no map passes.
 // `answer` in specs/Answer gives the number that a user sees.
@@ -32,9 +31,9 @@ fn least_start(words: &[u32; 320], count: usize, end: usize) -> Start
 {
     'starts: for start in 0..end {
         for i in start..end {
-            let Timing::OnTime { .. } = completion_test(words, count, start, end - 1, i) else {
+            if !ends_on_time(words, count, start, end - 1, i) {
                 continue 'starts;
-            };
+            }
         }
         return Start::At(start);
     }

@@ -1,15 +1,15 @@
 use Prim.Native.Nat.{ℕ, _-_, _≤_, _<_}
-use mathlib.Core.Path.{_≡_, _∙_, refl, sym, ap}
+use mathlib.Core.Path.{_≡_, _∙_, refl, sym}
 use mathlib.Core.Bool.{true, false, false≢true}
 use mathlib.Core.Logic.{by-cases}
 use native.Mathlib.Omega.{arith}
 use native.Mathlib.Decide.{decLt}
 use borrow.Author.Count.{below-more}
 use borrow.Author.Needs.{needs}
+use borrow.Author.Tests.{not-true, not-false}
 use Rattle.task_model.specs.Words.{entriesOf}
-use Rattle.completion.specs.declared.Timing.{Timing}
 use Rattle.completion.specs.Group.{groupLevel}
-use Rattle.completion.specs.Test.{completion, completionTest, isOnTime}
+use Rattle.completion.specs.Test.{completionTest, isOnTime}
 use Rattle.level_map.specs.Groups.{GroupPasses}
 use Rattle.level_map.proofs.least_start.Statement.{statement}
 use Rattle.level_map.proofs.least_start.Tie as tie
@@ -29,30 +29,17 @@ Inv-starts words count end start₀ start =
 abbrev μ-starts : tie.MeasureT-starts
 μ-starts words count end start₀ start = end - start
 
--- what the test of the entry at hand answers
-tested : (c : tie.After-completion-test Inv-loop μ-loop Inv-starts μ-starts) (o : Timing) → c .completion-test .result ≡ o
-    → completionTest (entriesOf (c .before .before .before .before .before .args .words .now) (c .before .before .before .before .before .args .count))
-    (groupLevel (c .before .before .loop .start) (c .before .before .before .before .before .args .end - 1)) (c .before .before .loop .i)
-    ≡ completion o
-tested c o p = sym (c .completion-test .ensures) ∙ ap completion p
-
 starts-holds : tie.Need-starts-holds Inv-loop μ-loop Inv-starts μ-starts
 starts-holds c = search needs
 
 loop-holds : tie.Need-loop-holds Inv-loop μ-loop Inv-starts μ-starts
 loop-holds c = (refl, omega arith, omega arith, omega arith, λ j lo hi. absurd (omega arith))
 
-sub-completion-test : tie.Need-sub-completion-test Inv-loop μ-loop Inv-starts μ-starts
-sub-completion-test c = search needs
+sub-ends-on-time : tie.Need-sub-ends-on-time Inv-loop μ-loop Inv-starts μ-starts
+sub-ends-on-time c = search needs
 
-completion-test-requires : tie.Need-completion-test-requires Inv-loop μ-loop Inv-starts μ-starts
-completion-test-requires c κs = search needs
-
-enum-told : tie.Need-enum-told Inv-loop μ-loop Inv-starts μ-starts
-enum-told c = search needs
-
-enum-told-2 : tie.Need-enum-told-2 Inv-loop μ-loop Inv-starts μ-starts
-enum-told-2 c = search needs
+ends-on-time-requires : tie.Need-ends-on-time-requires Inv-loop μ-loop Inv-starts μ-starts
+ends-on-time-requires c κs = search needs
 
 add-start : tie.Need-add-start Inv-loop μ-loop Inv-starts μ-starts
 add-start c = search needs
@@ -62,13 +49,12 @@ starts-less c = search needs
 
 starts-again : tie.Need-starts-again Inv-loop μ-loop Inv-starts μ-starts
 starts-again c =
-    let l = c .before .before .before .before .loop in
-    let s = c .before .before .before .before .before .before .starts in (
+    let l = c .before .before .before .loop in
+    let s = c .before .before .before .before .before .starts in (
       omega arith,
       below-more _ (l .start)
           (λ b h. s .inv .1 b (omega arith))
-          (λ g.
-          false≢true (sym (ap isOnTime (tested (c .before .before) _ (c .enum-told2 .given .1))) ∙ g (l .i) (omega arith) (omega arith))),
+          (λ g. false≢true (sym (not-true _ (c .if1 .taken)) ∙ c .before .ends-on-time .ensures ∙ g (l .i) (omega arith) (omega arith))),
     )
 
 add-i : tie.Need-add-i Inv-loop μ-loop Inv-starts μ-starts
@@ -79,7 +65,7 @@ loop-less c = search needs
 
 loop-again : tie.Need-loop-again Inv-loop μ-loop Inv-starts μ-starts
 loop-again c =
-    let l = c .before .before .before .before .loop in (
+    let l = c .before .before .before .loop in (
       l .inv .0,
       omega arith,
       omega arith,
@@ -87,7 +73,7 @@ loop-again c =
       λ j lo hi.
           by-cases (decLt j (l .i))
           (λ y. l .inv .4 j lo y)
-          (λ z. let e : j ≡ l .i = omega arith in rw e (ap isOnTime (tested (c .before .before) _ (c .enum-told .given .1)))),
+          (λ z. let e : j ≡ l .i = omega arith in rw e (sym (c .before .ends-on-time .ensures) ∙ not-false _ (c .if1 .left))),
     )
 
 returns : tie.Need-returns Inv-loop μ-loop Inv-starts μ-starts
@@ -109,10 +95,8 @@ least-start-spec =
     μ-starts
     starts-holds
     loop-holds
-    sub-completion-test
-    completion-test-requires
-    enum-told
-    enum-told-2
+    sub-ends-on-time
+    ends-on-time-requires
     add-start
     starts-less
     starts-again

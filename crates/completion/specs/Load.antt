@@ -1,0 +1,18 @@
+-- The load of the more urgent entries, by which some entries are late for certain before any round. It only spares work:
+-- no promise of the planner speaks of it.
+use Prim.Native.Nat.{ℕ, _*_, _/_}
+use lib.Dec.{ltb}
+use Rattle.task_model.specs.declared.Entry.{Entry}
+use Rattle.completion.specs.Demand.{only}
+
+-- C / T in units of 1 / 2^32, rounded down.
+unfoldable pub load : Entry → ℕ
+load e = (4294967296 * e .wcet) / e .period
+
+-- Up to a deadline d, an entry with a period shorter than d runs at least its load times t; any other runs at least once.
+-- These are the load and the run that the first kind adds to a sum, and 0 for the second.
+unfoldable pub recurringLoad : ℕ → Entry → ℕ
+recurringLoad d e = only (ltb (e .period) d) (load e)
+
+unfoldable pub recurringRun : ℕ → Entry → ℕ
+recurringRun d e = only (ltb (e .period) d) (e .wcet)

@@ -1,0 +1,99 @@
+// Whether an entry ends by its deadline, without its rounds where less decides. A small plan can have entries of 10^9
+// rounds, and a search asks after many of them.
+use super::Timing;
+use super::completion_test;
+use super::demand_at;
+use super::start_at;
+use task_model::Entry;
+use task_model::entry_at;
+ghost use mathlib.Core.Path.{_≡_};
+ghost use Prim.Native.Nat.{_-_, _*_, _≤_, _<_};
+ghost use lib.Dec.{ltb};
+ghost use Rattle.task_model.specs.Limits.{AllHold, TimesHold};
+ghost use Rattle.task_model.specs.Words.{entryOf, entriesOf};
+ghost use Rattle.completion.specs.Demand.{sumTo};
+ghost use Rattle.completion.specs.Group.{groupLevel};
+ghost use Rattle.completion.specs.Test.{completionTest, isOnTime};
+ghost use Rattle.completion.specs.Load.{recurringLoad, recurringRun};
+
+// Of entries with periods shorter than a deadline: their loads in units of 2^-32, and their runs, added up.
+struct Recurring {
+    load: u64,
+    runs: u64,
+}
+
+fn recurring_part(e: Entry, deadline: u32) -> Recurring
+    requires { ⌜ TimesHold e ⌝ }
+    ensures { λ r. ⌜ (r .load ≡ recurringLoad deadline e) × (r .runs ≡ recurringRun deadline e) ⌝ }
+{
+    if deadline <= e.period {
+        return Recurring { load: 0, runs: 0 };
+    }
+    Recurring {
+        load: 4294967296 * e.wcet as u64 / e.period as u64,
+        runs: e.wcet as u64,
+    }
+}
+
+fn recurring_sum(words: &[u32; 320], end: usize, deadline: u32) -> Recurring
+    requires { ⌜ AllHold (entriesOf (now words) end) ⌝ ∗ ⌜ end ≤ 64 ⌝ }
+    ensures { λ r.
+        ⌜ (r .load ≡ sumTo (λ j. recurringLoad deadline (entryOf (now (words .entry)) j)) end)
+        × (r .runs ≡ sumTo (λ j. recurringRun deadline (entryOf (now (words .entry)) j)) end) ⌝ }
+{
+    let mut load = 0;
+    let mut runs = 0;
+    for j in 0..end {
+        let r = recurring_part(entry_at(words, j), deadline);
+        load += r.load;
+        runs += r.runs;
+    }
+    Recurring { load, runs }
+}
+
+// What a load leaves of the processor, in units of 2^-32.
+fn free_share(load: u64) -> u64
+    ensures { λ x. ⌜ x ≡ 4294967296 - load ⌝ }
+{
+    if 4294967296 <= load {
+        return 0;
+    }
+    4294967296 - load
+}
+
+// Whether the work that comes once is more than what the load of the more urgent entries, those before `first`, leaves
+// free up to a deadline. `start` is where the test starts: a run of each entry.
+fn overloaded(words: &[u32; 320], first: usize, deadline: u32, start: u64) -> bool
+    requires { ⌜ AllHold (entriesOf (now words) first) ⌝ ∗ ⌜ first ≤ 64 ⌝
+        ∗ ⌜ (sumTo (λ j. entryOf (now words) j .wcet) first ≤ start) × (start ≤ deadline) × (deadline ≤ 1000000000) ⌝ }
+    ensures { λ a.
+        ⌜ a ≡ ltb ((4294967296 - sumTo (λ j. recurringLoad deadline (entryOf (now (words .entry)) j)) first) * deadline)
+        (4294967296 * (start - sumTo (λ j. recurringRun deadline (entryOf (now (words .entry)) j)) first)) ⌝ }
+{
+    let r = recurring_sum(words, first, deadline);
+    free_share(r.load) * (deadline as u64) < 4294967296 * (start - r.runs)
+}
+
+// Whether the entry at `i` of a node ends by its deadline, in the group from `first` to `last`; the entries before it are
+// more urgent. Its rounds are followed only where neither its demand at the deadline nor the load decides.
+pub fn ends_on_time(words: &[u32; 320], count: usize, first: usize, last: usize, i: usize) -> bool
+    requires { ⌜ AllHold (entriesOf (now words) count) ⌝ ∗ ⌜ (first ≤ i) × (i ≤ last) × (last < count) × (count ≤ 64) ⌝ }
+    ensures { λ a. ⌜ a ≡ isOnTime (completionTest (entriesOf (now (words .entry)) count) (groupLevel first last) i) ⌝ }
+{
+    let own = entry_at(words, i);
+    let deadline = own.deadline;
+    let start = start_at(words, count, first, last, i);
+    if (deadline as u64) < start {
+        return false;
+    }
+    if demand_at(words, count, first, last, i, deadline) <= deadline as u64 {
+        return true;
+    }
+    if overloaded(words, first, deadline, start) {
+        return false;
+    }
+    let Timing::OnTime { .. } = completion_test(words, count, first, last, i) else {
+        return false;
+    };
+    true
+}
