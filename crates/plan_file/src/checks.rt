@@ -154,7 +154,7 @@ fn check_body(file: &[u8], row: usize, start: usize, count: usize) -> Checked
 }
 
 // Checks the entries of every body, row by row.
-pub(crate) fn check_bodies(file: &[u8], nodes: usize) -> Checked
+fn check_by_row(file: &[u8], nodes: usize) -> Checked
     requires { ⌜ bodiesStart nodes + entryCount (rowsFrom (now file) 0 nodes) * 20 ≤ length (now file) ⌝ }
     ensures { λ a.
         ⌜ outcome a ≡
@@ -174,6 +174,23 @@ pub(crate) fn check_bodies(file: &[u8], nodes: usize) -> Checked
         row += 1;
     }
     Checked::Accepted
+}
+
+// Checks the entries of every body. All as one body first, since a single loop is the quickest way through an accepted
+// file; only one that is refused goes row by row, for the place.
+pub(crate) fn check_bodies(file: &[u8], nodes: usize) -> Checked
+    requires { ⌜ length (now file) ≡ bodiesStart nodes + entryCount (rowsFrom (now file) 0 nodes) * 20 ⌝ }
+    ensures { λ a.
+        ⌜ outcome a ≡
+        nodesCheck 0 (rowsFrom (now (file .entry)) 0 nodes)
+        (entriesAt (now (file .entry)) (bodiesStart nodes) (entryCount (rowsFrom (now (file .entry)) 0 nodes))) ⌝ }
+{
+    let start = HEADER_BYTES + nodes * ROW_BYTES;
+    let whole = check_body(file, 0, start, (file.len() - start) / ENTRY_BYTES);
+    if let Checked::Accepted = whole {
+        return whole;
+    }
+    check_by_row(file, nodes)
 }
 
 // Checks each row (4), then that there are as many words as their entries have (6).

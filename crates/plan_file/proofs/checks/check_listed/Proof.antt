@@ -8,8 +8,8 @@ use Rattle.task_model.specs.Checks.{entryCheck, entriesCheck}
 use Rattle.task_model.specs.Refusals.{outcome}
 use Rattle.task_model.specs.declared.Checked.{Checked}
 use Rattle.plan_file.proofs.Listed.{listed-next, listed-stop, listed-end}
-use Rattle.plan_file.proofs.check.check_listed.Statement.{statement}
-use Rattle.plan_file.proofs.check.check_listed.Tie as tie
+use Rattle.plan_file.proofs.checks.check_listed.Statement.{statement}
+use Rattle.plan_file.proofs.checks.check_listed.Tie as tie
 
 abbrev Inv-loop : tie.InvT-loop
 Inv-loop words row first count position₀ position =

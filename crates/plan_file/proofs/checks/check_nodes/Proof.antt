@@ -14,8 +14,8 @@ use Rattle.plan_file.specs.Plan.{entryCount, rowOf}
 use Rattle.plan_file.specs.declared.Row.{Row}
 use Rattle.plan_file.proofs.Listed.{listedFrom, rows-next, rows-stop, rows-done}
 use Rattle.plan_file.proofs.Rows.{rowsAfter, count-after}
-use Rattle.plan_file.proofs.check.check_nodes.Statement.{statement}
-use Rattle.plan_file.proofs.check.check_nodes.Tie as tie
+use Rattle.plan_file.proofs.checks.check_nodes.Statement.{statement}
+use Rattle.plan_file.proofs.checks.check_nodes.Tie as tie
 
 abbrev Inv-loop : tie.InvT-loop
 Inv-loop rows words first₀ row₀ first row =
