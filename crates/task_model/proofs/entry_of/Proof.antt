@@ -1,7 +1,7 @@
 use borrow.Author.Needs.{needs}
 use Rattle.task_model.specs.Words.{entryFrom}
-use Rattle.plan_file.proofs.read.entry_of.Statement.{statement}
-use Rattle.plan_file.proofs.read.entry_of.Tie as tie
+use Rattle.task_model.proofs.entry_of.Statement.{statement}
+use Rattle.task_model.proofs.entry_of.Tie as tie
 
 mul-entry-with : tie.Need-mul-entry-with
 mul-entry-with c = search needs

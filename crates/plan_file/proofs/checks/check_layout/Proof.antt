@@ -12,8 +12,8 @@ use Rattle.plan_file.specs.Decoding.{rowAt, offsetAt, rowsFrom}
 use Rattle.plan_file.specs.Encoding.{bodiesStart}
 use Rattle.plan_file.proofs.Contents.{at-row, at-offset, at-next, at-end}
 use Rattle.plan_file.proofs.Outcomes.{mustHold-accepts, mustHold-refuses}
-use Rattle.plan_file.proofs.check.check_layout.Statement.{statement}
-use Rattle.plan_file.proofs.check.check_layout.Tie as tie
+use Rattle.plan_file.proofs.checks.check_layout.Statement.{statement}
+use Rattle.plan_file.proofs.checks.check_layout.Tie as tie
 
 abbrev Inv-loop : tie.InvT-loop
 Inv-loop file nodes least₀ required₀ row₀ least required row =

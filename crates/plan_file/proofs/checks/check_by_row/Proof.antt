@@ -14,8 +14,8 @@ use Rattle.plan_file.specs.Plan.{entryCount}
 use Rattle.plan_file.specs.declared.Row.{Row}
 use Rattle.plan_file.proofs.Bodies.{bodiesFrom, bodies-next, bodies-stop, bodies-end}
 use Rattle.plan_file.proofs.Contents.{count-first}
-use Rattle.plan_file.proofs.check.check_bodies.Statement.{statement}
-use Rattle.plan_file.proofs.check.check_bodies.Tie as tie
+use Rattle.plan_file.proofs.checks.check_by_row.Statement.{statement}
+use Rattle.plan_file.proofs.checks.check_by_row.Tie as tie
 
 abbrev Inv-loop : tie.InvT-loop
 Inv-loop file nodes start₀ row₀ start row =
@@ -88,8 +88,8 @@ loop-again c = (
 returns-2 : tie.Need-returns-2 Inv-loop μ-loop
 returns-2 c = sym (bodies-end _ _ _ _ (c .loop-test .left)) ∙ c .before .loop .inv .2
 
-pub check-bodies-spec : {M : Type 1} → statement M
-check-bodies-spec =
+pub check-by-row-spec : {M : Type 1} → statement M
+check-by-row-spec =
     tie.close
     (tie.spec
     Inv-loop

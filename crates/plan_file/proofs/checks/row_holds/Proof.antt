@@ -2,8 +2,8 @@ use mathlib.Core.Path.{sym}
 use native.Mathlib.Omega.{arith}
 use borrow.Author.Needs.{needs}
 use Rattle.plan_file.proofs.Tests.{row-false, row-rest}
-use Rattle.plan_file.proofs.check.row_holds.Statement.{statement}
-use Rattle.plan_file.proofs.check.row_holds.Tie as tie
+use Rattle.plan_file.proofs.checks.row_holds.Statement.{statement}
+use Rattle.plan_file.proofs.checks.row_holds.Tie as tie
 
 cast-if1 : tie.Need-cast-if1
 cast-if1 c = search needs

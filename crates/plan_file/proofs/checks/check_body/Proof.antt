@@ -8,8 +8,8 @@ use Rattle.task_model.specs.Refusals.{outcome}
 use Rattle.task_model.specs.declared.Checked.{Checked}
 use Rattle.plan_file.specs.Decoding.{entryIn, entriesAt}
 use Rattle.plan_file.proofs.Bodies.{body-next, body-stop, body-end}
-use Rattle.plan_file.proofs.check.check_body.Statement.{statement}
-use Rattle.plan_file.proofs.check.check_body.Tie as tie
+use Rattle.plan_file.proofs.checks.check_body.Statement.{statement}
+use Rattle.plan_file.proofs.checks.check_body.Tie as tie
 
 abbrev Inv-loop : tie.InvT-loop
 Inv-loop file row start count k₀ position₀ k position =

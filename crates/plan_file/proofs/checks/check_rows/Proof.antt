@@ -13,8 +13,8 @@ use Rattle.plan_file.specs.Check.{_andThen_, mustHold, rowTest, rowsChec
 use Rattle.plan_file.specs.Plan.{entryCount, rowOf}
 use Rattle.plan_file.proofs.Rows.{tallyFrom, tally-row, tally-next, tally-end}
 use Rattle.plan_file.proofs.Outcomes.{mustHold-accepts, mustHold-refuses}
-use Rattle.plan_file.proofs.check.check_rows.Statement.{statement}
-use Rattle.plan_file.proofs.check.check_rows.Tie as tie
+use Rattle.plan_file.proofs.checks.check_rows.Statement.{statement}
+use Rattle.plan_file.proofs.checks.check_rows.Tie as tie
 
 abbrev Inv-loop : tie.InvT-loop
 Inv-loop rows words least₀ total₀ i₀ least total i =

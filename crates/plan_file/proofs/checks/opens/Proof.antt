@@ -2,8 +2,8 @@ use borrow.Author.Tests.{eq-eqb, ne-eqb}
 use borrow.Author.Needs.{needs}
 use Rattle.plan_file.specs.Check.{openingTest}
 use Rattle.plan_file.proofs.Tests.{opens-rest}
-use Rattle.plan_file.proofs.check.opens.Statement.{statement}
-use Rattle.plan_file.proofs.check.opens.Tie as tie
+use Rattle.plan_file.proofs.checks.opens.Statement.{statement}
+use Rattle.plan_file.proofs.checks.opens.Tie as tie
 
 shared-slice-read-if1 : tie.Need-shared-slice-read-if1
 shared-slice-read-if1 c = search needs

@@ -2,8 +2,8 @@ use mathlib.Core.Path.{sym}
 use native.Mathlib.Omega.{arith}
 use borrow.Author.Needs.{needs}
 use Rattle.plan_file.proofs.Tests.{counted-false, counted-rest}
-use Rattle.plan_file.proofs.check.counted.Statement.{statement}
-use Rattle.plan_file.proofs.check.counted.Tie as tie
+use Rattle.plan_file.proofs.checks.counted.Statement.{statement}
+use Rattle.plan_file.proofs.checks.counted.Tie as tie
 
 shared-slice-read-if1 : tie.Need-shared-slice-read-if1
 shared-slice-read-if1 c = search needs

@@ -3,8 +3,8 @@ use native.Mathlib.Omega.{arith}
 use borrow.Author.Tests.{not-true, not-false}
 use borrow.Author.Needs.{needs}
 use Rattle.plan_file.proofs.Header.{header-short, header-opening, header-count, header-cut, header-accepted}
-use Rattle.plan_file.proofs.check.check_header.Statement.{statement}
-use Rattle.plan_file.proofs.check.check_header.Tie as tie
+use Rattle.plan_file.proofs.checks.check_header.Statement.{statement}
+use Rattle.plan_file.proofs.checks.check_header.Tie as tie
 
 returns : tie.Need-returns
 returns c = sym (header-short _ (omega arith))

@@ -1,6 +1,6 @@
 use borrow.Author.Needs.{needs}
-use Rattle.plan_file.proofs.check.placed_at.Statement.{statement}
-use Rattle.plan_file.proofs.check.placed_at.Tie as tie
+use Rattle.plan_file.proofs.checks.placed_at.Statement.{statement}
+use Rattle.plan_file.proofs.checks.placed_at.Tie as tie
 
 mul-word-at : tie.Need-mul-word-at
 mul-word-at c = search needs

@@ -14,8 +14,8 @@ use Rattle.plan_file.specs.Plan.{entryCount, rowOf}
 use Rattle.plan_file.specs.declared.Row.{Row}
 use Rattle.plan_file.proofs.Listed.{listedFrom, rows-next, rows-stop, rows-done}
 use Rattle.plan_file.proofs.Rows.{rowsAfter, count-after}
-use Rattle.plan_file.proofs.check.check_nodes.Statement.{statement}
-use Rattle.plan_file.proofs.check.check_nodes.Tie as tie
+use Rattle.plan_file.proofs.checks.check_nodes.Statement.{statement}
+use Rattle.plan_file.proofs.checks.check_nodes.Tie as tie
 
 abbrev Inv-loop : tie.InvT-loop
 Inv-loop rows words first₀ row₀ first row =
@@ -42,8 +42,8 @@ row-of-requires c κs = search needs
 cast-count : tie.Need-cast-count Inv-loop μ-loop
 cast-count c = search needs
 
-check-listed-requires : tie.Need-check-listed-requires Inv-loop μ-loop
-check-listed-requires c κs = omega (arith, count-after (c .before .before .before .before .before .before .before .args .rows .now) (c .before .before .before .before .loop .row) (c .before .before .before .loop-test .taken), ap (λ (r : Row). r .count) (c .before .row-of .ensures))
+check-entries-requires : tie.Need-check-entries-requires Inv-loop μ-loop
+check-entries-requires c κs = omega (arith, count-after (c .before .before .before .before .before .before .before .args .rows .now) (c .before .before .before .before .loop .row) (c .before .before .before .loop-test .taken), ap (λ (r : Row). r .count) (c .before .row-of .ensures))
 
 enum-told : tie.Need-enum-told Inv-loop μ-loop
 enum-told c = search needs
@@ -52,11 +52,11 @@ enum-told-2 : tie.Need-enum-told-2 Inv-loop μ-loop
 enum-told-2 c = search needs
 
 -- what the check of the row at hand answers
-found : (c : tie.After-check-listed Inv-loop μ-loop) (o : Checked) → c .check-listed .result ≡ o
+found : (c : tie.After-check-entries Inv-loop μ-loop) (o : Checked) → c .check-entries .result ≡ o
     → entriesCheck (c .before .before .before .before .before .loop .row) 0
     (entriesFrom (c .before .before .before .before .before .before .before .before .args .words .now) (c .before .before .before .before .before .loop .first) (rowOf (getD (c .before .before .before .before .before .before .before .before .args .rows .now) (c .before .before .before .before .before .loop .row) 0) .count))
     ≡ outcome o
-found c o p = rw (← c .before .before .row-of .ensures) (sym (c .check-listed .ensures) ∙ ap outcome p)
+found c o p = rw (← c .before .before .row-of .ensures) (sym (c .check-entries .ensures) ∙ ap outcome p)
 
 returns : tie.Need-returns Inv-loop μ-loop
 returns c =
@@ -96,7 +96,7 @@ check-nodes-spec =
     shared-slice-read-row-of
     row-of-requires
     cast-count
-    check-listed-requires
+    check-entries-requires
     enum-told
     enum-told-2
     returns
