@@ -1,5 +1,6 @@
 -- What decides whether an entry is on time without its rounds, by the words that hold the node.
-use Prim.Native.Nat.{ℕ, _+_, _-_, _*_, _≤_, _<_}
+use Prim.Native.Nat.{ℕ, _+_, _-_, _*_, _/_, _≤_, _<_}
+use native.Mathlib.Nat.{add-mul, mul-comm, one-mul, div-lt-iff-lt-mul}
 use mathlib.Core.Path.{_≡_, _∙_, sym, ap}
 use mathlib.Core.Bool.{true, false}
 use mathlib.Core.List.{List}
@@ -8,21 +9,28 @@ use lib.ListN.{length}
 use Rattle.task_model.specs.declared.Entry.{Entry}
 use Rattle.task_model.specs.Limits.{entryAt, AllHold}
 use Rattle.task_model.specs.Words.{entryOf, entriesOf}
-use Rattle.task_model.proofs.Laws.{length-entries, entry-of}
+use Rattle.task_model.proofs.Laws.{length-entries, entry-of, all-at}
 use Rattle.completion.specs.Demand.{sumTo, demand, start}
 use Rattle.completion.specs.Group.{groupLevel}
 use Rattle.completion.specs.Test.{completionTest, isOnTime}
 use Rattle.completion.specs.Load.{recurringLoad, recurringRun}
-use Rattle.completion.proofs.Sums.{sumTo-up}
+use Rattle.completion.proofs.Sums.{sumTo-up, sumTo-more}
 use Rattle.completion.proofs.Words.{in-words, wcetOf, words-start}
 use Rattle.completion.proofs.Theorems.{not-before, on-time-some, late-none}
-use Rattle.completion.proofs.Load.{late-by-load}
+use Rattle.completion.proofs.Load.{fits-by-load}
 
 abbrev pub loadOf : ℕ → List ℕ → ℕ → ℕ
 loadOf d ws j = recurringLoad d (entryOf ws j)
 
 abbrev pub runOf : ℕ → List ℕ → ℕ → ℕ
 runOf d ws j = recurringRun d (entryOf ws j)
+
+-- a quotient that is rounded up is the least whose product is enough
+pub ceil-least : (x f t : ℕ) → 1 ≤ f → x ≤ f * t → (x + (f - 1)) / f ≤ t
+ceil-least x f t h l =
+    let below : (x + (f - 1)) / f < t + 1 =
+    div-lt-iff-lt-mul {k = f} {x = x + (f - 1)} {y = t + 1} h .1 (omega (arith, add-mul t 1 f, mul-comm t f, one-mul f)) in
+    omega arith
 
 module _ (ws : List ℕ) (n : ℕ) (all : AllHold (entriesOf ws n)) (first last i : ℕ) (hf : first ≤ i) (hi : i ≤ last) (hl : last < n)
     (own : Entry) (named : own ≡ entryOf ws i) where
@@ -40,27 +48,44 @@ module _ (ws : List ℕ) (n : ℕ) (all : AllHold (entriesOf ws n)) (first last 
       late-none (entriesOf ws n) all (groupLevel first last) i i-known .1
       (λ t l w. omega (arith, due, not-before (entriesOf ws n) all (groupLevel first last) i i-known t w))
 
-  -- on time at the deadline
-  pub on-time-due : (w : ℕ) → w ≡ demand (entriesOf ws n) (groupLevel first last) i (own .deadline) → w ≤ own .deadline
-      → isOnTime (completionTest (entriesOf ws n) (groupLevel first last) i) ≡ true
-  on-time-due w p h =
-      on-time-some (entriesOf ws n) all (groupLevel first last) i (omega (arith, known)) .1
-      (own .deadline, omega (arith, due), omega (arith, p))
-
-  -- late by the load
-  pub late-load : (s : ℕ) → s ≡ start (entriesOf ws n) (groupLevel first last) i
-      → (4294967296 - sumTo (loadOf (own .deadline) ws) first) * own .deadline
-      < 4294967296 * (s - sumTo (runOf (own .deadline) ws) first)
-      → isOnTime (completionTest (entriesOf ws n) (groupLevel first last) i) ≡ false
-  late-load s p h =
-      late-by-load (entriesOf ws n) all first last i hf hi known
+  -- no time at which the demand is met is before a bound by the load
+  pub not-earlier : (s x : ℕ) → s ≡ start (entriesOf ws n) (groupLevel first last) i
+      → ((t : ℕ) → s ≤ t
+      → 4294967296 * (s - sumTo (runOf (own .deadline) ws) first) ≤ (4294967296 - sumTo (loadOf (own .deadline) ws) first) * t
+      → x ≤ t)
+      → (t : ℕ) → demand (entriesOf ws n) (groupLevel first last) i t ≤ t → x ≤ t
+  not-earlier s x p h t w =
+      h t
+      (omega (arith, not-before (entriesOf ws n) all (groupLevel first last) i (omega (arith, known)) t w))
       (rw (
-        due,
-        in-words ws n (recurringLoad (own .deadline)) first (omega arith),
-        in-words ws n (recurringRun (own .deadline)) first (omega arith),
-        sym p,
-      ) h)
+        p,
+        sym (in-words ws n (recurringLoad (own .deadline)) first (omega arith)),
+        sym (in-words ws n (recurringRun (own .deadline)) first (omega arith)),
+      )
+      (fits-by-load (entriesOf ws n) all first last i hf hi known (own .deadline) t w))
 
-  -- the start has a run of each entry up to the last of the group
-  pub runs-begin : (s m : ℕ) → s ≡ start (entriesOf ws n) (groupLevel first last) i → m ≤ last + 1 → sumTo (wcetOf ws) m ≤ s
-  runs-begin s m p h = omega (arith, words-start ws n first last i hf hi hl, sumTo-up (wcetOf ws) m (last + 1) h)
+  -- late where the demand is met at no time up to the deadline
+  pub late-after : (t : ℕ) → own .deadline < t → ((u : ℕ) → demand (entriesOf ws n) (groupLevel first last) i u ≤ u → t ≤ u)
+      → isOnTime (completionTest (entriesOf ws n) (groupLevel first last) i) ≡ false
+  late-after t l h =
+      late-none (entriesOf ws n) all (groupLevel first last) i (omega (arith, known)) .1
+      (λ u d w. omega (arith, due, h u w))
+
+  -- on time at t
+  pub on-time-at : (t w : ℕ) → t ≤ own .deadline → w ≡ demand (entriesOf ws n) (groupLevel first last) i t → w ≤ t
+      → isOnTime (completionTest (entriesOf ws n) (groupLevel first last) i) ≡ true
+  on-time-at t w l p h =
+      on-time-some (entriesOf ws n) all (groupLevel first last) i (omega (arith, known)) .1
+      (t, omega (arith, due), omega (arith, p))
+
+  -- the start is above the runs of the entries before the timed one
+  pub runs-below : (s m : ℕ) → s ≡ start (entriesOf ws n) (groupLevel first last) i → m ≤ i → sumTo (wcetOf ws) m < s
+  runs-below s m p h =
+      omega (
+        arith,
+        words-start ws n first last i hf hi hl,
+        sumTo-up (wcetOf ws) m i h,
+        sumTo-more (wcetOf ws) i,
+        sumTo-up (wcetOf ws) (i + 1) (last + 1) (omega arith),
+        all-at ws n all i (omega arith) .times,
+      )

@@ -1,7 +1,6 @@
--- The load of the more urgent entries, as a bound that shows an entry late before any round.
+-- The load of the more urgent entries, as a bound on the time at which a demand can be met.
 use Prim.Native.Nat.{ℕ, zero, suc, _+_, _-_, _*_, _/_, _≤_, _<_, zero-le}
 use mathlib.Core.Path.{_≡_, _∙_, refl, sym}
-use mathlib.Core.Bool.{false}
 use mathlib.Core.Logic.{by-cases}
 use mathlib.Core.List.{List}
 use native.Mathlib.Nat.{le-trans, zero-mul, add-mul, mul-assoc, mul-le-mul-left, mul-le-mul-right, div-mul-le-self, div-lt-iff-lt-mul}
@@ -13,13 +12,11 @@ use Rattle.task_model.specs.declared.Entry.{Entry}
 use Rattle.task_model.specs.Limits.{entryAt, TimesHold, AllHold}
 use Rattle.completion.specs.Demand.{releases, sumTo, urgentShare, demand, start}
 use Rattle.completion.specs.Group.{groupLevel}
-use Rattle.completion.specs.Test.{completionTest, isOnTime}
 use Rattle.completion.specs.Load.{load, recurringLoad, recurringRun}
 use Rattle.completion.proofs.Releases.{releases-more, urgent-first, urgent-up, beside-first, beside-up}
 use Rattle.completion.proofs.Sums.{sumTo-none, sumTo-suc, sumTo-more, sumTo-eq, sumTo-add, sumTo-up, sumTo-le}
 use Rattle.completion.proofs.Shares.{demand-some}
 use Rattle.completion.proofs.Groups.{urgentIn, besideIn, wcetIn, named-group, demand-in, start-in}
-use Rattle.completion.proofs.Theorems.{late-none}
 
 -- t ticks are covered by the periods that begin in them
 covered : (e : Entry) → 1 ≤ e .period → (t : ℕ) → t ≤ e .period * releases e t
@@ -144,18 +141,13 @@ module _ (es : List Entry) (all : AllHold es) (first last i : ℕ) (hf : first �
         recurring-sum d es t first p (λ j k. all j (omega arith) .times),
       )
 
-  -- An entry with more to run once than the load leaves free up to its deadline is late.
-  pub late-by-load :
-      (4294967296 - sumTo (loadIn (entryAt es i .deadline) es) first) * entryAt es i .deadline
-      < 4294967296 * (start es (groupLevel first last) i - sumTo (runIn (entryAt es i .deadline) es) first)
-      → isOnTime (completionTest es (groupLevel first last) i) ≡ false
-  late-by-load small =
-      late-none es all (groupLevel first last) i (omega arith) .1
-      (λ t due w.
-      let d = entryAt es i .deadline in
+  -- Where the demand is at most t, what runs once is at most what the load leaves free of t.
+  pub fits-by-load : (d t : ℕ) → demand es (groupLevel first last) i t ≤ t
+      → 4294967296 * (start es (groupLevel first last) i - sumTo (runIn d es) first)
+      ≤ (4294967296 - sumTo (loadIn d es) first) * t
+  fits-by-load d t w =
       let u = sumTo (loadIn d es) first in
       let some : 1 ≤ t = le-trans (demand-some es all (groupLevel first last) i (omega arith) t) w in
-      let free : (4294967296 - u) * t ≤ (4294967296 - u) * d = mul-le-mul-left (4294967296 - u) due in
       let both : ((4294967296 - u) + u) * t ≡ (4294967296 - u) * t + u * t = add-mul (4294967296 - u) u t in
       let whole : 4294967296 * t ≤ ((4294967296 - u) + u) * t = mul-le-mul-right t (omega arith) in
-      omega (arith, demand-load d t some))
+      omega (arith, demand-load d t some)

@@ -1,17 +1,14 @@
 // Whether an entry ends by its deadline, without its rounds where less decides. A small plan can have entries of 10^9
 // rounds, and a search asks after many of them.
-use super::Timing;
-use super::completion_test;
 use super::demand_at;
 use super::start_at;
 use task_model::Entry;
 use task_model::entry_at;
 ghost use mathlib.Core.Path.{_≡_};
-ghost use Prim.Native.Nat.{_-_, _*_, _≤_, _<_};
-ghost use lib.Dec.{ltb};
+ghost use Prim.Native.Nat.{ℕ, _-_, _*_, _≤_, _<_};
 ghost use Rattle.task_model.specs.Limits.{AllHold, TimesHold};
 ghost use Rattle.task_model.specs.Words.{entryOf, entriesOf};
-ghost use Rattle.completion.specs.Demand.{sumTo};
+ghost use Rattle.completion.specs.Demand.{sumTo, demand};
 ghost use Rattle.completion.specs.Group.{groupLevel};
 ghost use Rattle.completion.specs.Test.{completionTest, isOnTime};
 ghost use Rattle.completion.specs.Load.{recurringLoad, recurringRun};
@@ -61,21 +58,59 @@ fn free_share(load: u64) -> u64
     4294967296 - load
 }
 
-// Whether the work that comes once is more than what the load of the more urgent entries, those before `first`, leaves
-// free up to a deadline. `start` is where the test starts: a run of each entry.
-fn overloaded(words: &[u32; 320], first: usize, deadline: u32, start: u64) -> bool
+// A time before which the demand of an entry is not met: where its test starts, `start`, or later by the load of the more
+// urgent entries, those before `first`. Their load leaves too little free for what runs once.
+fn earliest(words: &[u32; 320], first: usize, deadline: u32, start: u64) -> u64
     requires { ⌜ AllHold (entriesOf (now words) first) ⌝ ∗ ⌜ first ≤ 64 ⌝
-        ∗ ⌜ (sumTo (λ j. entryOf (now words) j .wcet) first ≤ start) × (start ≤ deadline) × (deadline ≤ 1000000000) ⌝ }
-    ensures { λ a.
-        ⌜ a ≡ ltb ((4294967296 - sumTo (λ j. recurringLoad deadline (entryOf (now (words .entry)) j)) first) * deadline)
-        (4294967296 * (start - sumTo (λ j. recurringRun deadline (entryOf (now (words .entry)) j)) first)) ⌝ }
+        ∗ ⌜ (sumTo (λ j. entryOf (now words) j .wcet) first < start) × (start ≤ deadline) × (deadline ≤ 1000000000) ⌝ }
+    ensures { λ x.
+        ⌜ (start ≤ x) × ((t : ℕ) → start ≤ t
+        → 4294967296 * (start - sumTo (λ j. recurringRun deadline (entryOf (now (words .entry)) j)) first)
+        ≤ (4294967296 - sumTo (λ j. recurringLoad deadline (entryOf (now (words .entry)) j)) first) * t
+        → x ≤ t) ⌝ }
 {
     let r = recurring_sum(words, first, deadline);
-    free_share(r.load) * (deadline as u64) < 4294967296 * (start - r.runs)
+    let free = free_share(r.load);
+    if free == 0 {
+        return deadline as u64 + 1;
+    }
+    let by_load = (4294967296 * (start - r.runs) + (free - 1)) / free;
+    if by_load < start {
+        return start;
+    }
+    by_load
+}
+
+// Whether the demand of the entry at `i` is met by its deadline, by rounds from a time before which it is not.
+fn met_from(
+    words: &[u32; 320],
+    count: usize,
+    first: usize,
+    last: usize,
+    i: usize,
+    begin: u64,
+) -> bool
+    requires { ⌜ AllHold (entriesOf (now words) count) ⌝ ∗ ⌜ (first ≤ i) × (i ≤ last) × (last < count) × (count ≤ 64) ⌝
+        ∗ ⌜ 1 ≤ begin ⌝
+        ∗ ⌜ ((t : ℕ) → demand (entriesOf (now words) count) (groupLevel first last) i t ≤ t → begin ≤ t) ⌝ }
+    ensures { λ a. ⌜ a ≡ isOnTime (completionTest (entriesOf (now (words .entry)) count) (groupLevel first last) i) ⌝ }
+{
+    let own = entry_at(words, i);
+    let deadline = own.deadline as u64;
+    let mut t = begin;
+    while t <= deadline {
+        let next = demand_at(words, count, first, last, i, t as u32);
+        if next <= t {
+            return true;
+        }
+        t = next;
+    }
+    false
 }
 
 // Whether the entry at `i` of a node ends by its deadline, in the group from `first` to `last`; the entries before it are
-// more urgent. Its rounds are followed only where neither its demand at the deadline nor the load decides.
+// more urgent. Its rounds are followed only where its demand at the deadline does not decide, and from as late as the load
+// allows.
 pub fn ends_on_time(words: &[u32; 320], count: usize, first: usize, last: usize, i: usize) -> bool
     requires { ⌜ AllHold (entriesOf (now words) count) ⌝ ∗ ⌜ (first ≤ i) × (i ≤ last) × (last < count) × (count ≤ 64) ⌝ }
     ensures { λ a. ⌜ a ≡ isOnTime (completionTest (entriesOf (now (words .entry)) count) (groupLevel first last) i) ⌝ }
@@ -89,11 +124,6 @@ pub fn ends_on_time(words: &[u32; 320], count: usize, first: usize, last: usize,
     if demand_at(words, count, first, last, i, deadline) <= deadline as u64 {
         return true;
     }
-    if overloaded(words, first, deadline, start) {
-        return false;
-    }
-    let Timing::OnTime { .. } = completion_test(words, count, first, last, i) else {
-        return false;
-    };
-    true
+    let begin = earliest(words, first, deadline, start);
+    met_from(words, count, first, last, i, begin)
 }

@@ -1,7 +1,8 @@
 -- A line as it grows: what was written of it, and how long that can be.
 use Prim.Native.Nat.{ℕ, _+_, _≤_, _<_, _^_, zero-le}
-use mathlib.Core.Path.{_≡_}
+use mathlib.Core.Path.{_≡_, _∙_}
 use mathlib.Core.List.{List, [], _++_}
+use native.Mathlib.Nat.{zero-add}
 use native.Mathlib.Omega.{arith}
 use lib.ListN.{length, length-append}
 use Rattle.text.specs.Text.{Wrote, Upto}
@@ -58,3 +59,7 @@ upto-none o at most = record { wrote = wrote-none o at; short = zero-le }
 
 pub upto-more : {o t n : List ℕ} {at most end : ℕ} (m : ℕ) → most ≤ m → Upto o at most t n end → Upto o at m t n end
 upto-more m h u = record { wrote = u .wrote; short = omega (arith, u .short) }
+
+-- a text from the buffer's start on ends at its length
+pub upto-end : {o t n : List ℕ} {most end : ℕ} → Upto o 0 most t n end → end ≡ length t
+upto-end {t = t} u = u .wrote .after ∙ zero-add (length t)

@@ -222,9 +222,9 @@ fn put_listing(file: &[u8], out: &mut [u8]) -> usize
     put_nodes(file, nodes, out, next)
 }
 
-// Lists a plan file, or writes the one line that it is refused with, from the start of `out`. Refuses only a buffer that
-// is too short for the text (10), and leaves it untouched then; `MOST_TEXT` bytes always suffice.
-pub fn list_plan(file: &[u8], out: &mut [u8]) -> Listed
+// Lists a file into a buffer that may be too short: the text's length is known only at its end, so it is made in an array
+// first.
+fn list_aside(file: &[u8], out: &mut [u8]) -> Listed
     ensures { λ a. ⌜ listedGives a ≡ listAnswer (now (file .entry)) (length (now (out .entry))) ⌝ }
     ensures { λ a. ⌜ now (out .exit) ≡ left (listedGives a) (listing (now (file .entry))) (now (out .entry)) ⌝ }
     ensures { λ a. ⌜ length (listing (now (file .entry))) ≤ 115625 ⌝ }
@@ -236,4 +236,17 @@ pub fn list_plan(file: &[u8], out: &mut [u8]) -> Listed
     }
     put_bytes(out, 0, &text[..n]);
     Listed::Text(n)
+}
+
+// Lists a plan file, or writes the one line that it is refused with, from the start of `out`. Refuses only a buffer that
+// is too short for the text (10), and leaves it untouched then; `MOST_TEXT` bytes always suffice.
+pub fn list_plan(file: &[u8], out: &mut [u8]) -> Listed
+    ensures { λ a. ⌜ listedGives a ≡ listAnswer (now (file .entry)) (length (now (out .entry))) ⌝ }
+    ensures { λ a. ⌜ now (out .exit) ≡ left (listedGives a) (listing (now (file .entry))) (now (out .entry)) ⌝ }
+    ensures { λ a. ⌜ length (listing (now (file .entry))) ≤ 115625 ⌝ }
+{
+    if out.len() < MOST_TEXT {
+        return list_aside(file, out);
+    }
+    Listed::Text(put_listing(file, out))
 }

@@ -1,17 +1,23 @@
 -- Laws of the entries of a file, and of their check entry by entry and node by node.
 use Prim.Native.Nat.{ℕ, zero, suc, _+_, _-_, _*_, _≤_, _<_}
 use mathlib.Core.Path.{_≡_, _∙_, refl, ap}
-use mathlib.Core.List.{List, _∷_}
+use mathlib.Core.List.{List, [], _∷_}
 use native.Mathlib.Omega.{arith}
 use native.Mathlib.Numerals.{add-one}
-use lib.ListN.{length, take, drop}
+use lib.ListN.{length, take, drop, length-take, length-drop}
+use lib.Seq.{getD-take, getD-drop}
+use Rattle.task_model.specs.declared.Entry.{Entry}
 use Rattle.task_model.specs.Refusals.{Numbered, Outcome, accepted, refused}
 use Rattle.task_model.specs.Checks.{entryCheck, entriesCheck}
+use Rattle.task_model.specs.Limits.{noEntry, AllHold}
 use Rattle.task_model.proofs.Laws.{entries-next, entries-stop}
+use Rattle.task_model.proofs.Theorems.{entries-accepted}
+use Rattle.plan_file.specs.declared.Row.{Row}
 use Rattle.plan_file.specs.Plan.{entryCount}
 use Rattle.plan_file.specs.Decoding.{rowAt, rowsFrom, entryIn, entriesAt}
 use Rattle.plan_file.specs.Check.{_andThen_, nodesCheck}
 use Rattle.plan_file.proofs.Contents.{rows-first, rows-end}
+use Rattle.plan_file.proofs.Outcomes.{then-accepted}
 
 pub length-entries-at : (f : List ℕ) (k n : ℕ) → length (entriesAt f k n) ≡ n
 unfolding entriesAt
@@ -78,3 +84,14 @@ module _ (f : List ℕ) (k i n : ℕ) where
   pub bodies-end : n ≤ i → bodiesFrom f k i n ≡ accepted
   unfolding nodesCheck
   bodies-end h = rw (rows-end f i n h)
+
+-- entries that are all within the limits are accepted, whatever rows they are divided into
+pub nodes-accepted : (i : ℕ) (rs : List Row) (es : List Entry) → AllHold es → nodesCheck i rs es ≡ accepted
+unfolding nodesCheck
+nodes-accepted i [] es a = refl
+nodes-accepted i (r ∷ rs) es a =
+    let n = r .count in
+    then-accepted _ _
+    (entries-accepted i 0 (take n es) .1
+    (λ j h. rw (getD-take n es j noEntry (omega (arith, length-take n es))) (a j (omega (arith, length-take n es)))))
+    ∙ nodes-accepted (suc i) rs (drop n es) (λ j h. rw getD-drop (a (n + j) (omega (arith, length-drop n es))))

@@ -1,4 +1,4 @@
--- Laws of the entries that the writer is handed, and of their check entry by entry and row by row.
+-- Laws of the entries that the writer is handed, and of their check row by row.
 use Prim.Native.Nat.{ℕ, zero, suc, _+_, _-_, _≤_, _<_}
 use mathlib.Core.Path.{_≡_, _∙_, refl, ap}
 use mathlib.Core.List.{List, _∷_}
@@ -7,9 +7,8 @@ use native.Mathlib.Nat.{add-zero, zero-add}
 use native.Mathlib.Numerals.{add-one}
 use lib.ListN.{length, getD, take, drop}
 use Rattle.task_model.specs.Refusals.{Numbered, Outcome, accepted, refused}
-use Rattle.task_model.specs.Checks.{entryCheck, entriesCheck}
+use Rattle.task_model.specs.Checks.{entriesCheck}
 use Rattle.task_model.specs.Words.{entryOf, entriesFrom}
-use Rattle.task_model.proofs.Laws.{entries-next, entries-stop}
 use Rattle.plan_file.specs.Plan.{entryCount, rowOf}
 use Rattle.plan_file.specs.Check.{_andThen_, nodesCheck}
 use Rattle.plan_file.proofs.Rows.{rowsAfter, rows-after, after-end}
@@ -27,27 +26,6 @@ drop-from ws j (suc n) m =
     let e : suc n + m ≡ suc (n + m) = omega arith in
     let e2 : j + suc n ≡ suc j + n = omega arith in
     rw (e, e2) (drop-from ws (suc j) n m)
-
--- the entries of one row from position `p` on, of `n`, which begin with entry `first`
-module _ (ws : List ℕ) (row first p n : ℕ) where
-  listed-first : p < n → entriesFrom ws (first + p) (n - p) ≡ entryOf ws (first + p) ∷ entriesFrom ws (first + (p + 1)) (n - (p + 1))
-  unfolding entriesFrom
-  listed-first h =
-      let e : n - p ≡ suc (n - (p + 1)) = omega arith in
-      let e2 : first + (p + 1) ≡ suc (first + p) = omega arith in
-      rw (e, e2, entriesFrom)
-
-  pub listed-next : p < n → entryCheck row p (entryOf ws (first + p)) ≡ accepted
-      → entriesCheck row p (entriesFrom ws (first + p) (n - p)) ≡ entriesCheck row (p + 1) (entriesFrom ws (first + (p + 1)) (n - (p + 1)))
-  listed-next h q = rw (listed-first h) (entries-next row p (entryOf ws (first + p)) _ q ∙ rw (← add-one p))
-
-  pub listed-stop : p < n → (r : Numbered) → entryCheck row p (entryOf ws (first + p)) ≡ refused r
-      → entriesCheck row p (entriesFrom ws (first + p) (n - p)) ≡ refused r
-  listed-stop h r q = rw (listed-first h) (entries-stop row p (entryOf ws (first + p)) _ r q)
-
-  pub listed-end : n ≤ p → entriesCheck row p (entriesFrom ws (first + p) (n - p)) ≡ accepted
-  unfolding entriesCheck entriesFrom
-  listed-end h = let e : n - p ≡ 0 = omega arith in rw (e, entriesFrom)
 
 -- the rows from index `i` on, whose entries begin with entry `first`
 abbrev pub listedFrom : List ℕ → List ℕ → ℕ → ℕ → Outcome

@@ -2,15 +2,15 @@
 //
 // In memory a plan is words of 32 bits: one for a row, which is the first four bytes of its row in the file, and five for
 // an entry, which are its 20 bytes, both low byte first (specs/Plan.antt). So the fields keep the file's widths.
-mod check;
+mod checks;
 mod read;
 mod store;
 
-use check::check_bodies;
-use check::check_header;
-use check::check_layout;
-use check::check_nodes;
-use check::check_rows;
+use checks::check_bodies;
+use checks::check_header;
+use checks::check_layout;
+use checks::check_nodes;
+use checks::check_rows;
 use read::copy_rows;
 use read::copy_words;
 use read::row_of;

@@ -1,4 +1,4 @@
-// Reads words, rows and entries out of a file, and entries out of words.
+// Reads words, rows and entries out of a file.
 use super::HEADER_BYTES;
 use super::ROW_BYTES;
 use super::Row;
@@ -8,7 +8,6 @@ ghost use mathlib.Core.Path.{_≡_};
 ghost use mathlib.Core.List.{_∷_, [], map};
 ghost use lib.ListN.{length};
 ghost use Prim.Native.Nat.{_+_, _*_, _≤_, _<_};
-ghost use Rattle.task_model.specs.Words.{entryFrom};
 ghost use Rattle.plan_file.specs.Plan.{rowWord, rowOf};
 ghost use Rattle.plan_file.specs.Encoding.{bodiesStart};
 ghost use Rattle.plan_file.specs.Decoding.{wordAt, wordsFrom, rowsFrom, entryIn};
@@ -54,20 +53,6 @@ pub(crate) fn entry_in(file: &[u8], k: usize) -> Entry
         word_at(file, k + 8),
         word_at(file, k + 12),
         word_at(file, k + 16),
-    )
-}
-
-// The entry that five words of a slice hold, from word `k` on.
-pub(crate) fn entry_of(words: &[u32], k: usize) -> Entry
-    requires { ⌜ k + 5 ≤ length (now words) ⌝ }
-    ensures { λ e. ⌜ e ≡ entryFrom (now (words .entry)) k ⌝ }
-{
-    entry_with(
-        words[k],
-        words[k + 1],
-        words[k + 2],
-        words[k + 3],
-        words[k + 4],
     )
 }
 

@@ -68,12 +68,12 @@ pub(crate) fn put_contents(file: &mut [u8], rows: &[u32])
         over (now (file .entry)) 8
         (contentsBytes (bodiesStart (length (now (rows .entry)))) (map rowOf (now (rows .entry)))) ⌝ }
 {
-    let mut offset: u32 = 8 + rows.len() as u32 * 8;
+    let mut offset: usize = HEADER_BYTES + rows.len() * ROW_BYTES;
     let mut row: usize = 0;
     while row < rows.len() {
         let word = rows[row];
-        put_row(file, HEADER_BYTES + row * ROW_BYTES, word, offset);
-        offset += row_of(word).count as u32 * 20;
+        put_row(file, HEADER_BYTES + row * ROW_BYTES, word, offset as u32);
+        offset += row_of(word).count as usize * ENTRY_BYTES;
         row += 1;
     }
 }

@@ -102,23 +102,26 @@ module _ (row position : ℕ) (e : Entry) (es : List Entry) where
   unfolding entriesCheck
   entries-stop r p = rw (p, entriesCheck)
 
--- a check of the entries from position `j` on, of `n`
-module _ (row : ℕ) (ws : List ℕ) (j n : ℕ) (h : j < n) where
-  entries-first : entriesFrom ws j (n - j) ≡ entryOf ws j ∷ entriesFrom ws (j + 1) (n - (j + 1))
+-- the entries from position `p` on, of `n`, which begin with entry `first`
+module _ (ws : List ℕ) (row first p n : ℕ) where
+  entries-first : p < n → entriesFrom ws (first + p) (n - p) ≡ entryOf ws (first + p) ∷ entriesFrom ws (first + (p + 1)) (n - (p + 1))
   unfolding entriesFrom
-  entries-first = let e : n - j ≡ suc (n - (j + 1)) = omega arith in rw (e, add-one j, entriesFrom)
+  entries-first h =
+      let e : n - p ≡ suc (n - (p + 1)) = omega arith in
+      let e2 : first + (p + 1) ≡ suc (first + p) = omega arith in
+      rw (e, e2, entriesFrom)
 
-  pub from-next : entryCheck row j (entryOf ws j) ≡ accepted
-      → entriesCheck row j (entriesFrom ws j (n - j)) ≡ entriesCheck row (j + 1) (entriesFrom ws (j + 1) (n - (j + 1)))
-  from-next p = rw (entries-first, entries-next row j (entryOf ws j) _ p, add-one j)
+  pub from-next : p < n → entryCheck row p (entryOf ws (first + p)) ≡ accepted
+      → entriesCheck row p (entriesFrom ws (first + p) (n - p)) ≡ entriesCheck row (p + 1) (entriesFrom ws (first + (p + 1)) (n - (p + 1)))
+  from-next h q = rw (entries-first h) (entries-next row p (entryOf ws (first + p)) _ q ∙ rw (← add-one p))
 
-  pub from-stop : (r : Numbered) → entryCheck row j (entryOf ws j) ≡ refused r
-      → entriesCheck row j (entriesFrom ws j (n - j)) ≡ refused r
-  from-stop r p = rw entries-first (entries-stop row j (entryOf ws j) _ r p)
+  pub from-stop : p < n → (r : Numbered) → entryCheck row p (entryOf ws (first + p)) ≡ refused r
+      → entriesCheck row p (entriesFrom ws (first + p) (n - p)) ≡ refused r
+  from-stop h r q = rw (entries-first h) (entries-stop row p (entryOf ws (first + p)) _ r q)
 
-pub from-end : (row : ℕ) (ws : List ℕ) (j n : ℕ) → n ≤ j → entriesCheck row j (entriesFrom ws j (n - j)) ≡ accepted
-unfolding entriesCheck entriesFrom
-from-end row ws j n h = let e : n - j ≡ 0 = omega arith in rw (e, entriesFrom)
+  pub from-end : n ≤ p → entriesCheck row p (entriesFrom ws (first + p) (n - p)) ≡ accepted
+  unfolding entriesCheck entriesFrom
+  from-end h = let e : n - p ≡ 0 = omega arith in rw (e, entriesFrom)
 
 pub length-entries : (ws : List ℕ) (j n : ℕ) → length (entriesFrom ws j n) ≡ n
 unfolding entriesFrom

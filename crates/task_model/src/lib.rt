@@ -1,9 +1,10 @@
 // The task model: an entry's fields, the limits that they keep, and why a call is refused.
 ghost use mathlib.Core.Path.{_≡_};
-ghost use Prim.Native.Nat.{_<_, _≤_};
+ghost use lib.ListN.{length};
+ghost use Prim.Native.Nat.{_+_, _*_, _<_, _≤_};
 ghost use Rattle.task_model.specs.Refusals.{outcome, at, numbered, numbersIn};
 ghost use Rattle.task_model.specs.Checks.{kindTest, timesTest, entryCheck, entriesCheck, nodeCheck};
-ghost use Rattle.task_model.specs.Words.{entryFrom, entryOf, entriesOf, nodeOf};
+ghost use Rattle.task_model.specs.Words.{entryFrom, entryOf, entriesFrom, nodeOf};
 ghost use mathlib.Core.List.{[], _∷_};
 
 // The longest period and the longest blocking, in ticks.
@@ -146,12 +147,11 @@ pub fn entry_with(head: u32, wcet: u32, period: u32, deadline: u32, blocking: u3
     }
 }
 
-// The entry at a position of a node's words.
-pub fn entry_at(words: &[u32; 320], position: usize) -> Entry
-    requires { ⌜ position < 64 ⌝ }
-    ensures { λ e. ⌜ e ≡ entryOf (now (words .entry)) position ⌝ }
+// The entry that five words of a slice hold, from word `k` on.
+pub fn entry_of(words: &[u32], k: usize) -> Entry
+    requires { ⌜ k + 5 ≤ length (now words) ⌝ }
+    ensures { λ e. ⌜ e ≡ entryFrom (now (words .entry)) k ⌝ }
 {
-    let k = position * 5;
     entry_with(
         words[k],
         words[k + 1],
@@ -161,14 +161,23 @@ pub fn entry_at(words: &[u32; 320], position: usize) -> Entry
     )
 }
 
-// Accepts entries that are all within the limits; refuses the first that is not.
-pub fn check_entries(row: usize, words: &[u32; 320], count: usize) -> Checked
-    requires { ⌜ count ≤ 64 ⌝ }
-    ensures { λ a. ⌜ outcome a ≡ entriesCheck row 0 (entriesOf (now (words .entry)) count) ⌝ }
+// The entry at a position of a node's words.
+pub fn entry_at(words: &[u32; 320], position: usize) -> Entry
+    requires { ⌜ position < 64 ⌝ }
+    ensures { λ e. ⌜ e ≡ entryOf (now (words .entry)) position ⌝ }
+{
+    entry_of(words, position * 5)
+}
+
+// Accepts `count` entries that are all within the limits, from entry `first` of the words on; refuses the first that is
+// not.
+pub fn check_entries(row: usize, words: &[u32], first: usize, count: usize) -> Checked
+    requires { ⌜ (first + count) * 5 ≤ length (now words) ⌝ }
+    ensures { λ a. ⌜ outcome a ≡ entriesCheck row 0 (entriesFrom (now (words .entry)) first count) ⌝ }
 {
     let mut position: usize = 0;
     while position < count {
-        let e = entry_at(words, position);
+        let e = entry_of(words, (first + position) * 5);
         let found = check_entry(row, position, e);
         let Checked::Accepted = found else {
             return found;
@@ -191,5 +200,5 @@ pub fn check_node(row: usize, words: &[u32; 320], count: usize, levels: u8) -> C
     if 64 < count {
         return Checked::Refused(Refusal::Row { row });
     }
-    check_entries(row, words, count)
+    check_entries(row, words, 0, count)
 }

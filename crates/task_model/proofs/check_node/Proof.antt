@@ -24,7 +24,7 @@ returns-4 c =
     c .check-entries .ensures
     ∙ sym
     (node-entries _ _ (omega arith) (omega arith)
-    (omega (arith, length-entries (c .before .before .before .before .args .words .now) 0 (c .before .before .before .before .args .count))))
+    (omega (arith, length-entries (c .before .before .before .before .before .args .words .now) 0 (c .before .before .before .before .before .args .count))))
 
 pub check-node-spec : {M : Type 1} → statement M
 check-node-spec =

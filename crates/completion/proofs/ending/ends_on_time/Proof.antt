@@ -1,13 +1,13 @@
 use Prim.Native.Nat.{_≤_}
-use mathlib.Core.Path.{_≡_, _∙_, sym, ap}
+use mathlib.Core.Path.{_≡_, sym, ap}
+use native.Mathlib.Nat.{le-refl}
 use native.Mathlib.Omega.{arith}
 use borrow.Author.Needs.{needs}
-use borrow.Author.Tests.{ltb-true}
 use Rattle.task_model.specs.declared.Entry.{Entry}
 use Rattle.task_model.specs.Words.{entryOf}
 use Rattle.task_model.proofs.Laws.{all-at, all-fewer}
-use Rattle.completion.specs.Test.{completion, isOnTime}
-use Rattle.completion.proofs.Early.{late-start, on-time-due, late-load, runs-begin}
+use Rattle.completion.proofs.Words.{words-begin}
+use Rattle.completion.proofs.Early.{late-start, on-time-at, not-earlier, runs-below}
 use Rattle.completion.proofs.ending.ends_on_time.Statement.{statement}
 use Rattle.completion.proofs.ending.ends_on_time.Tie as tie
 
@@ -47,17 +47,17 @@ cast-if2 c = search needs
 returns-2 : tie.Need-returns-2
 returns-2 c =
     let p = c .before .before .before .before .before .pre in
-    sym (on-time-due _ _ (p .0) _ _ _ (omega arith) (omega arith) (omega arith) _
-    (own (c .before .before .before .before)) _ (c .before .demand-at .ensures) (c .if2 .taken))
+    sym (on-time-at _ _ (p .0) _ _ _ (omega arith) (omega arith) (omega arith) _
+    (own (c .before .before .before .before)) _ _ (le-refl _) (c .before .demand-at .ensures) (c .if2 .taken))
 
-overloaded-requires : tie.Need-overloaded-requires
-overloaded-requires c κs =
+earliest-requires : tie.Need-earliest-requires
+earliest-requires c κs =
     let p = c .before .before .before .before .before .pre in (
       all-fewer _ _ _ (omega arith) (p .0),
       (
         omega arith,
         (
-          runs-begin _ _ (p .0) _ _ _ (omega arith) (omega arith) (omega arith) _ (own (c .before .before .before .before)) _ _
+          runs-below _ _ (p .0) _ _ _ (omega arith) (omega arith) (omega arith) _ (own (c .before .before .before .before)) _ _
               (c .before .before .before .start-at .ensures) (omega arith),
           omega (arith, c .before .before .if1 .left),
           few (c .before .before .before .before) .1,
@@ -65,27 +65,24 @@ overloaded-requires c κs =
       ),
     )
 
+met-from-requires : tie.Need-met-from-requires
+met-from-requires c κs =
+    let p = c .before .before .before .before .before .before .pre in
+    let a = c .before .before .before .before .before .before .args in
+    let s = c .before .before .before .before .start-at .ensures in (
+      p .0,
+      (
+        (omega arith, omega arith, omega arith, omega arith),
+        (
+          omega (arith, s, c .earliest .ensures .0, words-begin _ _ (p .0) (a .first) (a .last) (a .i) (omega arith) (omega arith) .0),
+          not-earlier _ _ (p .0) _ _ _ (omega arith) (omega arith) (omega arith) _ (own (c .before .before .before .before .before)) _ _ s
+              (c .earliest .ensures .1),
+        ),
+      ),
+    )
+
 returns-3 : tie.Need-returns-3
-returns-3 c =
-    let p = c .before .before .before .before .before .before .before .pre in
-    sym (late-load _ _ (p .0) _ _ _ (omega arith) (omega arith) (omega arith) _
-    (own (c .before .before .before .before .before .before)) _ (c .before .before .before .before .before .start-at .ensures)
-    (ltb-true _ _ (sym (c .before .overloaded .ensures) ∙ c .if3 .taken)))
-
-completion-test-requires : tie.Need-completion-test-requires
-completion-test-requires c κs = search needs
-
-enum-told : tie.Need-enum-told
-enum-told c = search needs
-
-enum-told-2 : tie.Need-enum-told-2
-enum-told-2 c = search needs
-
-returns-4 : tie.Need-returns-4
-returns-4 c = ap isOnTime (sym (ap completion (c .enum-told2 .given .1)) ∙ c .before .before .completion-test .ensures)
-
-returns-5 : tie.Need-returns-5
-returns-5 c = ap isOnTime (sym (ap completion (c .enum-told .given .1)) ∙ c .before .before .completion-test .ensures)
+returns-3 c = search needs
 
 pub ends-on-time-spec : {M : Type 1} → statement M
 ends-on-time-spec =
@@ -98,10 +95,6 @@ ends-on-time-spec =
     demand-at-requires
     cast-if2
     returns-2
-    overloaded-requires
-    returns-3
-    completion-test-requires
-    enum-told
-    enum-told-2
-    returns-4
-    returns-5)
+    earliest-requires
+    met-from-requires
+    returns-3)

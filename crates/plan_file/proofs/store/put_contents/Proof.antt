@@ -25,9 +25,6 @@ Inv-loop file₀ rows offset₀ row₀ file offset row =
 abbrev μ-loop : tie.MeasureT-loop
 μ-loop file₀ rows offset₀ row₀ file offset row = length rows - row
 
-cast-offset : tie.Need-cast-offset Inv-loop μ-loop
-cast-offset c = search needs
-
 mul-offset : tie.Need-mul-offset Inv-loop μ-loop
 mul-offset c = search needs
 
@@ -50,14 +47,17 @@ mul-put-row c = search needs
 add-put-row : tie.Need-add-put-row Inv-loop μ-loop
 add-put-row c = search needs
 
+cast-put-row : tie.Need-cast-put-row Inv-loop μ-loop
+cast-put-row c = omega arith
+
 put-row-requires : tie.Need-put-row-requires Inv-loop μ-loop
 put-row-requires c κs = search needs
 
 row-of-requires : tie.Need-row-of-requires Inv-loop μ-loop
 row-of-requires c κs = search needs
 
-cast-offset-2 : tie.Need-cast-offset-2 Inv-loop μ-loop
-cast-offset-2 c = search needs
+cast-offset : tie.Need-cast-offset Inv-loop μ-loop
+cast-offset c = search needs
 
 mul-offset-2 : tie.Need-mul-offset-2 Inv-loop μ-loop
 mul-offset-2 c = search needs
@@ -100,7 +100,6 @@ put-contents-spec =
     (tie.spec
     Inv-loop
     μ-loop
-    cast-offset
     mul-offset
     add-offset
     loop-holds
@@ -108,9 +107,10 @@ put-contents-spec =
     shared-slice-read-word
     mul-put-row
     add-put-row
+    cast-put-row
     put-row-requires
     row-of-requires
-    cast-offset-2
+    cast-offset
     mul-offset-2
     add-offset-2
     add-row

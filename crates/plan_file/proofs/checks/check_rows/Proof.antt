@@ -1,0 +1,119 @@
+use Prim.Native.Nat.{_*_, _≤_, _-_}
+use mathlib.Core.List.{map}
+use mathlib.Core.Bool.{Bool}
+use mathlib.Core.Path.{_≡_, _∙_, sym, ap}
+use native.Mathlib.Omega.{arith}
+use native.Mathlib.Nat.{zero-add}
+use lib.Dec.{eqb}
+use lib.ListN.{length, getD}
+use borrow.Author.Tests.{not-true, not-false, eq-eqb, ne-eqb}
+use borrow.Author.Needs.{needs}
+use Rattle.task_model.specs.Refusals.{at}
+use Rattle.plan_file.specs.Check.{_andThen_, mustHold, rowTest, rowsCheck}
+use Rattle.plan_file.specs.Plan.{entryCount, rowOf}
+use Rattle.plan_file.proofs.Rows.{tallyFrom, tally-row, tally-next, tally-end}
+use Rattle.plan_file.proofs.Outcomes.{mustHold-accepts, mustHold-refuses}
+use Rattle.plan_file.proofs.checks.check_rows.Statement.{statement}
+use Rattle.plan_file.proofs.checks.check_rows.Tie as tie
+
+abbrev Inv-loop : tie.InvT-loop
+Inv-loop rows words least₀ total₀ i₀ least total i =
+    (i ≤ length rows)
+    × (least ≤ 65536)
+    × (total ≤ i * 255)
+    × (tallyFrom rows words i least total
+    ≡ rowsCheck 0 0 (map rowOf rows) andThen mustHold (eqb words (entryCount (map rowOf rows) * 5)) (at 6 0 0))
+
+abbrev μ-loop : tie.MeasureT-loop
+μ-loop rows words least₀ total₀ i₀ least total i = length rows - i
+
+loop-holds : tie.Need-loop-holds Inv-loop μ-loop
+loop-holds c = (omega arith, omega arith, omega arith, (rw zero-add))
+
+mul-row-of : tie.Need-mul-row-of Inv-loop μ-loop
+mul-row-of c = search needs
+
+shared-slice-read-row-of : tie.Need-shared-slice-read-row-of Inv-loop μ-loop
+shared-slice-read-row-of c = search needs
+
+row-of-requires : tie.Need-row-of-requires Inv-loop μ-loop
+row-of-requires c κs = search needs
+
+row-holds-requires : tie.Need-row-holds-requires Inv-loop μ-loop
+row-holds-requires c κs = search needs
+
+-- what the test of the row at hand answers
+holds : (c : tie.After-row-holds Inv-loop μ-loop) (a : Bool) → c .row-holds .result ≡ a
+    → rowTest (c .before .before .before .before .loop .least) (rowOf (getD (c .before .before .before .before .before .before .args .rows .now) (c .before .before .before .before .loop .i) 0)) ≡ a
+holds c a p = ap (rowTest _) (sym (c .before .row-of .ensures)) ∙ sym (c .row-holds .ensures) ∙ p
+
+returns : tie.Need-returns Inv-loop μ-loop
+returns c =
+    sym (tally-row _ _ _ _ _ (c .before .before .before .before .loop-test .taken) (holds (c .before) _ (not-true _ (c .if1 .taken))))
+    ∙ c .before .before .before .before .before .loop .inv .3
+
+cast-least : tie.Need-cast-least Inv-loop μ-loop
+cast-least c = search needs
+
+add-least : tie.Need-add-least Inv-loop μ-loop
+add-least c = search needs
+
+cast-total : tie.Need-cast-total Inv-loop μ-loop
+cast-total c = search needs
+
+add-total : tie.Need-add-total Inv-loop μ-loop
+add-total c = search needs
+
+add-i : tie.Need-add-i Inv-loop μ-loop
+add-i c = search needs
+
+loop-less : tie.Need-loop-less Inv-loop μ-loop
+loop-less c = omega arith
+
+loop-again : tie.Need-loop-again Inv-loop μ-loop
+loop-again c = (
+  omega arith,
+  omega arith,
+  omega arith,
+  rw (c .before .before .before .before .row-of .ensures)
+      (sym (tally-next _ _ _ _ _ (c .before .before .before .before .before .before .loop-test .taken) (holds (c .before .before .before) _ (not-false _ (c .before .before .if1 .left))))
+      ∙ c .before .before .before .before .before .before .before .loop .inv .3),
+)
+
+mul-if2 : tie.Need-mul-if2 Inv-loop μ-loop
+mul-if2 c = search needs
+
+returns-2 : tie.Need-returns-2 Inv-loop μ-loop
+returns-2 c =
+    sym (mustHold-refuses _ _ (ne-eqb (c .before .before .before .before .args .words) (c .before .before .loop .total * 5) (λ e. omega arith)))
+    ∙ sym (tally-end _ _ _ _ _ (c .before .loop-test .left))
+    ∙ c .before .before .loop .inv .3
+
+returns-3 : tie.Need-returns-3 Inv-loop μ-loop
+returns-3 c =
+    sym (mustHold-accepts _ _ (eq-eqb (c .before .before .before .before .args .words) (c .before .before .loop .total * 5) (omega arith)))
+    ∙ sym (tally-end _ _ _ _ _ (c .before .loop-test .left))
+    ∙ c .before .before .loop .inv .3
+
+pub check-rows-spec : {M : Type 1} → statement M
+check-rows-spec =
+    tie.close
+    (tie.spec
+    Inv-loop
+    μ-loop
+    loop-holds
+    mul-row-of
+    shared-slice-read-row-of
+    row-of-requires
+    row-holds-requires
+    returns
+    cast-least
+    add-least
+    cast-total
+    add-total
+    add-i
+    loop-less
+    loop-again
+    mul-if2
+    returns-2
+    returns-3)

@@ -1,0 +1,242 @@
+// The checks of a file and of a plan in memory, part by part.
+use super::ENTRY_BYTES;
+use super::HEADER_BYTES;
+use super::OPENING;
+use super::ROW_BYTES;
+use super::Row;
+use super::node_count;
+use super::read::entry_in;
+use super::read::row_of;
+use super::read::word_at;
+use super::row_at;
+use task_model::Checked;
+use task_model::Refusal;
+ghost use mathlib.Core.Path.{_≡_};
+ghost use mathlib.Core.List.{map};
+ghost use lib.ListN.{length};
+ghost use mathlib.Core.Bool.{_&&_};
+ghost use lib.Dec.{eqb};
+ghost use Prim.Native.Nat.{_+_, _*_, _≤_};
+ghost use Rattle.task_model.specs.Refusals.{outcome, at};
+ghost use Rattle.task_model.specs.Checks.{entriesCheck};
+ghost use Rattle.task_model.specs.Words.{entriesFrom};
+ghost use Rattle.plan_file.specs.Plan.{entryCount, rowOf};
+ghost use Rattle.plan_file.specs.Encoding.{bodiesStart};
+ghost use Rattle.plan_file.specs.Decoding.{nodeCount, offsetAt, rowsFrom, entriesAt};
+ghost use Rattle.plan_file.specs.Check.{_andThen_, mustHold, openingTest, zerosTest, countTest, rowTest, rowsCheck, layoutCheck, nodesCheck, headerCheck};
+
+// Whether a row's number is not below the least, and its levels and entry count are within the limits.
+fn row_holds(least: u32, r: Row) -> bool
+    ensures { λ a. ⌜ a ≡ rowTest least r ⌝ }
+{
+    if (r.number as u32) < least {
+        return false;
+    }
+    if r.levels < 1 {
+        return false;
+    }
+    if 64 < r.levels {
+        return false;
+    }
+    r.count <= 64
+}
+
+// Whether the file opens with the four bytes.
+fn opens(file: &[u8]) -> bool
+    requires { ⌜ 8 ≤ length (now file) ⌝ }
+    ensures { λ a. ⌜ a ≡ openingTest (now (file .entry)) ⌝ }
+{
+    if file[0] != OPENING[0] {
+        return false;
+    }
+    if file[1] != OPENING[1] {
+        return false;
+    }
+    if file[2] != OPENING[2] {
+        return false;
+    }
+    file[3] == OPENING[3]
+}
+
+// Whether there are 1 to 32 nodes, and the three bytes after their count are zero.
+fn counted(file: &[u8]) -> bool
+    requires { ⌜ 8 ≤ length (now file) ⌝ }
+    ensures { λ a. ⌜ a ≡ (countTest (nodeCount (now (file .entry))) && zerosTest (now (file .entry))) ⌝ }
+{
+    if file[4] < 1 {
+        return false;
+    }
+    if 32 < file[4] {
+        return false;
+    }
+    if file[5] != 0 {
+        return false;
+    }
+    if file[6] != 0 {
+        return false;
+    }
+    file[7] == 0
+}
+
+// Checks 8 bytes (1), the opening bytes (2), node count and zero bytes (3), and that the contents are whole (1).
+pub(crate) fn check_header(file: &[u8]) -> Checked
+    ensures { λ a. ⌜ outcome a ≡ headerCheck (now (file .entry)) ⌝ }
+{
+    if file.len() < 8 {
+        return Checked::Refused(Refusal::ShortFile);
+    }
+    if !opens(file) {
+        return Checked::Refused(Refusal::OpeningBytes);
+    }
+    if !counted(file) {
+        return Checked::Refused(Refusal::NodeCount);
+    }
+    if file.len() < HEADER_BYTES + node_count(file) * ROW_BYTES {
+        return Checked::Refused(Refusal::ShortFile);
+    }
+    Checked::Accepted
+}
+
+// Whether the body of a row begins at the required offset.
+fn placed_at(file: &[u8], row: usize, required: usize) -> bool
+    requires { ⌜ bodiesStart (row + 1) ≤ length (now file) ⌝ }
+    ensures { λ a. ⌜ a ≡ eqb (offsetAt (now (file .entry)) row) required ⌝ }
+{
+    word_at(file, HEADER_BYTES + row * ROW_BYTES + 4) as usize == required
+}
+
+// Checks each row (4) and its offset (5), then that the file ends with the last body (6).
+pub(crate) fn check_layout(file: &[u8], nodes: usize) -> Checked
+    requires { ⌜ (nodes ≤ 32) × (bodiesStart nodes ≤ length (now file)) ⌝ }
+    ensures { λ a. ⌜ outcome a ≡ layoutCheck (now (file .entry)) 0 0 (bodiesStart nodes) (rowsFrom (now (file .entry)) 0 nodes) ⌝ }
+{
+    let mut least: u32 = 0;
+    let mut required: usize = HEADER_BYTES + nodes * ROW_BYTES;
+    let mut row: usize = 0;
+    while row < nodes {
+        let r = row_at(file, row);
+        let held = row_holds(least, r);
+        let placed = placed_at(file, row, required);
+        if !held {
+            return Checked::Refused(Refusal::Row { row });
+        }
+        if !placed {
+            return Checked::Refused(Refusal::Offset { row });
+        }
+        least = r.number as u32 + 1;
+        required += r.count as usize * ENTRY_BYTES;
+        row += 1;
+    }
+    if file.len() != required {
+        return Checked::Refused(Refusal::FileLength);
+    }
+    Checked::Accepted
+}
+
+// Checks the entries of one body (7 and 8).
+fn check_body(file: &[u8], row: usize, start: usize, count: usize) -> Checked
+    requires { ⌜ start + count * 20 ≤ length (now file) ⌝ }
+    ensures { λ a. ⌜ outcome a ≡ entriesCheck row 0 (entriesAt (now (file .entry)) start count) ⌝ }
+{
+    let mut k = start;
+    let mut position: usize = 0;
+    while position < count {
+        let e = entry_in(file, k);
+        let found = task_model::check_entry(row, position, e);
+        let Checked::Accepted = found else {
+            return found;
+        };
+        k += ENTRY_BYTES;
+        position += 1;
+    }
+    Checked::Accepted
+}
+
+// Checks the entries of every body, row by row.
+fn check_by_row(file: &[u8], nodes: usize) -> Checked
+    requires { ⌜ bodiesStart nodes + entryCount (rowsFrom (now file) 0 nodes) * 20 ≤ length (now file) ⌝ }
+    ensures { λ a.
+        ⌜ outcome a ≡
+        nodesCheck 0 (rowsFrom (now (file .entry)) 0 nodes)
+        (entriesAt (now (file .entry)) (bodiesStart nodes) (entryCount (rowsFrom (now (file .entry)) 0 nodes))) ⌝ }
+{
+    let mut start: usize = HEADER_BYTES + nodes * ROW_BYTES;
+    let mut row: usize = 0;
+    while row < nodes {
+        let r = row_at(file, row);
+        let count = r.count as usize;
+        let found = check_body(file, row, start, count);
+        let Checked::Accepted = found else {
+            return found;
+        };
+        start += count * ENTRY_BYTES;
+        row += 1;
+    }
+    Checked::Accepted
+}
+
+// Checks the entries of every body. All as one body first, since a single loop is the quickest way through an accepted
+// file; only one that is refused goes row by row, for the place.
+pub(crate) fn check_bodies(file: &[u8], nodes: usize) -> Checked
+    requires { ⌜ length (now file) ≡ bodiesStart nodes + entryCount (rowsFrom (now file) 0 nodes) * 20 ⌝ }
+    ensures { λ a.
+        ⌜ outcome a ≡
+        nodesCheck 0 (rowsFrom (now (file .entry)) 0 nodes)
+        (entriesAt (now (file .entry)) (bodiesStart nodes) (entryCount (rowsFrom (now (file .entry)) 0 nodes))) ⌝ }
+{
+    let start = HEADER_BYTES + nodes * ROW_BYTES;
+    let whole = check_body(file, 0, start, (file.len() - start) / ENTRY_BYTES);
+    if let Checked::Accepted = whole {
+        return whole;
+    }
+    check_by_row(file, nodes)
+}
+
+// Checks each row (4), then that there are as many words as their entries have (6).
+pub(crate) fn check_rows(rows: &[u32], words: usize) -> Checked
+    requires { ⌜ length (now rows) ≤ 32 ⌝ }
+    ensures { λ a.
+        ⌜ outcome a ≡
+        (rowsCheck 0 0 (map rowOf (now (rows .entry)))
+        andThen mustHold (eqb words (entryCount (map rowOf (now (rows .entry))) * 5)) (at 6 0 0)) ⌝ }
+{
+    let mut least: u32 = 0;
+    let mut total: usize = 0;
+    let mut i: usize = 0;
+    while i < rows.len() {
+        let r = row_of(rows[i]);
+        if !row_holds(least, r) {
+            return Checked::Refused(Refusal::Row { row: i });
+        }
+        least = r.number as u32 + 1;
+        total += r.count as usize;
+        i += 1;
+    }
+    if words != total * 5 {
+        return Checked::Refused(Refusal::FileLength);
+    }
+    Checked::Accepted
+}
+
+// Checks the entries of every row.
+pub(crate) fn check_nodes(rows: &[u32], words: &[u32]) -> Checked
+    requires { ⌜ entryCount (map rowOf (now rows)) * 5 ≤ length (now words) ⌝ }
+    ensures { λ a.
+        ⌜ outcome a ≡
+        nodesCheck 0 (map rowOf (now (rows .entry)))
+        (entriesFrom (now (words .entry)) 0 (entryCount (map rowOf (now (rows .entry))))) ⌝ }
+{
+    let mut first: usize = 0;
+    let mut row: usize = 0;
+    while row < rows.len() {
+        let r = row_of(rows[row]);
+        let count = r.count as usize;
+        let found = task_model::check_entries(row, words, first, count);
+        let Checked::Accepted = found else {
+            return found;
+        };
+        first += count;
+        row += 1;
+    }
+    Checked::Accepted
+}
