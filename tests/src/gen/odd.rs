@@ -17,9 +17,13 @@ pub const FAMILIES: [Family; 5] = [
     ("load 1 by 62 entries", sixty_two),
 ];
 
-/// A full node without a map whose deadlines are one tick below a completion
-/// time, so that a bound by loads which are rounded down does not show it.
-pub const JUST_LATE: Family = ("deadlines just below the completion time", just_late);
+/// Full nodes without a map whose deadlines are one tick below a completion
+/// time. Loads that are rounded down do not show the first to be late, and
+/// loads alone not the second.
+pub const JUST_LATE: [Family; 2] = [
+    ("deadlines just below the completion time", just_late),
+    ("the same with primes as periods", primes),
+];
 
 /// Level count of the nodes of the families.
 pub const LEVELS: u8 = 8;
@@ -73,6 +77,21 @@ fn just_late() -> Vec<Entry> {
         entry.d = 59 * 3_263_442 - 1;
     }
     entries
+}
+
+/// 34 primes as periods, with a load of 1 - 1/14,200,000 or so, and 30 entries
+/// that end at 588,022,764.
+fn primes() -> Vec<Entry> {
+    const PERIODS: [u64; 34] = [
+        2, 3, 7, 43, 53_959, 54_011, 54_013, 54_037, 54_049, 54_059, 54_083, 54_091, 54_101,
+        54_121, 54_133, 54_139, 54_151, 54_163, 54_167, 54_181, 54_193, 54_217, 54_251, 54_269,
+        54_277, 54_287, 54_293, 54_311, 54_319, 54_323, 54_331, 54_347, 54_361, 54_367,
+    ];
+    let last = Entry {
+        d: 588_022_763,
+        ..task(1, MAX_TICKS)
+    };
+    filled(PERIODS.map(|t| task(1, t)).to_vec(), last)
 }
 
 /// The longest plan file, each node with these entries.

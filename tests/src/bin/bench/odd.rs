@@ -34,7 +34,7 @@ pub fn families() {
 }
 
 fn all() -> Vec<Family> {
-    FAMILIES.into_iter().chain([JUST_LATE]).collect()
+    FAMILIES.into_iter().chain(JUST_LATE).collect()
 }
 
 /// How long a listing takes, and how many nodes it says it has done.
@@ -112,7 +112,7 @@ pub fn rounds(count: usize) {
 fn line_in_ms(name: &str, (proved, plain): (f64, f64)) {
     let (proved_ms, plain_ms) = (proved * 1e3, plain * 1e3);
     println!(
-        "| {name} | {proved_ms:.3} | {plain_ms:.1} | {:.3} |",
+        "| {name} | {proved_ms:.4} | {plain_ms:.1} | {:.6} |",
         proved / plain
     );
 }
