@@ -16,7 +16,8 @@ test:
 bench:
 	@cargo run --release --offline --quiet --manifest-path tests/Cargo.toml --bin bench
 
-# Random files against the second implementation, for MAIPLUR_SECONDS seconds (10); what it finds goes to tests/corpus.
+# Random files and rows of session operations against the second implementation, for MAIPLUR_SECONDS seconds (10); what it
+# finds goes to tests/corpus.
 fuzz:
 	@cargo run --release --offline --quiet --manifest-path tests/Cargo.toml --bin fuzz
 
