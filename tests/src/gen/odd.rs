@@ -151,7 +151,7 @@ pub fn near_one(rng: &mut Rng) -> Vec<Entry> {
 
 /// One to four entries with a load of 1 + `excess`/`whole`, where they can.
 fn urgent(rng: &mut Rng, whole: u64, excess: i64) -> Vec<Entry> {
-    let periods: Vec<u64> = (2..=whole).filter(|t| whole % t == 0).collect();
+    let periods: Vec<u64> = (2..=whole).filter(|&t| whole.is_multiple_of(t)).collect();
     let mut left = whole.saturating_add_signed(excess);
     let mut entries = Vec::new();
     for _ in 0..rng.below(4) {
