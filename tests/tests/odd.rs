@@ -3,7 +3,7 @@
 
 use oracle::cases;
 use oracle::compare;
-use oracle::gen::odd::{many_rounds, near_one, FAMILIES};
+use oracle::gen::odd::{many_rounds, near_one, FAMILIES, JUST_LATE};
 use oracle::map::by_groups;
 use oracle::model::Entry;
 use oracle::options::{rng, times};
@@ -45,7 +45,7 @@ fn least_multiple(whole: i128, t: u64) -> i128 {
 /// Wherever the last group of a map starts, an entry of it is late.
 #[test]
 fn the_families_have_no_map() {
-    for (name, entries) in FAMILIES {
+    for (name, entries) in FAMILIES.into_iter().chain([JUST_LATE]) {
         let entries = entries();
         for start in 0..entries.len() {
             let late = (start..entries.len()).any(|i| surely_late(&entries, start, i));

@@ -97,7 +97,7 @@ fn sessions_that_fill_up() {
     let mut tally = Tally::default();
     let mut rng = rng(91);
     for _ in 0..times(20) {
-        let longest = walk(&mut rng, Course::Growing, 300, &mut tally);
+        let longest = walk(&mut rng, Course::Growing, 450, &mut tally);
         assert_eq!(longest, 64);
     }
     assert!(tally.met(13) > times(100), "{tally}");

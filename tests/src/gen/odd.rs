@@ -17,6 +17,10 @@ pub const FAMILIES: [Family; 5] = [
     ("load 1 by 62 entries", sixty_two),
 ];
 
+/// A full node without a map whose deadlines are one tick below a completion
+/// time, so that a bound by loads which are rounded down does not show it.
+pub const JUST_LATE: Family = ("deadlines just below the completion time", just_late);
+
 /// Level count of the nodes of the families.
 pub const LEVELS: u8 = 8;
 
@@ -59,6 +63,16 @@ pub fn many_rounds(count: usize) -> Vec<Entry> {
     let mut entries: Vec<Entry> = [2, 3, 7, 43, 1_807].map(|t| task(1, t)).to_vec();
     entries.resize(count, task(1, MAX_TICKS));
     numbered(entries)
+}
+
+/// The full node of [`many_rounds`], whose last 59 entries end at
+/// 59 × 3,263,442, with deadlines a tick before that.
+fn just_late() -> Vec<Entry> {
+    let mut entries = many_rounds(MAX_ENTRIES);
+    for entry in &mut entries[5..] {
+        entry.d = 59 * 3_263_442 - 1;
+    }
+    entries
 }
 
 /// The longest plan file, each node with these entries.

@@ -130,7 +130,12 @@ fn usual() {
     files(&longest, "the longest plan, 32 nodes of 64 entries");
     for nodes in [1, 4, 8, 16, 32] {
         let file = station(&mut rng, nodes, 12);
-        listing(&file, &format!("a station of {nodes} nodes of 12 entries"));
+        let nodes = if nodes == 1 {
+            "1 node".into()
+        } else {
+            format!("{nodes} nodes")
+        };
+        listing(&file, &format!("a station of {nodes} of 12 entries"));
     }
 }
 

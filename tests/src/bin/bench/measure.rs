@@ -19,11 +19,12 @@ pub fn measure_turns(
     mut proved: impl FnMut(),
     mut plain: impl FnMut(),
 ) -> (f64, f64) {
-    let calls = calls_in(LONG, &mut proved);
+    // Each in as many calls as it takes for a run: one may be far slower.
+    let calls = (calls_in(LONG, &mut proved), calls_in(LONG, &mut plain));
     let mut best = (f64::MAX, f64::MAX);
     for _ in 0..turns {
-        best.0 = best.0.min(seconds(calls, &mut proved));
-        best.1 = best.1.min(seconds(calls, &mut plain));
+        best.0 = best.0.min(seconds(calls.0, &mut proved));
+        best.1 = best.1.min(seconds(calls.1, &mut plain));
     }
     best
 }
@@ -51,7 +52,7 @@ pub fn line(name: &str, parts: usize, (proved, plain): (f64, f64)) {
     let per_part = 1e6 / parts as f64;
     let (proved_us, plain_us) = (proved * per_part, plain * per_part);
     println!(
-        "| {name} | {proved_us:.2} | {plain_us:.2} | {:.2} |",
+        "| {name} | {proved_us:.3} | {plain_us:.3} | {:.2} |",
         proved / plain
     );
 }

@@ -3,11 +3,11 @@
 //! Each listing runs in a process of its own, with a limit, because it may
 //! take hours.
 
-use crate::measure::{line, measure_turns, seconds};
+use crate::measure::{measure_turns, seconds};
 use oracle::cases;
 use oracle::ffi;
 use oracle::file::encode;
-use oracle::gen::odd::{full_plan, many_rounds, FAMILIES};
+use oracle::gen::odd::{full_plan, many_rounds, Family, FAMILIES, JUST_LATE};
 use oracle::plain;
 use oracle::programs::run_within;
 use std::env;
@@ -26,11 +26,15 @@ const TURNS: usize = 3;
 pub fn families() {
     println!("\n| Listing of 32 nodes of 64 entries | proved | plain, without a bound |");
     println!("|---|---|---|");
-    for (at, (name, _)) in FAMILIES.iter().enumerate() {
+    for (at, (name, _)) in all().into_iter().enumerate() {
         let (proved, _) = in_child("proved", at, PROVED_LIMIT);
         let (plain, nodes) = in_child("plain", at, PLAIN_LIMIT);
         println!("| {name} | {proved} | {plain}, {nodes} of 32 nodes |");
     }
+}
+
+fn all() -> Vec<Family> {
+    FAMILIES.into_iter().chain([JUST_LATE]).collect()
 }
 
 /// How long a listing takes, and how many nodes it says it has done.
@@ -54,7 +58,7 @@ fn in_child(who: &str, family: usize, limit: u64) -> (String, usize) {
 /// What the child does: lists a plan of a family and writes the seconds.
 pub fn child(who: &str, family: &str) {
     let family: usize = family.parse().expect("the place of a family");
-    let file = encode(&full_plan(&FAMILIES[family].1())).expect("a good plan");
+    let file = encode(&full_plan(&all()[family].1())).expect("a good plan");
     let mut text = vec![0; 115_625];
     let best = match who {
         "proved" => best_of(|_| assert!(ffi::list(&file, &mut text).is_ok())),
@@ -82,9 +86,11 @@ fn best_of(mut list: impl FnMut(bool)) -> f64 {
     best
 }
 
-/// A node whose last entries truly take millions of rounds.
+/// The table of a node whose last entries truly take millions of rounds.
 pub fn rounds(count: usize) {
     let file = cases::file(cases::node(64, &many_rounds(count)));
+    println!("\n| Node of {count} entries, millions of rounds | proved, ms | plain, ms | ratio |");
+    println!("|---|---|---|---|");
     let (mut levels, mut other) = ([0; 64], [0; 64]);
     let times = measure_turns(
         TURNS,
@@ -92,11 +98,7 @@ pub fn rounds(count: usize) {
         || assert!(plain::map(&file, 7, &mut other).is_some()),
     );
     assert_eq!(levels, other);
-    line(
-        &format!("map a node of {count} entries with millions of rounds"),
-        1,
-        times,
-    );
+    line_in_ms("map", times);
     let (mut text, mut other) = (vec![0; 115_625], vec![0; 115_625]);
     let times = measure_turns(
         TURNS,
@@ -104,9 +106,13 @@ pub fn rounds(count: usize) {
         || assert!(plain::list(&file, &mut other).is_some()),
     );
     assert_eq!(text, other);
-    line(
-        &format!("list a node of {count} entries with millions of rounds"),
-        1,
-        times,
+    line_in_ms("list", times);
+}
+
+fn line_in_ms(name: &str, (proved, plain): (f64, f64)) {
+    let (proved_ms, plain_ms) = (proved * 1e3, plain * 1e3);
+    println!(
+        "| {name} | {proved_ms:.3} | {plain_ms:.1} | {:.3} |",
+        proved / plain
     );
 }
