@@ -9,12 +9,12 @@ use lib.ListN.{length, getD, take, length-take}
 use lib.Seq.{getD-take}
 use lib.Dec.{leb, eqb}
 use borrow.Author.Tests.{le-leb, ne-eqb}
-use Rattle.task_model.specs.Refusals.{at, accepted, refused}
+use Rattle.task_model.specs.Refusals.{at, accepted, refused, _andThen_, mustHold}
 use Rattle.task_model.proofs.Theorems.{either}
 use Rattle.plan_file.specs.declared.Row.{Row}
 use Rattle.plan_file.specs.Plan.{entryCount, rowOf}
 use Rattle.plan_file.specs.Encoding.{opening, bodiesStart}
-use Rattle.plan_file.specs.Check.{_andThen_, mustHold, opensAt, openingTest, countTest, zerosTest, rowTest, contentsCheck, headerCheck, layoutCheck, fileCheck}
+use Rattle.plan_file.specs.Check.{opensAt, openingTest, countTest, zerosTest, rowTest, contentsCheck, headerCheck, layoutCheck, fileCheck}
 use Rattle.plan_file.specs.Decoding.{wordAt, nodeCount, rowsFrom}
 use Rattle.plan_file.proofs.Contents.{length-rows}
 use Rattle.plan_file.proofs.Decoded.{few-entries}

@@ -12,7 +12,7 @@ use Rattle.task_model.specs.Refusals.{Numbered, at, accepted, refused}
 use Rattle.task_model.specs.Limits.{Node, entryAt}
 use Rattle.completion.specs.Test.{on-time, late, completionTest}
 use Rattle.plan_file.specs.Plan.{Plan}
-use Rattle.plan_file.specs.Answers.{gives, refuses, left}
+use Rattle.task_model.specs.Answers.{gives, refuses, left}
 use Rattle.plan_file.specs.Check.{fileCheck}
 use Rattle.plan_file.specs.Decoding.{planIn}
 use Rattle.plan_file.specs.Find.{rowIn, nodeOfRow}

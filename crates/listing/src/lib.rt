@@ -15,7 +15,7 @@ ghost use Rattle.plan_file.specs.Find.{rowIn, nodeOfRow};
 ghost use Rattle.level_timing.specs.Levels.{NeverFalls};
 ghost use Rattle.listing.specs.Lines.{planLine, nodeLine, noMapLine, entryLine, refusedLine};
 ghost use Rattle.listing.specs.Listing.{entryText, entriesText, nodeText, nodesText, listing, listAnswer, listedGives};
-ghost use Rattle.plan_file.specs.Answers.{left};
+ghost use Rattle.task_model.specs.Answers.{left};
 use completion::Timing;
 use level_map::Mapped;
 use task_model::Checked;

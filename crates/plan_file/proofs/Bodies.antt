@@ -7,7 +7,7 @@ use native.Mathlib.Numerals.{add-one}
 use lib.ListN.{length, take, drop, length-take, length-drop}
 use lib.Seq.{getD-take, getD-drop}
 use Rattle.task_model.specs.declared.Entry.{Entry}
-use Rattle.task_model.specs.Refusals.{Numbered, Outcome, accepted, refused}
+use Rattle.task_model.specs.Refusals.{Numbered, Outcome, accepted, refused, _andThen_}
 use Rattle.task_model.specs.Checks.{entryCheck, entriesCheck}
 use Rattle.task_model.specs.Limits.{noEntry, AllHold}
 use Rattle.task_model.proofs.Laws.{entries-next, entries-stop}
@@ -15,9 +15,9 @@ use Rattle.task_model.proofs.Theorems.{entries-accepted}
 use Rattle.plan_file.specs.declared.Row.{Row}
 use Rattle.plan_file.specs.Plan.{entryCount}
 use Rattle.plan_file.specs.Decoding.{rowAt, rowsFrom, entryIn, entriesAt}
-use Rattle.plan_file.specs.Check.{_andThen_, nodesCheck}
+use Rattle.plan_file.specs.Check.{nodesCheck}
 use Rattle.plan_file.proofs.Contents.{rows-first, rows-end}
-use Rattle.plan_file.proofs.Outcomes.{then-accepted}
+use Rattle.task_model.proofs.Outcomes.{then-accepted}
 
 pub length-entries-at : (f : List ℕ) (k n : ℕ) → length (entriesAt f k n) ≡ n
 unfolding entriesAt
@@ -86,7 +86,7 @@ module _ (f : List ℕ) (k i n : ℕ) where
   bodies-end h = rw (rows-end f i n h)
 
 -- entries that are all within the limits are accepted, whatever rows they are divided into
-pub nodes-accepted : (i : ℕ) (rs : List Row) (es : List Entry) → AllHold es → nodesCheck i rs es ≡ accepted
+nodes-accepted : (i : ℕ) (rs : List Row) (es : List Entry) → AllHold es → nodesCheck i rs es ≡ accepted
 unfolding nodesCheck
 nodes-accepted i [] es a = refl
 nodes-accepted i (r ∷ rs) es a =
@@ -95,3 +95,8 @@ nodes-accepted i (r ∷ rs) es a =
     (entries-accepted i 0 (take n es) .1
     (λ j h. rw (getD-take n es j noEntry (omega (arith, length-take n es))) (a j (omega (arith, length-take n es)))))
     ∙ nodes-accepted (suc i) rs (drop n es) (λ j h. rw getD-drop (a (n + j) (omega (arith, length-drop n es))))
+
+-- so those of a file are, if they are accepted as one body
+pub whole-accepted : (f : List ℕ) (k n m : ℕ) (rs : List Row) → entriesCheck 0 0 (entriesAt f k n) ≡ accepted → n ≡ m
+    → nodesCheck 0 rs (entriesAt f k m) ≡ accepted
+whole-accepted f k n m rs a e = nodes-accepted 0 rs (entriesAt f k m) (entries-accepted 0 0 (entriesAt f k m) .0 (rw e at a))

@@ -9,11 +9,11 @@ use native.Mathlib.Numerals.{add-one}
 use lib.ListN.{length, length-map}
 use lib.Dec.{eqb}
 use borrow.Author.Tests.{eq-eqb, ne-eqb}
-use Rattle.task_model.specs.Refusals.{at, refused}
+use Rattle.task_model.specs.Refusals.{at, refused, mustHold}
 use Rattle.plan_file.specs.declared.Row.{Row}
 use Rattle.plan_file.specs.Plan.{entryCount, rowWord}
 use Rattle.plan_file.specs.Decoding.{wordAt, rowAt, offsetAt, rowsFrom}
-use Rattle.plan_file.specs.Check.{mustHold, rowTest, contentsCheck, layoutCheck}
+use Rattle.plan_file.specs.Check.{rowTest, contentsCheck, layoutCheck}
 use Rattle.plan_file.proofs.Words.{row-word}
 
 pub length-rows : (f : List ℕ) (i n : ℕ) → length (rowsFrom f i n) ≡ n

@@ -8,13 +8,13 @@ use lib.ListN.{length, getD, drop}
 use lib.Seq.{drop-drop, drop-append-seam, getD-drop}
 use borrow.Author.Tests.{eq-eqb}
 use Rattle.task_model.specs.declared.Entry.{Entry}
-use Rattle.task_model.specs.Refusals.{accepted}
+use Rattle.task_model.specs.Refusals.{accepted, mustHold}
 use Rattle.plan_file.specs.declared.Row.{Row}
 use Rattle.plan_file.specs.Plan.{Plan, entryCount, rowWord, rowOf, RowFits, EntryFits, RowsFit, EntriesFit, PlanFits}
 use Rattle.plan_file.specs.Encoding.{low, headerBytes, rowBytes, entryBytes, bodiesStart, contentsBytes, bodiesBytes, encoding}
 use Rattle.plan_file.specs.Decoding.{wordAt, nodeCount, rowAt, offsetAt, rowsFrom, rowsIn, entryIn, entriesAt, entriesIn, planIn}
-use Rattle.plan_file.specs.Check.{mustHold, rowTest, rowsCheck, contentsCheck, layoutCheck, headerCheck, fileCheck, planCheck}
-use Rattle.plan_file.proofs.Outcomes.{both-accepted, demanded}
+use Rattle.plan_file.specs.Check.{rowTest, rowsCheck, contentsCheck, layoutCheck, headerCheck, fileCheck, planCheck}
+use Rattle.task_model.proofs.Outcomes.{both-accepted, demanded}
 use Rattle.plan_file.proofs.Tests.{row-holds, opens-true, counted-true}
 use Rattle.plan_file.proofs.Words.{entryWith, entry-in, row-bytes, entry-bytes}
 use Rattle.plan_file.proofs.Encoding.{length-encoding}

@@ -10,7 +10,7 @@ use Rattle.plan_file.specs.Plan.{entryCount}
 use Rattle.plan_file.specs.Encoding.{bodiesStart}
 use Rattle.plan_file.specs.Decoding.{nodeCount, rowsIn, entriesIn}
 use Rattle.plan_file.specs.Check.{headerCheck, contentsCheck, layoutCheck, nodesCheck, fileCheck}
-use Rattle.plan_file.proofs.Outcomes.{both-accepted, demanded}
+use Rattle.task_model.proofs.Outcomes.{both-accepted, demanded}
 use Rattle.plan_file.proofs.Header.{HeaderHolds, header-holds}
 
 pub layout-holds : (f : List ℕ) (i least required : ℕ) (rows : List Row) → layoutCheck f i least required rows ≡ accepted

@@ -7,12 +7,12 @@ use lib.ListN.{length}
 use lib.Dec.{eqb}
 use borrow.Author.Tests.{le-leb, leb-true, eqb-true}
 use Rattle.task_model.specs.declared.Entry.{Entry}
-use Rattle.task_model.specs.Refusals.{Numbered, at, Outcome, accepted, refused}
+use Rattle.task_model.specs.Refusals.{Numbered, at, Outcome, accepted, refused, _andThen_, mustHold}
 use Rattle.task_model.proofs.Laws.{and-true, decided}
 use Rattle.plan_file.specs.declared.Row.{Row}
 use Rattle.plan_file.specs.Plan.{entryCount}
-use Rattle.plan_file.specs.Check.{_andThen_, mustHold, countTest, rowsCheck, nodesCheck, handedCheck}
-use Rattle.plan_file.proofs.Outcomes.{both-accepted, then-assoc, demanded}
+use Rattle.plan_file.specs.Check.{countTest, rowsCheck, nodesCheck, handedCheck}
+use Rattle.task_model.proofs.Outcomes.{both-accepted, then-assoc, demanded}
 
 pub count-true : (n : ℕ) → 1 ≤ n → n ≤ 32 → countTest n ≡ true
 unfolding countTest

@@ -9,7 +9,7 @@ use Rattle.task_model.specs.Refusals.{at, accepted, refused}
 use Rattle.plan_file.specs.Encoding.{bodiesStart}
 use Rattle.plan_file.specs.Decoding.{nodeCount}
 use Rattle.plan_file.specs.Check.{openingTest, countTest, zerosTest, headerCheck}
-use Rattle.plan_file.proofs.Outcomes.{both-accepted, demanded}
+use Rattle.task_model.proofs.Outcomes.{both-accepted, demanded}
 use Rattle.plan_file.proofs.Tests.{Opens, opens-hold, Counted, counted-hold}
 
 module _ (f : List ℕ) where

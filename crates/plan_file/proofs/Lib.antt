@@ -1,6 +1,5 @@
 -- Laws that the functions' proofs and other crates cite, and the theorems of plan files.
 -- Checks one after another, and what their tests say.
-pub mod Outcomes
 pub mod Tests
 -- Words, and stores into buffers.
 pub mod Words

@@ -6,11 +6,11 @@ use native.Mathlib.Omega.{arith}
 use native.Mathlib.Nat.{add-zero, zero-add}
 use native.Mathlib.Numerals.{add-one}
 use lib.ListN.{length, getD, take, drop}
-use Rattle.task_model.specs.Refusals.{Numbered, Outcome, accepted, refused}
+use Rattle.task_model.specs.Refusals.{Numbered, Outcome, accepted, refused, _andThen_}
 use Rattle.task_model.specs.Checks.{entriesCheck}
 use Rattle.task_model.specs.Words.{entryOf, entriesFrom}
 use Rattle.plan_file.specs.Plan.{entryCount, rowOf}
-use Rattle.plan_file.specs.Check.{_andThen_, nodesCheck}
+use Rattle.plan_file.specs.Check.{nodesCheck}
 use Rattle.plan_file.proofs.Rows.{rowsAfter, rows-after, after-end}
 
 pub take-from : (ws : List ℕ) (j n m : ℕ) → take n (entriesFrom ws j (n + m)) ≡ entriesFrom ws j n

@@ -18,7 +18,7 @@ use Rattle.plan_file.specs.Encoding.{bodiesStart}
 use Rattle.plan_file.specs.Decoding.{nodeCount, rowAt, offsetAt, rowsFrom, rowsIn, entriesAt, entriesIn, planIn}
 use Rattle.plan_file.specs.Check.{contentsCheck, nodesCheck, fileCheck}
 use Rattle.plan_file.specs.Find.{rowIn, nodeOfRow}
-use Rattle.plan_file.proofs.Outcomes.{both-accepted, demanded}
+use Rattle.task_model.proofs.Outcomes.{both-accepted, demanded}
 use Rattle.plan_file.proofs.Tests.{RowHolds, row-holds}
 use Rattle.plan_file.proofs.Contents.{length-rows}
 use Rattle.plan_file.proofs.Bodies.{length-entries-at, take-entries, drop-entries}

@@ -11,7 +11,8 @@ use Rattle.plan_file.specs.Encoding.{bodiesStart}
 use Rattle.plan_file.specs.Decoding.{nodeCount, rowAt, offsetAt, rowsIn, entriesIn}
 use Rattle.plan_file.specs.Check.{fileCheck}
 use Rattle.plan_file.specs.Find.{rowOfNumber, findCheck}
-use Rattle.plan_file.specs.Answers.{gives, refuses, readAnswer, findAnswer}
+use Rattle.plan_file.specs.Answers.{readAnswer, findAnswer}
+use Rattle.task_model.specs.Answers.{gives, refuses}
 use Rattle.plan_file.proofs.Contents.{length-rows}
 use Rattle.plan_file.proofs.Bodies.{length-entries-at}
 use Rattle.plan_file.proofs.Nodes.{node-at}

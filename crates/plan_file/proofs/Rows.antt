@@ -8,11 +8,11 @@ use native.Mathlib.Numerals.{add-one}
 use lib.ListN.{length, getD, take, drop, drop-of-length-le, length-map}
 use lib.Seq.{drop-cons, take-suc, length-take-le}
 use lib.Dec.{eqb}
-use Rattle.task_model.specs.Refusals.{at, Outcome, refused}
+use Rattle.task_model.specs.Refusals.{at, Outcome, refused, _andThen_, mustHold}
 use Rattle.plan_file.specs.declared.Row.{Row}
 use Rattle.plan_file.specs.Plan.{entryCount, rowOf}
 use Rattle.plan_file.specs.Encoding.{rowBytes, contentsBytes}
-use Rattle.plan_file.specs.Check.{_andThen_, mustHold, rowTest, rowsCheck}
+use Rattle.plan_file.specs.Check.{rowTest, rowsCheck}
 use Rattle.plan_file.proofs.Encoding.{count-snoc, contents-snoc, length-contents}
 
 -- the rows from index `i` on

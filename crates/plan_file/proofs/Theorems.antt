@@ -20,7 +20,7 @@ use Rattle.plan_file.specs.Encoding.{bodiesStart, encoding, Bytes}
 use Rattle.plan_file.specs.Decoding.{wordAt, wordsFrom, nodeCount, rowAt, offsetAt, rowsIn, entryIn, entriesIn, planIn}
 use Rattle.plan_file.specs.Check.{countTest, rowTest, rowsCheck, nodesCheck, handedCheck, fileCheck, planCheck, wordsCheck}
 use Rattle.plan_file.specs.Find.{rowIn, nodeOfRow, rowOfNumber, findCheck, nodeFound}
-use Rattle.plan_file.proofs.Outcomes.{then-accepted, mustHold-accepts, mustHold-refuses}
+use Rattle.task_model.proofs.Outcomes.{then-accepted, mustHold-accepts, mustHold-refuses}
 use Rattle.plan_file.proofs.Words.{entryWith, entry-in, length-words}
 use Rattle.plan_file.proofs.Contents.{length-rows}
 use Rattle.plan_file.proofs.Bodies.{length-entries-at}

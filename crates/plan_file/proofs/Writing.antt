@@ -13,7 +13,8 @@ use Rattle.plan_file.specs.Plan.{rowOf, planOf}
 use Rattle.plan_file.specs.Encoding.{headerBytes, bodiesStart, contentsBytes, bodiesBytes, encoding}
 use Rattle.plan_file.specs.Check.{wordsCheck}
 use Rattle.plan_file.specs.Buffers.{over}
-use Rattle.plan_file.specs.Answers.{gives, refuses, writeAnswer}
+use Rattle.plan_file.specs.Answers.{writeAnswer}
+use Rattle.task_model.specs.Answers.{gives, refuses}
 use Rattle.plan_file.proofs.Buffers.{over-next}
 use Rattle.plan_file.proofs.Encoding.{length-header, length-contents, length-encoding}
 use Rattle.plan_file.proofs.Handed.{handed-holds}

@@ -1,11 +1,12 @@
--- What the reader, the writer and the finder answer, and what they leave in lent buffers.
+-- What the reader, the writer and the finder answer.
 use Prim.Native.Nat.{ℕ, _+_, _*_}
 use mathlib.Core.Bool.{Bool, _&&_}
 use mathlib.Core.Path.{_≡_}
 use mathlib.Core.List.{List, _++_}
 use lib.ListN.{length, drop}
 use lib.Dec.{leb}
-use Rattle.task_model.specs.Refusals.{Numbered, at, numbered, Outcome, accepted, refused}
+use Rattle.task_model.specs.Refusals.{at, numbered, _andThen_, mustHold}
+use Rattle.task_model.specs.Answers.{Answer, gives, refuses, giving}
 use Rattle.task_model.specs.Limits.{Node}
 use Rattle.task_model.specs.Words.{nodeOf}
 use Rattle.plan_file.specs.declared.Row.{Row}
@@ -18,23 +19,8 @@ use Rattle.plan_file.specs.declared.FoundNode.the-variants as found
 use Rattle.plan_file.specs.Plan.{Plan, wordsOf, planOf}
 use Rattle.plan_file.specs.Encoding.{encoding}
 use Rattle.plan_file.specs.Decoding.{rowAt, planIn}
-use Rattle.plan_file.specs.Check.{_andThen_, mustHold, fileCheck, wordsCheck}
+use Rattle.plan_file.specs.Check.{fileCheck, wordsCheck}
 use Rattle.plan_file.specs.Find.{nodeOfRow, findCheck, nodeFound}
-
--- An answer: what is given, or the refusal's number, row and entry.
-pub data Answer (A : Type 0) : Type 0 where
-  gives : A → Answer A
-  refuses : Numbered → Answer A
-
--- What is given where nothing is refused.
-abbrev pub giving : {A : Type 0} → Outcome → A → Answer A
-giving accepted a = gives a
-giving (refused r) a = refuses r
-
--- A lent buffer as a call leaves it: what is given from its start on, and what lies beyond kept; a refusal leaves it untouched.
-abbrev pub left : {A : Type 0} → Answer A → List ℕ → List ℕ → List ℕ
-left (gives a) new old = new ++ drop (length new) old
-left (refuses r) new old = old
 
 -- How many rows and entries the reader fills.
 pub record Sizes : Type 0 where

@@ -1,27 +1,16 @@
 -- The checks of a plan file, and the writer's of a plan, each in its order.
 use Prim.Native.Nat.{ℕ, suc, _+_, _*_}
-use mathlib.Core.Bool.{Bool, true, false, _&&_}
+use mathlib.Core.Bool.{Bool, _&&_}
 use mathlib.Core.List.{List, [], _∷_}
 use lib.ListN.{length, getD, take, drop}
 use lib.Dec.{leb, eqb}
 use Rattle.task_model.specs.declared.Entry.{Entry}
-use Rattle.task_model.specs.Refusals.{Numbered, at, Outcome, accepted, refused}
+use Rattle.task_model.specs.Refusals.{at, Outcome, accepted, _andThen_, mustHold}
 use Rattle.task_model.specs.Checks.{sizeTest, entriesCheck}
 use Rattle.plan_file.specs.declared.Row.{Row}
 use Rattle.plan_file.specs.Plan.{Plan, entryCount, planOf}
 use Rattle.plan_file.specs.Encoding.{opening, bodiesStart}
 use Rattle.plan_file.specs.Decoding.{nodeCount, offsetAt, rowsIn, entriesIn}
-
-infixr 20 _andThen_
--- One check after another: the first refusal that is met.
-abbrev pub _andThen_ : Outcome → Outcome → Outcome
-refused r andThen next = refused r
-accepted andThen next = next
-
--- A check of one fact: refused as said where the fact does not hold.
-abbrev pub mustHold : Bool → Numbered → Outcome
-mustHold true r = accepted
-mustHold false r = refused r
 
 -- Byte `i` of a file is that of the opening.
 abbrev pub opensAt : List ℕ → ℕ → Bool

@@ -4,11 +4,11 @@ use mathlib.Core.Bool.{true, false}
 use mathlib.Core.List.{List, [], _∷_}
 use lib.ListN.{length, getD, take, drop}
 use lib.Dec.{ltb, eqb}
-use Rattle.task_model.specs.Refusals.{at, Outcome}
+use Rattle.task_model.specs.Refusals.{at, Outcome, _andThen_, mustHold}
 use Rattle.task_model.specs.Limits.{Node}
 use Rattle.plan_file.specs.declared.Row.{Row}
 use Rattle.plan_file.specs.Plan.{Plan, entryCount}
-use Rattle.plan_file.specs.Check.{_andThen_, mustHold, fileCheck}
+use Rattle.plan_file.specs.Check.{fileCheck}
 use Rattle.plan_file.specs.Decoding.{planIn, rowsIn}
 
 -- What stands at an index that the rows do not have. Nothing that is proved goes by it.

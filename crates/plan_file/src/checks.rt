@@ -17,13 +17,13 @@ ghost use lib.ListN.{length};
 ghost use mathlib.Core.Bool.{_&&_};
 ghost use lib.Dec.{eqb};
 ghost use Prim.Native.Nat.{_+_, _*_, _≤_};
-ghost use Rattle.task_model.specs.Refusals.{outcome, at};
+ghost use Rattle.task_model.specs.Refusals.{outcome, at, _andThen_, mustHold};
 ghost use Rattle.task_model.specs.Checks.{entriesCheck};
 ghost use Rattle.task_model.specs.Words.{entriesFrom};
 ghost use Rattle.plan_file.specs.Plan.{entryCount, rowOf};
 ghost use Rattle.plan_file.specs.Encoding.{bodiesStart};
 ghost use Rattle.plan_file.specs.Decoding.{nodeCount, offsetAt, rowsFrom, entriesAt};
-ghost use Rattle.plan_file.specs.Check.{_andThen_, mustHold, openingTest, zerosTest, countTest, rowTest, rowsCheck, layoutCheck, nodesCheck, headerCheck};
+ghost use Rattle.plan_file.specs.Check.{openingTest, zerosTest, countTest, rowTest, rowsCheck, layoutCheck, nodesCheck, headerCheck};
 
 // Whether a row's number is not below the least, and its levels and entry count are within the limits.
 fn row_holds(least: u32, r: Row) -> bool

@@ -31,7 +31,8 @@ ghost use Rattle.plan_file.specs.Encoding.{bodiesStart, encoding};
 ghost use Rattle.plan_file.specs.Decoding.{nodeCount, rowAt, rowsFrom, planIn};
 ghost use Rattle.plan_file.specs.Check.{fileCheck, wordsCheck};
 ghost use Rattle.plan_file.specs.Find.{rowOfNumber, nodeFound};
-ghost use Rattle.plan_file.specs.Answers.{left, Loaded, Holding, readGives, readAnswer, writeGives, writeAnswer, findGives, findAnswer};
+ghost use Rattle.plan_file.specs.Answers.{Loaded, Holding, readGives, readAnswer, writeGives, writeAnswer, findGives, findAnswer};
+ghost use Rattle.task_model.specs.Answers.{left};
 
 // The four bytes that a plan file opens with.
 const OPENING: [u8; 4] = *b"LMP1";

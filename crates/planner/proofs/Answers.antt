@@ -8,7 +8,8 @@ use borrow.Author.Tests.{le-leb, lt-leb}
 use Rattle.task_model.specs.Refusals.{Numbered, at, Outcome}
 use Rattle.task_model.specs.Refusals as check
 use Rattle.task_model.specs.Limits.{Node, NodeHolds}
-use Rattle.plan_file.specs.Answers.{gives, refuses, giving, Shape, findAnswer}
+use Rattle.plan_file.specs.Answers.{Shape, findAnswer}
+use Rattle.task_model.specs.Answers.{gives, refuses, giving}
 use Rattle.plan_file.specs.Find.{findCheck, nodeFound}
 use Rattle.level_map.specs.Map.{theMap}
 use Rattle.level_map.specs.Answer.{Answer, refused, answerOf, bufferOf}

@@ -10,7 +10,7 @@ use Rattle.task_model.specs.Limits.{NodeHolds}
 use Rattle.plan_file.specs.Check.{fileCheck}
 use Rattle.plan_file.specs.Decoding.{nodeCount, rowsIn}
 use Rattle.plan_file.specs.Find.{rowOfNumber, findCheck, nodeFound}
-use Rattle.plan_file.proofs.Outcomes.{both-accepted, demanded}
+use Rattle.task_model.proofs.Outcomes.{both-accepted, demanded}
 use Rattle.plan_file.proofs.Contents.{length-rows}
 use Rattle.plan_file.proofs.Theorems.{nodes-hold}
 

@@ -3,7 +3,8 @@ use Prim.Native.Nat.{ℕ}
 use mathlib.Core.List.{List, [], _∷_}
 use Rattle.task_model.specs.Refusals.{Numbered, Outcome, accepted, refused}
 use Rattle.completion.specs.Test.{Completion, on-time, late}
-use Rattle.plan_file.specs.Answers.{Answer, gives, refuses, Sizes}
+use Rattle.plan_file.specs.Answers.{Sizes}
+use Rattle.task_model.specs.Answers.{Answer, gives, refuses}
 use Rattle.level_map.specs.Answer as map
 
 -- The number that is returned, and the values as the call leaves them.

@@ -8,19 +8,18 @@ use lib.Dec.{leb, ltb}
 use borrow.Author.Tests.{le-leb, lt-leb, lt-ltb, le-ltb, leb-true, ltb-true}
 use Rattle.task_model.specs.declared.Entry.{Entry}
 use Rattle.task_model.specs.declared.Checked.{Checked}
-use Rattle.task_model.specs.Refusals.{Numbered, at, accepted, refused, outcome}
+use Rattle.task_model.specs.Refusals.{Numbered, at, accepted, refused, outcome, _andThen_}
 use Rattle.task_model.specs.Limits.{Node, AllHold}
 use Rattle.task_model.specs.Checks.{entryCheck, nodeCheck}
 use Rattle.task_model.proofs.Laws.{and-true, decided, length-entries}
 use Rattle.task_model.proofs.Theorems.{node-accepted}
 use Rattle.completion.specs.Group.{groupLevel}
 use Rattle.completion.specs.Test.{completionTest}
-use Rattle.plan_file.specs.Check.{_andThen_}
-use Rattle.plan_file.proofs.Outcomes.{then-refused, then-accepted, then-assoc, both-accepted, mustHold-refuses, demanded}
+use Rattle.task_model.proofs.Outcomes.{then-refused, then-accepted, then-assoc, both-accepted, mustHold-refuses, demanded}
 use Rattle.session.specs.declared.Session.{Session}
 use Rattle.session.specs.State.{nodeIn, sessionOf}
 use Rattle.session.specs.Operations.{Operation, inserting, removing, replacing, settingLevels, timing, levelsCheck, operationCheck, lentCheck, stepCheck, changed}
-use Rattle.plan_file.specs.Answers.{gives, refuses}
+use Rattle.task_model.specs.Answers.{gives, refuses}
 use Rattle.session.specs.Timing.{timeAnswer}
 use Rattle.session.specs.Steps.{sessionAfter, Follows}
 

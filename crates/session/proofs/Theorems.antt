@@ -20,7 +20,7 @@ use Rattle.planner.specs.Mapping.{heldAnswer, heldBuffer, fileAnswer, fileBuffe
 use Rattle.session.specs.declared.Session.{Session}
 use Rattle.session.specs.State.{nodeIn, sessionOf, Sound, zeros, blankSession}
 use Rattle.session.specs.Operations.{refusalIn, Operation, opening, inserting, removing, replacing, settingLevels, mapping, timing, AllCallable, operationCheck, emptyNode, nodeAfterAll, answersAll, lentCheck, stepCheck, changed}
-use Rattle.plan_file.specs.Answers.{gives, refuses}
+use Rattle.task_model.specs.Answers.{gives, refuses}
 use Rattle.session.specs.Timing.{timeAnswer}
 use Rattle.session.specs.Mapping.{mapAnswer, mapBuffer}
 use Rattle.session.specs.Plan.{oneRow}

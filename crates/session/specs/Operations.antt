@@ -6,12 +6,11 @@ use mathlib.Core.List.{List, [], _∷_, _++_}
 use lib.ListN.{length, take, drop}
 use lib.Dec.{leb, ltb}
 use Rattle.task_model.specs.declared.Entry.{Entry}
-use Rattle.task_model.specs.Refusals.{at, Outcome, accepted, refused}
+use Rattle.task_model.specs.Refusals.{at, Outcome, accepted, refused, _andThen_, mustHold}
 use Rattle.task_model.specs.Limits.{Node}
 use Rattle.task_model.specs.Checks.{entryCheck, nodeCheck}
 use Rattle.level_map.specs.Answer.{Answer, mapped}
 use Rattle.level_map.specs.Answer as map
-use Rattle.plan_file.specs.Check.{_andThen_, mustHold}
 use Rattle.planner.specs.Mapping.{heldAnswer}
 
 pub data Operation : Type 0 where

@@ -7,7 +7,7 @@ use Rattle.completion.specs.Test.{Completion, completion, completionTest}
 use Rattle.session.specs.declared.TimeAnswer.{TimeAnswer}
 use Rattle.session.specs.declared.TimeAnswer.the-variants.{Answered, Refused}
 use Rattle.session.specs.Operations.{timing, stepCheck}
-use Rattle.plan_file.specs.Answers.{Answer, gives, refuses, giving}
+use Rattle.task_model.specs.Answers.{Answer, gives, refuses, giving}
 
 -- What the code's answer says: on time, with the completion time and the rounds, or late, with the rounds; or the refusal.
 abbrev pub timeGives : TimeAnswer → Answer Completion

@@ -1,3 +1,4 @@
 -- Laws that the functions' proofs and other crates cite, and the theorems of the checks.
+pub mod Outcomes
 pub mod Laws
 pub mod Theorems

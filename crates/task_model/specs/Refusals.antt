@@ -1,5 +1,6 @@
 -- The table of refusals: what a user sees of each.
 use Prim.Native.Nat.{ℕ}
+use mathlib.Core.Bool.{Bool, true, false}
 use Rattle.task_model.specs.declared.Refusal.{Refusal}
 use Rattle.task_model.specs.declared.Refusal.the-variants.{
   ShortFile,
@@ -56,3 +57,14 @@ pub data Outcome : Type 0 where
 abbrev pub outcome : Checked → Outcome
 outcome Accepted = accepted
 outcome (Refused r) = refused (numbered r)
+
+infixr 20 _andThen_
+-- One check after another: the first refusal that is met.
+abbrev pub _andThen_ : Outcome → Outcome → Outcome
+refused r andThen next = refused r
+accepted andThen next = next
+
+-- A check of one fact: refused as said where the fact does not hold.
+abbrev pub mustHold : Bool → Numbered → Outcome
+mustHold true r = accepted
+mustHold false r = refused r

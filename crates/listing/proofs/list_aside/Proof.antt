@@ -4,7 +4,7 @@ use mathlib.Core.List.{List}
 use native.Mathlib.Omega.{arith}
 use lib.ListN.{length, take}
 use Rattle.text.specs.Text.{written}
-use Rattle.plan_file.specs.Answers.{gives}
+use Rattle.task_model.specs.Answers.{gives}
 use Rattle.text.proofs.Writing.{written-front, front-text}
 use Rattle.listing.specs.Listing.{listing}
 use Rattle.listing.proofs.Lines.{upto-end}

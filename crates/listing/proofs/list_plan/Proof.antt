@@ -1,6 +1,6 @@
 use mathlib.Core.Path.{_∙_, ap, sym}
 use native.Mathlib.Omega.{arith}
-use Rattle.plan_file.specs.Answers.{gives}
+use Rattle.task_model.specs.Answers.{gives}
 use Rattle.text.proofs.Writing.{written-front}
 use Rattle.listing.specs.Listing.{listing}
 use Rattle.listing.proofs.Lines.{upto-end}

@@ -1,6 +1,6 @@
 use mathlib.Core.Path.{_∙_, sym, ap}
 use Rattle.task_model.specs.Refusals.{outcome}
-use Rattle.plan_file.specs.Answers.{gives}
+use Rattle.task_model.specs.Answers.{gives}
 use Rattle.session.proofs.Checking.{time-ready, time-refused, time-given}
 use borrow.Author.Needs.{needs}
 use Rattle.session.proofs.timed.Statement.{statement}

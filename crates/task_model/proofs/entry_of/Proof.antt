@@ -50,7 +50,7 @@ entry-with-requires c κs = search needs
 
 returns : tie.Need-returns
 unfolding entryFrom
-returns c = search needs
+returns c = c .entry-with .ensures
 
 pub entry-of-spec : {M : Type 1} → statement M
 entry-of-spec =

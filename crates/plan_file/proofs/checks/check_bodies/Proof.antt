@@ -1,13 +1,7 @@
-use Prim.Native.Nat.{_-_, _/_}
-use mathlib.Core.Path.{_≡_, _∙_, sym, ap}
+use mathlib.Core.Path.{_∙_, sym, ap}
 use native.Mathlib.Omega.{arith}
-use lib.ListN.{length}
 use Rattle.task_model.specs.Refusals.{outcome}
-use Rattle.task_model.proofs.Theorems.{entries-accepted}
-use Rattle.plan_file.specs.Decoding.{rowsFrom}
-use Rattle.plan_file.specs.Encoding.{bodiesStart}
-use Rattle.plan_file.specs.Plan.{entryCount}
-use Rattle.plan_file.proofs.Bodies.{nodes-accepted}
+use Rattle.plan_file.proofs.Bodies.{whole-accepted}
 use borrow.Author.Needs.{needs}
 use Rattle.plan_file.proofs.checks.check_bodies.Statement.{statement}
 use Rattle.plan_file.proofs.checks.check_bodies.Tie as tie
@@ -29,13 +23,8 @@ enum-told c = search needs
 
 returns : tie.Need-returns
 returns c =
-    let f = c .before .before .before .before .args .file .now in
-    let n = c .before .before .before .before .args .nodes in
     let told = ap outcome (c .enum-told .given .1) in
-    let all : (length f - bodiesStart n) / 20 ≡ entryCount (rowsFrom f 0 n) = omega arith in
-    told
-    ∙ sym
-    (nodes-accepted 0 _ _ (entries-accepted 0 0 _ .0 (rw all at (sym (c .before .before .check-body .ensures) ∙ told))))
+    told ∙ sym (whole-accepted _ _ _ _ _ (sym (c .before .before .check-body .ensures) ∙ told) (omega arith))
 
 enum-told-2 : tie.Need-enum-told-2
 enum-told-2 c = search needs

@@ -1,9 +1,8 @@
 -- Laws of checks that follow one another.
 use mathlib.Core.Path.{_≡_, refl}
 use mathlib.Core.Bool.{Bool, true, false}
-use Rattle.task_model.specs.Refusals.{Numbered, Outcome, accepted, refused}
+use Rattle.task_model.specs.Refusals.{Numbered, Outcome, accepted, refused, _andThen_, mustHold}
 use Rattle.task_model.proofs.Theorems.{not-both}
-use Rattle.plan_file.specs.Check.{_andThen_, mustHold}
 
 pub then-refused : (a b : Outcome) (r : Numbered) → a ≡ refused r → a andThen b ≡ refused r
 then-refused a b r p = rw p
