@@ -160,7 +160,18 @@ fn completion(entries: &[Entry], first: usize, last: usize, i: usize) -> Option<
 }
 
 fn least_start(entries: &[Entry], end: usize) -> Option<usize> {
-    (0..end).find(|&start| (start..end).all(|i| completion(entries, start, end - 1, i).is_some()))
+    let mut start = 0;
+    'starts: while start < end {
+        for i in start..end {
+            if completion(entries, start, end - 1, i).is_none() {
+                // It is late in each group that starts later and has it.
+                start = i + 1;
+                continue 'starts;
+            }
+        }
+        return Some(start);
+    }
+    None
 }
 
 /// The levels of a node, and how many it uses.

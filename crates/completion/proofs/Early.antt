@@ -13,7 +13,7 @@ use Rattle.task_model.proofs.Laws.{length-entries, entry-of, all-at}
 use Rattle.completion.specs.Demand.{sumTo, demand, start}
 use Rattle.completion.specs.Group.{groupLevel}
 use Rattle.completion.specs.Test.{completionTest, isOnTime}
-use Rattle.completion.specs.Load.{recurringLoad, recurringRun}
+use Rattle.completion.specs.Load.{one, recurringLoad, recurringRun}
 use Rattle.completion.proofs.Sums.{sumTo-up, sumTo-more}
 use Rattle.completion.proofs.Words.{in-words, wcetOf, words-start}
 use Rattle.completion.proofs.Theorems.{not-before, on-time-some, late-none}
@@ -51,7 +51,7 @@ module _ (ws : List ℕ) (n : ℕ) (all : AllHold (entriesOf ws n)) (first last 
   -- no time at which the demand is met is before a bound by the load
   pub not-earlier : (s x : ℕ) → s ≡ start (entriesOf ws n) (groupLevel first last) i
       → ((t : ℕ) → s ≤ t
-      → 4294967296 * (s - sumTo (runOf (own .deadline) ws) first) ≤ (4294967296 - sumTo (loadOf (own .deadline) ws) first) * t
+      → one * (s - sumTo (runOf (own .deadline) ws) first) ≤ (one - sumTo (loadOf (own .deadline) ws) first) * t
       → x ≤ t)
       → (t : ℕ) → demand (entriesOf ws n) (groupLevel first last) i t ≤ t → x ≤ t
   not-earlier s x p h t w =

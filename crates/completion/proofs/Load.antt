@@ -12,9 +12,9 @@ use Rattle.task_model.specs.declared.Entry.{Entry}
 use Rattle.task_model.specs.Limits.{entryAt, TimesHold, AllHold}
 use Rattle.completion.specs.Demand.{releases, sumTo, urgentShare, demand, start}
 use Rattle.completion.specs.Group.{groupLevel}
-use Rattle.completion.specs.Load.{load, recurringLoad, recurringRun}
+use Rattle.completion.specs.Load.{one, load, recurringLoad, recurringRun}
 use Rattle.completion.proofs.Releases.{releases-more, urgent-first, urgent-up, beside-first, beside-up}
-use Rattle.completion.proofs.Sums.{sumTo-none, sumTo-suc, sumTo-more, sumTo-eq, sumTo-add, sumTo-up, sumTo-le}
+use Rattle.completion.proofs.Sums.{sumTo-none, sumTo-suc, sumTo-more, sumTo-eq, sumTo-add, sumTo-up, sumTo-le, part-le}
 use Rattle.completion.proofs.Shares.{demand-some}
 use Rattle.completion.proofs.Groups.{urgentIn, besideIn, wcetIn, named-group, demand-in, start-in}
 
@@ -25,21 +25,21 @@ covered e h t =
     (λ p. p)
     (λ p. absurd (omega (arith, releases-more e h t (releases e t) (omega arith))))
 
-load-share : (e : Entry) → TimesHold e → (t : ℕ) → load e * t ≤ 4294967296 * urgentShare e t
+load-share : (e : Entry) → TimesHold e → (t : ℕ) → load e * t ≤ one * urgentShare e t
 unfolding load urgentShare
 load-share e h t =
-    let q : ℕ = (4294967296 * e .wcet) / e .period in
-    let below : q * e .period ≤ 4294967296 * e .wcet = div-mul-le-self (4294967296 * e .wcet) (e .period) in
+    let q : ℕ = (one * e .wcet) / e .period in
+    let below : q * e .period ≤ one * e .wcet = div-mul-le-self (one * e .wcet) (e .period) in
     let most : q * t ≤ q * (e .period * releases e t) = mul-le-mul-left q (covered e (omega arith) t) in
-    let runs : (q * e .period) * releases e t ≤ (4294967296 * e .wcet) * releases e t = mul-le-mul-right (releases e t) below in
-    omega (arith, sym (mul-assoc q (e .period) (releases e t)), mul-assoc 4294967296 (e .wcet) (releases e t))
+    let runs : (q * e .period) * releases e t ≤ (one * e .wcet) * releases e t = mul-le-mul-right (releases e t) below in
+    omega (arith, sym (mul-assoc q (e .period) (releases e t)), mul-assoc one (e .wcet) (releases e t))
 
 -- no entry has a load above 1, since C is at most T
-load-most : (e : Entry) → TimesHold e → load e ≤ 4294967296
+load-most : (e : Entry) → TimesHold e → load e ≤ one
 unfolding load
 load-most e h =
-    let below : (4294967296 * e .wcet) / e .period < 4294967297 =
-    div-lt-iff-lt-mul {k = e .period} {x = 4294967296 * e .wcet} {y = 4294967297} (omega arith) .1 (omega (arith, h .due, h .periodic)) in
+    let below : (one * e .wcet) / e .period < 17179869185 =
+    div-lt-iff-lt-mul {k = e .period} {x = one * e .wcet} {y = 17179869185} (omega arith) .1 (omega (arith, h .due, h .periodic)) in
     omega arith
 
 -- what an entry adds to the sums of the code, by whether its period is shorter than the deadline
@@ -58,7 +58,7 @@ module _ (d : ℕ) (e : Entry) where
       (λ h. omega (arith, recurs h))
       (λ h. omega (arith, recurs-not (omega arith)))
 
-  pub recurring-load-most : TimesHold e → recurringLoad d e ≤ 4294967296
+  pub recurring-load-most : TimesHold e → recurringLoad d e ≤ one
   recurring-load-most ok =
       by-cases (decLt (e .period) d)
       (λ h. omega (arith, recurs h, load-most e ok))
@@ -66,7 +66,7 @@ module _ (d : ℕ) (e : Entry) where
 
   -- one run, or the load times t, is no more than the share
   recurring-share : TimesHold e → (t : ℕ) → 1 ≤ t
-      → 4294967296 * e .wcet + recurringLoad d e * t ≤ 4294967296 * (urgentShare e t + recurringRun d e)
+      → one * e .wcet + recurringLoad d e * t ≤ one * (urgentShare e t + recurringRun d e)
   recurring-share ok t p =
       by-cases (decLt (e .period) d)
       (λ h. rw (recurs h .0, recurs h .1) (omega (arith, load-share e ok t)))
@@ -81,8 +81,8 @@ abbrev pub runIn : ℕ → List Entry → ℕ → ℕ
 runIn d es j = recurringRun d (entryAt es j)
 
 recurring-sum : (d : ℕ) (es : List Entry) (t n : ℕ) → 1 ≤ t → ((j : ℕ) → j < n → TimesHold (entryAt es j))
-    → 4294967296 * sumTo (wcetIn es) n + sumTo (loadIn d es) n * t
-    ≤ 4294967296 * (sumTo (urgentIn es t) n + sumTo (runIn d es) n)
+    → one * sumTo (wcetIn es) n + sumTo (loadIn d es) n * t
+    ≤ one * (sumTo (urgentIn es t) n + sumTo (runIn d es) n)
 recurring-sum d es t zero p h =
     rw (sumTo-none (wcetIn es), sumTo-none (loadIn d es), zero-mul t) zero-le
 recurring-sum d es t (suc n) p h =
@@ -97,16 +97,6 @@ recurring-sum d es t (suc n) p h =
       recurring-sum d es t n p (λ j k. h j (omega arith)),
       recurring-share d (entryAt es n) (h n (omega arith)) t p,
     ))
-
--- what a greater summand adds over a part
-part-le : (f g : ℕ → ℕ) (a b : ℕ) → a ≤ b → ((j : ℕ) → j < b → f j ≤ g j) → sumTo f b - sumTo f a ≤ sumTo g b - sumTo g a
-part-le f g a b le h =
-    let d : ℕ → ℕ = λ j. g j - f j in
-    let whole : sumTo g b ≡ sumTo f b + sumTo d b =
-    sumTo-eq g (λ j. f j + d j) b (λ j l. omega (arith, h j l)) ∙ sumTo-add f d b in
-    let begin : sumTo g a ≡ sumTo f a + sumTo d a =
-    sumTo-eq g (λ j. f j + d j) a (λ j l. omega (arith, h j (omega arith))) ∙ sumTo-add f d a in
-    omega (arith, sumTo-up d a b le, sumTo-up f a b le)
 
 module _ (es : List Entry) (all : AllHold es) (first last i : ℕ) (hf : first ≤ i) (hi : i ≤ last) (hl : last < length es) where
   once : (t a b : ℕ) → 1 ≤ t → a ≤ b → b ≤ last + 1
@@ -124,8 +114,8 @@ module _ (es : List Entry) (all : AllHold es) (first last i : ℕ) (hf : first �
 
   -- The demand is at least the start without those runs, and the load times t.
   pub demand-load : (d t : ℕ) → 1 ≤ t
-      → 4294967296 * (start es (groupLevel first last) i - sumTo (runIn d es) first) + sumTo (loadIn d es) first * t
-      ≤ 4294967296 * demand es (groupLevel first last) i t
+      → one * (start es (groupLevel first last) i - sumTo (runIn d es) first) + sumTo (loadIn d es) first * t
+      ≤ one * demand es (groupLevel first last) i t
   demand-load d t p =
       let g = named-group first last (length es) i hf hi in
       let named = demand-in es first last i (groupLevel first last) g hf hi hl t in
@@ -143,11 +133,11 @@ module _ (es : List Entry) (all : AllHold es) (first last i : ℕ) (hf : first �
 
   -- Where the demand is at most t, what runs once is at most what the load leaves free of t.
   pub fits-by-load : (d t : ℕ) → demand es (groupLevel first last) i t ≤ t
-      → 4294967296 * (start es (groupLevel first last) i - sumTo (runIn d es) first)
-      ≤ (4294967296 - sumTo (loadIn d es) first) * t
+      → one * (start es (groupLevel first last) i - sumTo (runIn d es) first)
+      ≤ (one - sumTo (loadIn d es) first) * t
   fits-by-load d t w =
       let u = sumTo (loadIn d es) first in
       let some : 1 ≤ t = le-trans (demand-some es all (groupLevel first last) i (omega arith) t) w in
-      let both : ((4294967296 - u) + u) * t ≡ (4294967296 - u) * t + u * t = add-mul (4294967296 - u) u t in
-      let whole : 4294967296 * t ≤ ((4294967296 - u) + u) * t = mul-le-mul-right t (omega arith) in
+      let both : ((one - u) + u) * t ≡ (one - u) * t + u * t = add-mul (one - u) u t in
+      let whole : one * t ≤ ((one - u) + u) * t = mul-le-mul-right t (omega arith) in
       omega (arith, demand-load d t some)

@@ -105,3 +105,13 @@ sumTo-step f s x n p q = rw sumTo-more (ap₂ _+_ p q)
 
 pub sumTo-all : (f : ℕ → ℕ) (s m n : ℕ) → s ≡ sumTo f m → m ≡ n → s ≡ sumTo f n
 sumTo-all f s m n p q = p ∙ ap (sumTo f) q
+
+-- what a greater summand adds over a part
+pub part-le : (f g : ℕ → ℕ) (a b : ℕ) → a ≤ b → ((j : ℕ) → j < b → f j ≤ g j) → sumTo f b - sumTo f a ≤ sumTo g b - sumTo g a
+part-le f g a b le h =
+    let d : ℕ → ℕ = λ j. g j - f j in
+    let whole : sumTo g b ≡ sumTo f b + sumTo d b =
+    sumTo-eq g (λ j. f j + d j) b (λ j l. omega (arith, h j l)) ∙ sumTo-add f d b in
+    let begin : sumTo g a ≡ sumTo f a + sumTo d a =
+    sumTo-eq g (λ j. f j + d j) a (λ j l. omega (arith, h j (omega arith))) ∙ sumTo-add f d a in
+    omega (arith, sumTo-up d a b le, sumTo-up f a b le)

@@ -14,12 +14,13 @@ use Rattle.completion.specs.Demand.{releases, sumTo, only, demand, start
 use Rattle.completion.specs.Group.{IsGroup, groupLevel}
 use Rattle.completion.specs.Test.{Completion, on-time, late, completionTest, isOnTime, roundsIn, roundsBound}
 use Rattle.completion.specs.Rounds.{iterates, FixedIn, LateIn}
-use Rattle.completion.proofs.Sums.{sumTo-eq, sumTo-up}
+use Rattle.completion.proofs.Sums.{sumTo-eq, sumTo-up, part-le}
+use Rattle.completion.proofs.Releases.{beside-most}
 use Rattle.completion.proofs.Iteration.{Least, test-least}
 use Rattle.completion.proofs.Rounds.{iterates-ahead, fixed-in, late-in, rounds-due, rounds-bounded}
 use Rattle.completion.proofs.Shares.{demand-up, demand-some, start-first, later, later-up, later-strict}
 use Rattle.completion.proofs.Alike.{test-alike, start-alike, demand-alike, demandIn-same}
-use Rattle.completion.proofs.Groups.{besideIn, wcetIn, named-group, demand-in, start-in}
+use Rattle.completion.proofs.Groups.{urgentIn, besideIn, wcetIn, named-group, demand-in, start-in}
 
 -- an answer is on time or late
 module _ {A : Type 0} where
@@ -148,3 +149,19 @@ shrink es all first last last′ i hf hi hl known p =
     let small = demand-in es first last′ i (groupLevel first last′) (named-group first last′ (length es) i hf hi) hf hi (omega arith) (t .0) in
     on-time-some es all (groupLevel first last′) i (omega arith) .1
     (t .0, t .1, omega (arith, wide, small, sumTo-up (besideIn es i (t .0)) (last′ + 1) (last + 1) (omega arith)))
+
+-- An entry that is on time stays on time when more urgent entries just before its group join it.
+pub widen : (es : List Entry) → AllHold es → (first first′ last i : ℕ) → first′ ≤ first → first ≤ i → i ≤ last → last < length es
+    → isOnTime (completionTest es (groupLevel first last) i) ≡ true
+    → isOnTime (completionTest es (groupLevel first′ last) i) ≡ true
+widen es all first first′ last i le hf hi known p =
+    let t = on-time-some es all (groupLevel first last) i (omega arith) .0 p in
+    let narrow = demand-in es first last i (groupLevel first last) (named-group first last (length es) i hf hi) hf hi known (t .0) in
+    let wide = demand-in es first′ last i (groupLevel first′ last) (named-group first′ last (length es) i (omega arith) hi) (omega arith) hi known (t .0) in
+    let less = part-le (besideIn es i (t .0)) (urgentIn es (t .0)) first′ first le
+    (λ j l. beside-most (entryAt es j) (all j (omega arith) .times) (entryAt es i .calls) (t .0)) in
+    on-time-some es all (groupLevel first′ last) i (omega arith) .1 (
+      t .0,
+      t .1,
+      omega (arith, wide, narrow, less, sumTo-up (besideIn es i (t .0)) first′ first le, sumTo-up (urgentIn es (t .0)) first′ first le, sumTo-up (besideIn es i (t .0)) first i hf),
+    )

@@ -3,5 +3,5 @@ pub mod Demand
 pub mod Test
 pub mod Group
 pub mod Rounds
--- Not to be believed by anyone: it names what the code adds up to spare rounds.
+-- Needs no belief: it names what the code adds up to spare rounds.
 pub mod Load

@@ -5,9 +5,13 @@ use lib.Dec.{ltb}
 use Rattle.task_model.specs.declared.Entry.{Entry}
 use Rattle.completion.specs.Demand.{only}
 
--- C / T in units of 1 / 2^32, rounded down.
+-- A load of 1. Loads are in units of 1 / 2^34.
+abbrev pub one : ℕ
+one = 17179869184
+
+-- C / T, rounded down.
 unfoldable pub load : Entry → ℕ
-load e = (4294967296 * e .wcet) / e .period
+load e = (one * e .wcet) / e .period
 
 -- Up to a deadline d, an entry with a period shorter than d runs at least its load times t; any other runs at least once.
 -- These are the load and the run that the first kind adds to a sum, and 0 for the second.

@@ -1,7 +1,7 @@
 // The completion time test of an entry in a group of its node.
-mod ending;
+mod deciding;
 
-pub use ending::ends_on_time;
+pub use deciding::ends_on_time;
 ghost use mathlib.Core.Path.{_≡_};
 ghost use Prim.Native.Nat.{_+_, _-_, _≤_, _<_};
 ghost use Rattle.task_model.specs.Limits.{AllHold, TimesHold};
@@ -16,6 +16,12 @@ use task_model::entry_at;
 pub enum Timing {
     OnTime { time: u32, rounds: u32 },
     Late { rounds: u32 },
+}
+
+// Whether an entry ends by its deadline, and no more.
+pub enum Ending {
+    OnTime,
+    Late,
 }
 
 // How often an entry is released in `t` ticks. The first period needs no division.

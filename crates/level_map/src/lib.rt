@@ -8,6 +8,7 @@ ghost use Rattle.task_model.specs.Words.{entriesOf, nodeOf};
 ghost use Rattle.level_map.specs.Map.{theMap};
 ghost use Rattle.level_map.specs.Answer.{answer, answerOf, bufferOf, Demand3};
 ghost use Rattle.level_map.specs.Groups.{GroupPasses, LeastStart, levelsByRank, Ranked};
+use completion::Ending;
 use completion::ends_on_time;
 
 // A map, with the number of its levels, or that no map passes.
@@ -23,17 +24,20 @@ enum Start {
     Nowhere,
 }
 
-// The least start of a group that ends before `end` and has no late entry. Every start is tried from the least on: that
-// a group fails says nothing of a longer one.
+// The least start of a group that ends before `end` and has no late entry. Starts are tried from the least on. An entry that
+// is late stays late in each group that starts later and has it, since what leaves its level becomes more urgent: so the
+// next start to try is behind it. Of a longer group its lateness says nothing.
 fn least_start(words: &[u32; 320], count: usize, end: usize) -> Start
     requires { ⌜ AllHold (entriesOf (now words) count) ⌝ ∗ ⌜ (end ≤ count) × (count ≤ 64) ⌝ }
     ensures { λ a. ⌜ LeastStart (GroupPasses (entriesOf (now (words .entry)) count) end) end a ⌝ }
 {
-    'starts: for start in 0..end {
+    let mut start: usize = 0;
+    'starts: while start < end {
         for i in start..end {
-            if !ends_on_time(words, count, start, end - 1, i) {
+            let Ending::OnTime = ends_on_time(words, count, start, end - 1, i) else {
+                start = i + 1;
                 continue 'starts;
-            }
+            };
         }
         return Start::At(start);
     }

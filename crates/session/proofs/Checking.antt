@@ -21,7 +21,7 @@ use Rattle.session.specs.State.{nodeIn, sessionOf}
 use Rattle.session.specs.Operations.{Operation, inserting, removing, replacing, settingLevels, timing, levelsCheck, operationCheck, lentCheck, stepCheck, changed}
 use Rattle.task_model.specs.Answers.{gives, refuses}
 use Rattle.session.specs.Timing.{timeAnswer}
-use Rattle.session.specs.Steps.{sessionAfter, Follows}
+use Rattle.session.specs.Steps.{sessionMade, sessionAfter, Follows}
 
 -- 1 to 64 levels
 pub levels-low : (levels : ℕ) → levels < 1 → levelsCheck levels ≡ refused (at 4 0 0)
@@ -141,7 +141,7 @@ module _ (o : Operation) (s : Session) where
   unfolding sessionAfter
   after-refused r p = rw (p, sessionAfter)
 
-  pub after-accepted : stepCheck o (nodeIn s) ≡ accepted → sessionAfter o s ≡ sessionOf (changed o (nodeIn s))
+  pub after-accepted : stepCheck o (nodeIn s) ≡ accepted → sessionAfter o s ≡ sessionMade o s
   unfolding sessionAfter
   after-accepted p = rw (p, sessionAfter)
 
@@ -149,7 +149,7 @@ module _ (o : Operation) (s : Session) where
   follows-refused a r p q = record { answer = p; session = sym (after-refused r (sym p ∙ q)) }
 
   pub follows-accepted : (a : Checked) (t : Session) → outcome a ≡ stepCheck o (nodeIn s) → outcome a ≡ accepted
-      → t ≡ sessionOf (changed o (nodeIn s)) → Follows o s a t
+      → t ≡ sessionMade o s → Follows o s a t
   follows-accepted a t p q e = record { answer = p; session = e ∙ sym (after-accepted (sym p ∙ q)) }
 
 -- timing

@@ -11,7 +11,7 @@ use Rattle.task_model.specs.Limits.{Node, EntryHolds, NodeHolds}
 use Rattle.task_model.proofs.Theorems.{either, entry-accepted, node-accepted}
 use Rattle.session.specs.State.{nodeIn, sessionOf}
 use Rattle.session.specs.Operations.{Operation, opening, inserting, removing, replacing, settingLevels, mapping, timing, Callable, AllCallable, operationCheck, emptyNode, changed, nodeAfter, nodeAfterAll, answersAll, lentCheck, stepCheck}
-use Rattle.session.specs.Steps.{sessionAfter, sessionAfterAll, answersOf}
+use Rattle.session.specs.Steps.{sessionMade, sessionAfter, sessionAfterAll, answersOf}
 use Rattle.session.proofs.Entries.{Each, each-of, of-each, each-inserted, each-removed, each-replaced}
 use Rattle.session.proofs.Building.{size-inserted, size-removed, size-replaced}
 use Rattle.session.proofs.Reading.{Kept, read-back}
@@ -100,6 +100,17 @@ lent-within (timing first last i) n h = node-accepted 0 n .1 h
 pub own-checks : (o : Operation) (n : Node) → NodeHolds n → stepCheck o n ≡ operationCheck o n
 own-checks o n h = lent-goes-on o n (lent-within o n h)
 
+-- what an operation makes of the session of a node is the session of what it makes of the node
+made-session : (o : Operation) (n : Node) → Kept n → sessionMade o (sessionOf n) ≡ sessionOf (changed o n)
+unfolding changed
+made-session (opening levels) n k = refl
+made-session (inserting p e) n k = ap (λ m. sessionOf (changed (inserting p e) m)) (read-back n k)
+made-session (removing p) n k = ap (λ m. sessionOf (changed (removing p) m)) (read-back n k)
+made-session (replacing p e) n k = ap (λ m. sessionOf (changed (replacing p e) m)) (read-back n k)
+made-session (settingLevels levels) n k = ap (λ m. sessionOf (changed (settingLevels levels) m)) (read-back n k)
+made-session (mapping room) n k = refl
+made-session (timing first last i) n k = refl
+
 -- one step
 module _ (o : Operation) (n : Node) (k : Kept n) where
   answer : stepCheck o (nodeIn (sessionOf n)) ≡ operationCheck o n
@@ -110,7 +121,7 @@ module _ (o : Operation) (n : Node) (k : Kept n) where
       ⊎-elim
       (λ p.
       after-accepted o (sessionOf n) (answer ∙ p)
-      ∙ ap (λ m. sessionOf (changed o m)) (read-back n k)
+      ∙ made-session o n k
       ∙ ap sessionOf (sym (node-changed o n p)))
       (λ p. after-refused o (sessionOf n) (p .0) (answer ∙ p .1) ∙ ap sessionOf (sym (node-kept o n (p .0) (p .1))))
       (either (operationCheck o n))

@@ -24,13 +24,13 @@ use Rattle.task_model.specs.Answers.{gives, refuses}
 use Rattle.session.specs.Timing.{timeAnswer}
 use Rattle.session.specs.Mapping.{mapAnswer, mapBuffer}
 use Rattle.session.specs.Plan.{oneRow}
-use Rattle.session.specs.Steps.{sessionAfter, sessionAfterAll, answersOf}
+use Rattle.session.specs.Steps.{sessionMade, sessionAfter, sessionAfterAll, answersOf}
 use Rattle.session.specs.InWords.{sessionIn, wordsIn, wordsAfter, wordsAfterAll}
 use Rattle.session.proofs.Reading.{Kept, read-back}
 use Rattle.session.proofs.Checking.{levels-within, lent-stops, insert-outside, insert-full, time-inside, time-else, time-refused, time-given, time-ready, after-refused, after-accepted}
 use Rattle.session.proofs.Mapping.{own-answer, own-buffer, own-demand, map-outcome}
 use Rattle.session.proofs.FileMap.{kept-in, one-accepted, same-answer, same-buffer}
-use Rattle.session.proofs.InWords.{words-back, words-refused, rows-words}
+use Rattle.session.proofs.InWords.{words-back, words-refused, words-accepted, rows-words}
 use Rattle.session.proofs.Rows.{kept-empty, own-checks, rows-session, rows-answers, rows-kept}
 
 -- From the opening, by any row of operations, refused ones included, and whatever the memory held before. `levels` is
@@ -183,6 +183,20 @@ zero-words = refl
 pub words-unchanged : (o : Operation) (w : List ℕ) (r : Numbered) → stepCheck o (nodeIn (sessionIn w)) ≡ refused r
     → wordsAfter o w ≡ w
 words-unchanged o w r p = words-refused o w r p
+
+-- Mapping and timing leave them untouched, whatever they answer.
+words-read : (o : Operation) (w : List ℕ) → length w ≡ 322 → sessionMade o (sessionIn w) ≡ sessionIn w → wordsAfter o w ≡ w
+words-read o w h q =
+    ⊎-elim
+    (λ p. words-accepted o w p ∙ ap wordsIn (after-accepted o (sessionIn w) p ∙ q) ∙ words-back w h)
+    (λ p. words-refused o w (p .0) (p .1))
+    (either (stepCheck o (nodeIn (sessionIn w))))
+
+pub words-mapped : (room : ℕ) (w : List ℕ) → length w ≡ 322 → wordsAfter (mapping room) w ≡ w
+words-mapped room w h = words-read (mapping room) w h refl
+
+pub words-timed : (first last i : ℕ) (w : List ℕ) → length w ≡ 322 → wordsAfter (timing first last i) w ≡ w
+words-timed first last i w h = words-read (timing first last i) w h refl
 
 -- After any row of operations the words hold the session after that row, so what is said of sessions above holds of them.
 pub words-follow : (os : List Operation) (w : List ℕ) → sessionIn (wordsAfterAll os w) ≡ sessionAfterAll os (sessionIn w)

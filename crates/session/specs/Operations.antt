@@ -118,5 +118,6 @@ lentCheck (settingLevels levels) n = nodeCheck 0 n
 lentCheck (mapping room) n = nodeCheck 0 n
 lentCheck (timing first last i) n = nodeCheck 0 n
 
+-- All checks of a call: those of the session that is lent, then the operation's own.
 unfoldable pub stepCheck : Operation → Node → Outcome
 stepCheck o n = lentCheck o n andThen operationCheck o n

@@ -12,6 +12,7 @@ use Rattle.session.specs.declared.Session.{Session}
 abbrev pub nodeIn : Session → Node
 nodeIn s = nodeOf (s .words) (s .count) (s .levels)
 
+-- n words that are zero.
 abbrev pub zeros : ℕ → List ℕ
 zeros n = replicate n 0
 

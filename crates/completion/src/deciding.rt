@@ -1,5 +1,7 @@
 // Whether an entry ends by its deadline, without its rounds where less decides. A small plan can have entries of 10^9
-// rounds, and a search asks after many of them.
+// rounds, and a search asks about many of them. A demand is met at a time t if it is at most t then; an entry is on time
+// exactly if its demand is met by its deadline.
+use super::Ending;
 use super::demand_at;
 use super::start_at;
 use task_model::Entry;
@@ -10,15 +12,19 @@ ghost use Rattle.task_model.specs.Limits.{AllHold, TimesHold};
 ghost use Rattle.task_model.specs.Words.{entryOf, entriesOf};
 ghost use Rattle.completion.specs.Demand.{sumTo, demand};
 ghost use Rattle.completion.specs.Group.{groupLevel};
-ghost use Rattle.completion.specs.Test.{completionTest, isOnTime};
-ghost use Rattle.completion.specs.Load.{recurringLoad, recurringRun};
+ghost use Rattle.completion.specs.Test.{completionTest, isOnTime, endsOnTime};
+ghost use Rattle.completion.specs.Load.{one, recurringLoad, recurringRun};
 
-// Of entries with periods shorter than a deadline: their loads in units of 2^-32, and their runs, added up.
+// A load of 1. Loads are in units of 2^-34: no finer one keeps the numbers of `earliest` in 64 bits.
+const ONE: u64 = 17179869184;
+
+// Of entries with periods shorter than a deadline: their loads, and their runs, added up.
 struct Recurring {
     load: u64,
     runs: u64,
 }
 
+// What one entry adds to these sums.
 fn recurring_part(e: Entry, deadline: u32) -> Recurring
     requires { ⌜ TimesHold e ⌝ }
     ensures { λ r. ⌜ (r .load ≡ recurringLoad deadline e) × (r .runs ≡ recurringRun deadline e) ⌝ }
@@ -27,11 +33,12 @@ fn recurring_part(e: Entry, deadline: u32) -> Recurring
         return Recurring { load: 0, runs: 0 };
     }
     Recurring {
-        load: 4294967296 * e.wcet as u64 / e.period as u64,
+        load: ONE * e.wcet as u64 / e.period as u64,
         runs: e.wcet as u64,
     }
 }
 
+// The sums over the entries before position `end`.
 fn recurring_sum(words: &[u32; 320], end: usize, deadline: u32) -> Recurring
     requires { ⌜ AllHold (entriesOf (now words) end) ⌝ ∗ ⌜ end ≤ 64 ⌝ }
     ensures { λ r.
@@ -48,14 +55,14 @@ fn recurring_sum(words: &[u32; 320], end: usize, deadline: u32) -> Recurring
     Recurring { load, runs }
 }
 
-// What a load leaves of the processor, in units of 2^-32.
+// What a load leaves of the processor.
 fn free_share(load: u64) -> u64
-    ensures { λ x. ⌜ x ≡ 4294967296 - load ⌝ }
+    ensures { λ x. ⌜ x ≡ one - load ⌝ }
 {
-    if 4294967296 <= load {
+    if ONE <= load {
         return 0;
     }
-    4294967296 - load
+    ONE - load
 }
 
 // A time before which the demand of an entry is not met: where its test starts, `start`, or later by the load of the more
@@ -65,8 +72,8 @@ fn earliest(words: &[u32; 320], first: usize, deadline: u32, start: u64) -> u64
         ∗ ⌜ (sumTo (λ j. entryOf (now words) j .wcet) first < start) × (start ≤ deadline) × (deadline ≤ 1000000000) ⌝ }
     ensures { λ x.
         ⌜ (start ≤ x) × ((t : ℕ) → start ≤ t
-        → 4294967296 * (start - sumTo (λ j. recurringRun deadline (entryOf (now (words .entry)) j)) first)
-        ≤ (4294967296 - sumTo (λ j. recurringLoad deadline (entryOf (now (words .entry)) j)) first) * t
+        → one * (start - sumTo (λ j. recurringRun deadline (entryOf (now (words .entry)) j)) first)
+        ≤ (one - sumTo (λ j. recurringLoad deadline (entryOf (now (words .entry)) j)) first) * t
         → x ≤ t) ⌝ }
 {
     let r = recurring_sum(words, first, deadline);
@@ -74,14 +81,14 @@ fn earliest(words: &[u32; 320], first: usize, deadline: u32, start: u64) -> u64
     if free == 0 {
         return deadline as u64 + 1;
     }
-    let by_load = (4294967296 * (start - r.runs) + (free - 1)) / free;
+    let by_load = (ONE * (start - r.runs) + (free - 1)) / free;
     if by_load < start {
         return start;
     }
     by_load
 }
 
-// Whether the demand of the entry at `i` is met by its deadline, by rounds from a time before which it is not.
+// Whether the demand of the entry at `i` is met by its deadline, by rounds from a time before which it is not met.
 fn met_from(
     words: &[u32; 320],
     count: usize,
@@ -89,11 +96,11 @@ fn met_from(
     last: usize,
     i: usize,
     begin: u64,
-) -> bool
+) -> Ending
     requires { ⌜ AllHold (entriesOf (now words) count) ⌝ ∗ ⌜ (first ≤ i) × (i ≤ last) × (last < count) × (count ≤ 64) ⌝
         ∗ ⌜ 1 ≤ begin ⌝
         ∗ ⌜ ((t : ℕ) → demand (entriesOf (now words) count) (groupLevel first last) i t ≤ t → begin ≤ t) ⌝ }
-    ensures { λ a. ⌜ a ≡ isOnTime (completionTest (entriesOf (now (words .entry)) count) (groupLevel first last) i) ⌝ }
+    ensures { λ a. ⌜ endsOnTime a ≡ isOnTime (completionTest (entriesOf (now (words .entry)) count) (groupLevel first last) i) ⌝ }
 {
     let own = entry_at(words, i);
     let deadline = own.deadline as u64;
@@ -101,28 +108,28 @@ fn met_from(
     while t <= deadline {
         let next = demand_at(words, count, first, last, i, t as u32);
         if next <= t {
-            return true;
+            return Ending::OnTime;
         }
         t = next;
     }
-    false
+    Ending::Late
 }
 
 // Whether the entry at `i` of a node ends by its deadline, in the group from `first` to `last`; the entries before it are
 // more urgent. Its rounds are followed only where its demand at the deadline does not decide, and from as late as the load
 // allows.
-pub fn ends_on_time(words: &[u32; 320], count: usize, first: usize, last: usize, i: usize) -> bool
+pub fn ends_on_time(words: &[u32; 320], count: usize, first: usize, last: usize, i: usize) -> Ending
     requires { ⌜ AllHold (entriesOf (now words) count) ⌝ ∗ ⌜ (first ≤ i) × (i ≤ last) × (last < count) × (count ≤ 64) ⌝ }
-    ensures { λ a. ⌜ a ≡ isOnTime (completionTest (entriesOf (now (words .entry)) count) (groupLevel first last) i) ⌝ }
+    ensures { λ a. ⌜ endsOnTime a ≡ isOnTime (completionTest (entriesOf (now (words .entry)) count) (groupLevel first last) i) ⌝ }
 {
     let own = entry_at(words, i);
     let deadline = own.deadline;
     let start = start_at(words, count, first, last, i);
     if (deadline as u64) < start {
-        return false;
+        return Ending::Late;
     }
     if demand_at(words, count, first, last, i, deadline) <= deadline as u64 {
-        return true;
+        return Ending::OnTime;
     }
     let begin = earliest(words, first, deadline, start);
     met_from(words, count, first, last, i, begin)

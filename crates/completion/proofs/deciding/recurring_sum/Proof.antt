@@ -4,15 +4,15 @@ use native.Mathlib.Omega.{arith}
 use Rattle.task_model.specs.Words.{entryOf}
 use Rattle.task_model.proofs.Laws.{all-at}
 use Rattle.completion.specs.Demand.{sumTo}
-use Rattle.completion.specs.Load.{recurringLoad, recurringRun}
+use Rattle.completion.specs.Load.{one, recurringLoad, recurringRun}
 use Rattle.completion.proofs.Sums.{sumTo-none, sumTo-step, sumTo-all}
 use Rattle.completion.proofs.Load.{recurring-load-most, run-most}
-use Rattle.completion.proofs.ending.recurring_sum.Statement.{statement}
-use Rattle.completion.proofs.ending.recurring_sum.Tie as tie
+use Rattle.completion.proofs.deciding.recurring_sum.Statement.{statement}
+use Rattle.completion.proofs.deciding.recurring_sum.Tie as tie
 
 abbrev Inv-loop : tie.InvT-loop
 Inv-loop words end deadline load₀ runs₀ j₀ load runs j =
-    (j ≤ end) × (load ≤ 4294967296 * j) × (runs ≤ 1000000000 * j)
+    (j ≤ end) × (load ≤ one * j) × (runs ≤ 1000000000 * j)
     × (load ≡ sumTo (λ k. recurringLoad deadline (entryOf words k)) j)
     × (runs ≡ sumTo (λ k. recurringRun deadline (entryOf words k)) j)
 
@@ -43,7 +43,7 @@ module _ (c : tie.After-recurring-part Inv-loop μ-loop) where
       ≡ recurringRun (at-start .args .deadline) (entryOf (at-start .args .words .now) (at-loop .loop .j)))
   added = rw (c .before .entry-at .ensures) at (c .recurring-part .ensures)
 
-  few : (c .recurring-part .result .load ≤ 4294967296) × (c .recurring-part .result .runs ≤ 1000000000)
+  few : (c .recurring-part .result .load ≤ one) × (c .recurring-part .result .runs ≤ 1000000000)
   few =
       let e = entryOf (at-start .args .words .now) (at-loop .loop .j) in
       let ok = all-at _ _ (at-start .pre .0) _ (c .before .before .loop-test .taken) .times in

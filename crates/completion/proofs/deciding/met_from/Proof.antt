@@ -10,8 +10,8 @@ use Rattle.completion.specs.Demand.{demand}
 use Rattle.completion.specs.Group.{groupLevel}
 use Rattle.completion.proofs.Words.{words-up}
 use Rattle.completion.proofs.Early.{late-after, on-time-at}
-use Rattle.completion.proofs.ending.met_from.Statement.{statement}
-use Rattle.completion.proofs.ending.met_from.Tie as tie
+use Rattle.completion.proofs.deciding.met_from.Statement.{statement}
+use Rattle.completion.proofs.deciding.met_from.Tie as tie
 
 -- the demand is met at no time before t
 abbrev Inv-loop : tie.InvT-loop

@@ -5,12 +5,13 @@ use native.Mathlib.Omega.{arith}
 use borrow.Author.Needs.{needs}
 use Rattle.task_model.specs.Words.{entryOf}
 use Rattle.completion.specs.Demand.{sumTo}
+use Rattle.completion.specs.Load.{one}
 use Rattle.completion.proofs.Sums.{sumTo-le}
 use Rattle.completion.proofs.Words.{wcetOf}
 use Rattle.completion.proofs.Load.{run-most}
 use Rattle.completion.proofs.Early.{loadOf, runOf, ceil-least}
-use Rattle.completion.proofs.ending.earliest.Statement.{statement}
-use Rattle.completion.proofs.ending.earliest.Tie as tie
+use Rattle.completion.proofs.deciding.earliest.Statement.{statement}
+use Rattle.completion.proofs.deciding.earliest.Tie as tie
 
 recurring-sum-requires : tie.Need-recurring-sum-requires
 recurring-sum-requires c κs = search needs
@@ -38,7 +39,7 @@ returns : tie.Need-returns
 returns c = (
   omega arith,
   λ t h w.
-      let none : 4294967296 - sumTo (loadOf (c .before .before .before .args .deadline) (c .before .before .before .args .words .now))
+      let none : one - sumTo (loadOf (c .before .before .before .args .deadline) (c .before .before .before .args .words .now))
       (c .before .before .before .args .first) ≡ 0 =
       omega (arith, c .if1 .taken, c .before .free-share .ensures, c .before .before .recurring-sum .ensures .0) in
       absurd (omega (arith, less (c .before .before), c .before .before .recurring-sum .ensures .1, rw (none, zero-mul t) at w)),

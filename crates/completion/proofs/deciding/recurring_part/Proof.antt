@@ -3,8 +3,8 @@ use native.Mathlib.Omega.{arith}
 use borrow.Author.Needs.{needs}
 use Rattle.completion.specs.Load.{load}
 use Rattle.completion.proofs.Load.{recurs, recurs-not}
-use Rattle.completion.proofs.ending.recurring_part.Statement.{statement}
-use Rattle.completion.proofs.ending.recurring_part.Tie as tie
+use Rattle.completion.proofs.deciding.recurring_part.Statement.{statement}
+use Rattle.completion.proofs.deciding.recurring_part.Tie as tie
 
 returns : tie.Need-returns
 returns c =

@@ -8,8 +8,8 @@ use Rattle.task_model.specs.Words.{entryOf}
 use Rattle.task_model.proofs.Laws.{all-at, all-fewer}
 use Rattle.completion.proofs.Words.{words-begin}
 use Rattle.completion.proofs.Early.{late-start, on-time-at, not-earlier, runs-below}
-use Rattle.completion.proofs.ending.ends_on_time.Statement.{statement}
-use Rattle.completion.proofs.ending.ends_on_time.Tie as tie
+use Rattle.completion.proofs.deciding.ends_on_time.Statement.{statement}
+use Rattle.completion.proofs.deciding.ends_on_time.Tie as tie
 
 entry-at-requires : tie.Need-entry-at-requires
 entry-at-requires c κs = search needs
