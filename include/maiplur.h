@@ -9,6 +9,12 @@
  * No function keeps a pointer, allocates, or has state of its own, and each returns on every input. The caller owes what
  * no function can check: each pointer points to as many elements as its length says (it is not NULL, even at length 0),
  * and nothing that a call writes overlaps anything else that it is lent.
+ *
+ * A level count is a uint8_t and a node number a uint16_t. C silently cuts a larger number before the call: 257 levels
+ * arrive as 1.
+ *
+ * maiplur_list and maiplur_session_time follow every round of the completion time test. In odd plans an entry can have up
+ * to 10^9 of them (docs/BENCHMARKS.md).
  */
 #ifndef MAIPLUR_H
 #define MAIPLUR_H
@@ -77,7 +83,7 @@ uint32_t maiplur_map(const uint8_t *file, size_t file_length, uint16_t number, u
 
 /* Lists a plan file from the start of `text`, or writes the one line that the file is refused with, and keeps what lies
  * beyond; no zero byte follows. Values: the text's length in bytes, and 0. Refuses only a buffer that is too short for
- * the text (10). It takes about 128 KiB of stack.
+ * the text (10). It takes less than 128 KiB of stack.
  */
 uint32_t maiplur_list(const uint8_t *file, size_t file_length, uint8_t *text, size_t text_length, size_t values[2]);
 

@@ -165,6 +165,7 @@ fn every_group() {
             }
         }
     }
+    say("every group", &tally);
     assert_eq!(
         tally.accepted(),
         times(30) * 20,
@@ -203,6 +204,7 @@ fn cases_built_step_by_step() {
         }
         assert_eq!(both.session().unwrap().entries(), node.entries);
     }
+    say("cases built step by step", &tally);
 }
 
 #[test]

@@ -12,6 +12,7 @@ pub record Returned : Type 0 where
   pub number : ℕ
   pub values : List ℕ
 
+-- A call that returns `number` and leaves `values`.
 abbrev pub returned : ℕ → List ℕ → Returned
 returned number values = record { number = number; values = values }
 
@@ -48,6 +49,7 @@ abbrev pub givenTime : Completion → Returned
 givenTime (on-time time rounds) = given time rounds
 givenTime (late rounds) = given 0 rounds
 
+-- What timing an entry of a session returns.
 abbrev pub timed : Answer Completion → Returned
 timed (gives c) = givenTime c
 timed (refuses r) = back r

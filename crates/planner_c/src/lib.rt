@@ -26,6 +26,7 @@ use planner::MappedNode;
 use task_model::Checked;
 use task_model::Refusal;
 
+// Returns the number of a refusal, and leaves its row and its entry position.
 fn refuse(r: Refusal, values: &mut [usize; 2]) -> u32
     ensures { λ a. ⌜ returned a (now (values .exit)) ≡ back (numbered r) ⌝ }
 {
@@ -34,6 +35,7 @@ fn refuse(r: Refusal, values: &mut [usize; 2]) -> u32
     n.number as u32
 }
 
+// Returns 0, and leaves the two values of a call that is not refused.
 fn give(first: usize, second: usize, values: &mut [usize; 2]) -> u32
     ensures { λ a. ⌜ returned a (now (values .exit)) ≡ given first second ⌝ }
 {

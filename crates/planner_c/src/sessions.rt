@@ -128,6 +128,7 @@ pub extern "C" fn maiplur_session_replace(
     keep(c, session, values)
 }
 
+// Gives a completion time, or 0 where the entry is late, and the rounds.
 fn give_time(t: Timing, values: &mut [usize; 2]) -> u32
     ensures { λ a. ⌜ returned a (now (values .exit)) ≡ givenTime (completion t) ⌝ }
 {
