@@ -159,10 +159,17 @@ fn completion(entries: &[Entry], first: usize, last: usize, i: usize) -> Option<
     None
 }
 
+/// The position behind the last entry that a run of every entry makes late.
+fn behind_late(entries: &[Entry], end: usize) -> usize {
+    let runs: u64 = entries[..end].iter().map(|e| u64::from(e.c)).sum();
+    let late = |e: &Entry| u64::from(e.d) < u64::from(e.b) + runs;
+    entries[..end].iter().rposition(late).map_or(0, |i| i + 1)
+}
+
 fn least_start(entries: &[Entry], end: usize) -> Option<usize> {
-    let mut start = 0;
+    let mut start = behind_late(entries, end);
     'starts: while start < end {
-        for i in start..end {
+        for i in (start..end).rev() {
             if completion(entries, start, end - 1, i).is_none() {
                 // It is late in each group that starts later and has it.
                 start = i + 1;

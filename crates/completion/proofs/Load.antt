@@ -1,6 +1,6 @@
 -- The load of the more urgent entries, as a bound on the time at which a demand can be met.
 use Prim.Native.Nat.{ℕ, zero, suc, _+_, _-_, _*_, _/_, _≤_, _<_, zero-le}
-use mathlib.Core.Path.{_≡_, _∙_, refl, sym}
+use mathlib.Core.Path.{_≡_, refl, sym}
 use mathlib.Core.Logic.{by-cases}
 use mathlib.Core.List.{List}
 use native.Mathlib.Nat.{le-trans, zero-mul, add-mul, mul-assoc, mul-le-mul-left, mul-le-mul-right, div-mul-le-self, div-lt-iff-lt-mul}
@@ -14,7 +14,7 @@ use Rattle.completion.specs.Demand.{releases, sumTo, urgentShare, demand
 use Rattle.completion.specs.Group.{groupLevel}
 use Rattle.completion.specs.Load.{one, load, recurringLoad, recurringRun}
 use Rattle.completion.proofs.Releases.{releases-more, urgent-first, urgent-up, beside-first, beside-up}
-use Rattle.completion.proofs.Sums.{sumTo-none, sumTo-suc, sumTo-more, sumTo-eq, sumTo-add, sumTo-up, sumTo-le, part-le}
+use Rattle.completion.proofs.Sums.{sumTo-none, sumTo-suc, sumTo-more, sumTo-up, sumTo-le, part-le}
 use Rattle.completion.proofs.Shares.{demand-some}
 use Rattle.completion.proofs.Groups.{urgentIn, besideIn, wcetIn, named-group, demand-in, start-in}
 

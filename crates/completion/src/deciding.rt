@@ -4,10 +4,12 @@
 use super::Ending;
 use super::demand_at;
 use super::start_at;
+use super::wcet_sum;
 use task_model::Entry;
 use task_model::entry_at;
 ghost use mathlib.Core.Path.{_≡_};
-ghost use Prim.Native.Nat.{ℕ, _-_, _*_, _≤_, _<_};
+ghost use mathlib.Core.Bool.{false};
+ghost use Prim.Native.Nat.{ℕ, _+_, _-_, _*_, _≤_, _<_};
 ghost use Rattle.task_model.specs.Limits.{AllHold, TimesHold};
 ghost use Rattle.task_model.specs.Words.{entryOf, entriesOf};
 ghost use Rattle.completion.specs.Demand.{sumTo, demand};
@@ -133,4 +135,25 @@ pub fn ends_on_time(words: &[u32; 320], count: usize, first: usize, last: usize,
     }
     let begin = earliest(words, first, deadline, start);
     met_from(words, count, first, last, i, begin)
+}
+
+// The position behind the last entry whose deadline is shorter than its blocking and a run of every entry before `end`, or
+// 0: such an entry is late in each group that ends before `end` and has it.
+pub fn behind_late(words: &[u32; 320], count: usize, end: usize) -> usize
+    requires { ⌜ AllHold (entriesOf (now words) count) ⌝ ∗ ⌜ (end ≤ count) × (count ≤ 64) ⌝ }
+    ensures { λ s.
+        ⌜ ((i first : ℕ) → s ≡ i + 1 → first ≤ i
+        → isOnTime (completionTest (entriesOf (now (words .entry)) count) (groupLevel first (end - 1)) i) ≡ false)
+        × (s ≤ end) ⌝ }
+{
+    let runs = wcet_sum(words, end);
+    let mut behind: usize = 0;
+    for i in 0..end {
+        let e = entry_at(words, i);
+        if e.blocking as u64 + runs <= e.deadline as u64 {
+            continue;
+        }
+        behind = i + 1;
+    }
+    behind
 }

@@ -1,6 +1,7 @@
 // The completion time test of an entry in a group of its node.
 mod deciding;
 
+pub use deciding::behind_late;
 pub use deciding::ends_on_time;
 ghost use mathlib.Core.Path.{_≡_};
 ghost use Prim.Native.Nat.{_+_, _-_, _≤_, _<_};

@@ -9,6 +9,7 @@ ghost use Rattle.level_map.specs.Map.{theMap};
 ghost use Rattle.level_map.specs.Answer.{answer, answerOf, bufferOf, Demand3};
 ghost use Rattle.level_map.specs.Groups.{GroupPasses, LeastStart, levelsByRank, Ranked};
 use completion::Ending;
+use completion::behind_late;
 use completion::ends_on_time;
 
 // A map, with the number of its levels, or that no map passes.
@@ -24,20 +25,22 @@ enum Start {
     Nowhere,
 }
 
-// The least start of a group that ends before `end` and has no late entry. Starts are tried from the least on. An entry that
-// is late stays late in each group that starts later and has it, since what leaves its level becomes more urgent: so the
-// next start to try is behind it. Of a longer group its lateness says nothing.
+// The least start of a group that ends before `end` and has no late entry. An entry that is late stays late in each group
+// that starts later and has it, since what leaves its level becomes more urgent: so the next start to try is behind it, and
+// the last entries, which rule out the most starts, are asked first. Of a longer group its lateness says nothing.
 fn least_start(words: &[u32; 320], count: usize, end: usize) -> Start
     requires { ⌜ AllHold (entriesOf (now words) count) ⌝ ∗ ⌜ (end ≤ count) × (count ≤ 64) ⌝ }
     ensures { λ a. ⌜ LeastStart (GroupPasses (entriesOf (now (words .entry)) count) end) end a ⌝ }
 {
-    let mut start: usize = 0;
+    let mut start = behind_late(words, count, end);
     'starts: while start < end {
-        for i in start..end {
-            let Ending::OnTime = ends_on_time(words, count, start, end - 1, i) else {
-                start = i + 1;
+        let mut i = end;
+        while start < i {
+            let Ending::OnTime = ends_on_time(words, count, start, end - 1, i - 1) else {
+                start = i;
                 continue 'starts;
             };
+            i -= 1;
         }
         return Start::At(start);
     }

@@ -1,4 +1,4 @@
-use Prim.Native.Nat.{ℕ, _-_, _≤_, _<_}
+use Prim.Native.Nat.{ℕ, _+_, _-_, _≤_, _<_}
 use mathlib.Core.Path.{_≡_, _∙_, refl, sym, ap}
 use mathlib.Core.Bool.{true, false, false≢true}
 use mathlib.Core.Logic.{by-cases}
@@ -14,14 +14,16 @@ use Rattle.level_map.specs.Groups.{GroupPasses}
 use Rattle.level_map.proofs.least_start.Statement.{statement}
 use Rattle.level_map.proofs.least_start.Tie as tie
 
+-- the entries from i on are on time in the group from this start
 abbrev Inv-loop : tie.InvT-loop
 Inv-loop words count end start₀ i₀ start i =
-    (start ≡ start₀) × (start ≤ i) × (i ≤ end) × (start < end)
-    × ((j : ℕ) → start ≤ j → j < i → isOnTime (completionTest (entriesOf words count) (groupLevel start (end - 1)) j) ≡ true)
+    ((j : ℕ) → i ≤ j → j < end → isOnTime (completionTest (entriesOf words count) (groupLevel start (end - 1)) j) ≡ true)
+    × (start ≡ start₀) × (start ≤ i) × (i ≤ end) × (start < end)
 
 abbrev μ-loop : tie.MeasureT-loop
-μ-loop words count end start₀ i₀ start i = end - i
+μ-loop words count end start₀ i₀ start i = i
 
+-- no group that starts before this start passes
 abbrev Inv-starts : tie.InvT-starts
 Inv-starts words count end start₀ start =
     ((b : ℕ) → b < start → GroupPasses (entriesOf words count) end b → ⊥) × (start ≤ end)
@@ -29,17 +31,30 @@ Inv-starts words count end start₀ start =
 abbrev μ-starts : tie.MeasureT-starts
 μ-starts words count end start₀ start = end - start
 
+behind-late-requires : tie.Need-behind-late-requires Inv-loop μ-loop Inv-starts μ-starts
+behind-late-requires c κs = search needs
+
 starts-holds : tie.Need-starts-holds Inv-loop μ-loop Inv-starts μ-starts
-starts-holds c = search needs
+starts-holds c =
+    let s = c .behind-late .result in (
+      λ b h g.
+          let e : s ≡ (s - 1) + 1 = omega arith in
+          false≢true (sym (c .behind-late .ensures .0 (s - 1) b e (omega arith)) ∙ g (s - 1) (omega arith) (omega arith)),
+      c .behind-late .ensures .1,
+    )
 
 loop-holds : tie.Need-loop-holds Inv-loop μ-loop Inv-starts μ-starts
-loop-holds c = (refl, omega arith, omega arith, omega arith, λ j lo hi. absurd (omega arith))
+loop-holds c = (λ j lo hi. absurd (omega arith), refl, omega arith, omega arith, omega arith)
 
 sub-ends-on-time : tie.Need-sub-ends-on-time Inv-loop μ-loop Inv-starts μ-starts
-sub-ends-on-time c = search needs
+sub-ends-on-time c = omega arith
+
+sub-ends-on-time-2 : tie.Need-sub-ends-on-time-2 Inv-loop μ-loop Inv-starts μ-starts
+sub-ends-on-time-2 c = omega arith
 
 ends-on-time-requires : tie.Need-ends-on-time-requires Inv-loop μ-loop Inv-starts μ-starts
-ends-on-time-requires c κs = search needs
+ends-on-time-requires c κs =
+    (c .before .before .before .before .before .pre .0, (omega arith, omega arith, omega arith, omega arith))
 
 enum-told : tie.Need-enum-told Inv-loop μ-loop Inv-starts μ-starts
 enum-told c = search needs
@@ -47,16 +62,13 @@ enum-told c = search needs
 enum-told-2 : tie.Need-enum-told-2 Inv-loop μ-loop Inv-starts μ-starts
 enum-told-2 c = search needs
 
-add-start : tie.Need-add-start Inv-loop μ-loop Inv-starts μ-starts
-add-start c = search needs
-
 starts-less : tie.Need-starts-less Inv-loop μ-loop Inv-starts μ-starts
-starts-less c = omega (arith, c .before .before .before .before .loop .inv .0)
+starts-less c = omega (arith, c .before .before .before .before .loop .inv .1)
 
 -- a late entry is late in the groups that start between this start and it
 starts-again : tie.Need-starts-again Inv-loop μ-loop Inv-starts μ-starts
 starts-again c =
-    let k = c .before .before .before .before .before .before .before in
+    let k = c .before .before .before .before .before .before .before .before in
     let l = c .before .before .before .before .loop in
     let s = c .before .before .before .before .before .before .starts in
     let late = sym (ap endsOnTime (c .enum-told2 .given .1)) ∙ c .before .before .ends-on-time .ensures in (
@@ -65,35 +77,37 @@ starts-again c =
           (λ y. s .inv .0 b (omega arith) g)
           (λ z.
           false≢true (late
-          ∙ widen _ (k .pre .0) b (l .start) _ (l .i) (omega arith) (omega arith) (omega arith)
-          (omega (arith, length-entries (k .args .words .now) 0 (k .args .count))) (g (l .i) (omega arith) (omega arith)))),
+          ∙ widen _ (k .pre .0) b (l .start) _ (l .i - 1) (omega arith) (omega arith) (omega arith)
+          (omega (arith, length-entries (k .args .words .now) 0 (k .args .count))) (g (l .i - 1) (omega arith) (omega arith)))),
       omega arith,
     )
 
-add-i : tie.Need-add-i Inv-loop μ-loop Inv-starts μ-starts
-add-i c = search needs
+sub-i : tie.Need-sub-i Inv-loop μ-loop Inv-starts μ-starts
+sub-i c = omega arith
 
 loop-less : tie.Need-loop-less Inv-loop μ-loop Inv-starts μ-starts
-loop-less c = search needs
+loop-less c = omega arith
 
 loop-again : tie.Need-loop-again Inv-loop μ-loop Inv-starts μ-starts
 loop-again c =
     let l = c .before .before .before .before .loop in (
-      l .inv .0,
-      omega arith,
-      omega arith,
-      l .inv .3,
       λ j lo hi.
           by-cases (decLt j (l .i))
-          (λ y. l .inv .4 j lo y)
-          (λ z. let e : j ≡ l .i = omega arith in rw e (sym (c .before .before .ends-on-time .ensures) ∙ ap endsOnTime (c .enum-told .given .1))),
+          (λ y.
+          let e : j ≡ l .i - 1 = omega arith in
+          rw e (sym (c .before .before .ends-on-time .ensures) ∙ ap endsOnTime (c .enum-told .given .1)))
+          (λ z. l .inv .0 j (omega arith) hi),
+      l .inv .1,
+      omega arith,
+      omega arith,
+      l .inv .4,
     )
 
 returns : tie.Need-returns Inv-loop μ-loop Inv-starts μ-starts
 returns c =
     let l = c .before .loop in
     let s = c .before .before .before .starts in
-    (omega arith, (λ i lo hi. l .inv .4 i lo (omega arith)), λ b h g. s .inv .0 b (omega arith) g)
+    (l .inv .4, (λ i lo hi. l .inv .0 i (omega arith) hi), λ b h g. s .inv .0 b (omega arith) g)
 
 returns-2 : tie.Need-returns-2 Inv-loop μ-loop Inv-starts μ-starts
 returns-2 c = λ b h g. c .before .starts .inv .0 b (omega arith) g
@@ -106,16 +120,17 @@ least-start-spec =
     μ-loop
     Inv-starts
     μ-starts
+    behind-late-requires
     starts-holds
     loop-holds
     sub-ends-on-time
+    sub-ends-on-time-2
     ends-on-time-requires
     enum-told
     enum-told-2
-    add-start
     starts-less
     starts-again
-    add-i
+    sub-i
     loop-less
     loop-again
     returns

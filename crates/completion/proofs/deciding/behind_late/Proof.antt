@@ -1,0 +1,121 @@
+use Prim.Native.Nat.{ℕ, _+_, _-_, _≤_}
+use mathlib.Core.Path.{_≡_, ap}
+use mathlib.Core.Bool.{false}
+use native.Mathlib.Omega.{arith}
+use borrow.Author.Needs.{needs}
+use Rattle.task_model.specs.declared.Entry.{Entry}
+use Rattle.task_model.specs.Words.{entriesOf}
+use Rattle.task_model.proofs.Laws.{all-at, all-fewer}
+use Rattle.completion.specs.Demand.{sumTo}
+use Rattle.completion.specs.Group.{groupLevel}
+use Rattle.completion.specs.Test.{completionTest, isOnTime}
+use Rattle.completion.proofs.Words.{wcetOf, wcet-small}
+use Rattle.completion.proofs.Early.{late-runs}
+use Rattle.completion.proofs.deciding.behind_late.Statement.{statement}
+use Rattle.completion.proofs.deciding.behind_late.Tie as tie
+
+abbrev Inv-loop : tie.InvT-loop
+Inv-loop words count end runs behind₀ i₀ behind i =
+    ((k first : ℕ) → behind ≡ k + 1 → first ≤ k
+    → isOnTime (completionTest (entriesOf words count) (groupLevel first (end - 1)) k) ≡ false)
+    × (behind ≤ i)
+    × (i ≤ end)
+    × (runs ≤ 64000000000)
+
+abbrev μ-loop : tie.MeasureT-loop
+μ-loop words count end runs behind₀ i₀ behind i = end - i
+
+wcet-sum-requires : tie.Need-wcet-sum-requires Inv-loop μ-loop
+wcet-sum-requires c κs = (all-fewer _ _ _ (omega arith) (c .pre .0), omega arith)
+
+loop-holds : tie.Need-loop-holds Inv-loop μ-loop
+loop-holds c =
+    let a = c .before .args in (
+      λ k first e h. absurd (omega arith),
+      omega arith,
+      omega arith,
+      omega (arith, c .wcet-sum .ensures, wcet-small (a .words .now) (a .count) (c .before .pre .0) (omega arith) (a .end) (omega arith)),
+    )
+
+entry-at-requires : tie.Need-entry-at-requires Inv-loop μ-loop
+entry-at-requires c κs = omega arith
+
+cast-if1 : tie.Need-cast-if1 Inv-loop μ-loop
+cast-if1 c = search needs
+
+-- the entry at hand is within the limits
+few : (c : tie.After-entry-at Inv-loop μ-loop) → c .entry-at .result .blocking ≤ 1000000000
+few c =
+    let s = c .before .before .before .before in
+    omega (
+      arith,
+      ap (λ (e : Entry). e .blocking) (c .entry-at .ensures),
+      all-at _ _ (s .pre .0) (c .before .before .loop .i) (omega arith) .times,
+    )
+
+add-if1 : tie.Need-add-if1 Inv-loop μ-loop
+add-if1 c = omega (arith, few (c .before), c .before .before .before .loop .inv .3)
+
+cast-if1-2 : tie.Need-cast-if1-2 Inv-loop μ-loop
+cast-if1-2 c = search needs
+
+add-i : tie.Need-add-i Inv-loop μ-loop
+add-i c = omega arith
+
+loop-less : tie.Need-loop-less Inv-loop μ-loop
+loop-less c = omega arith
+
+loop-again : tie.Need-loop-again Inv-loop μ-loop
+loop-again c =
+    let l = c .before .before .before .before .before .loop in
+    (l .inv .0, omega arith, omega arith, l .inv .3)
+
+add-behind : tie.Need-add-behind Inv-loop μ-loop
+add-behind c = omega arith
+
+add-i-2 : tie.Need-add-i-2 Inv-loop μ-loop
+add-i-2 c = omega arith
+
+loop-less-2 : tie.Need-loop-less-2 Inv-loop μ-loop
+loop-less-2 c = omega arith
+
+loop-again-2 : tie.Need-loop-again-2 Inv-loop μ-loop
+loop-again-2 c =
+    let s = c .before .before .before .before .before .before .before in
+    let l = c .before .before .before .before .before .loop in
+    let ws = s .args .words .now in
+    let runs : c .before .before .before .before .before .before .wcet-sum .result ≡ sumTo (wcetOf ws) ((s .args .end - 1) + 1) =
+    let whole : (s .args .end - 1) + 1 ≡ s .args .end = omega arith in
+    rw whole (c .before .before .before .before .before .before .wcet-sum .ensures) in (
+      λ k first e h.
+          let same : l .i ≡ k = omega arith in
+          rw same at (late-runs ws (s .args .count) (s .pre .0) first (s .args .end - 1) (l .i) (omega arith) (omega arith) (omega arith) _
+          (c .before .before .before .entry-at .ensures) _ runs (omega (arith, c .if1 .left))),
+      omega arith,
+      omega arith,
+      l .inv .3,
+    )
+
+returns : tie.Need-returns Inv-loop μ-loop
+returns c = (c .before .loop .inv .0, omega arith)
+
+pub behind-late-spec : {M : Type 1} → statement M
+behind-late-spec =
+    tie.close
+    (tie.spec
+    Inv-loop
+    μ-loop
+    wcet-sum-requires
+    loop-holds
+    entry-at-requires
+    cast-if1
+    add-if1
+    cast-if1-2
+    add-i
+    loop-less
+    loop-again
+    add-behind
+    add-i-2
+    loop-less-2
+    loop-again-2
+    returns)
