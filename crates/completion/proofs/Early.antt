@@ -48,12 +48,16 @@ module _ (ws : List ℕ) (n : ℕ) (all : AllHold (entriesOf ws n)) (first last 
       late-none (entriesOf ws n) all (groupLevel first last) i i-known .1
       (λ t l w. omega (arith, due, not-before (entriesOf ws n) all (groupLevel first last) i i-known t w))
 
+  -- where the test starts
+  pub start-runs : (runs : ℕ) → runs ≡ sumTo (wcetOf ws) (last + 1)
+      → own .blocking + runs ≡ start (entriesOf ws n) (groupLevel first last) i
+  start-runs runs p =
+      omega (arith, p, ap (λ (e : Entry). e .blocking) named, words-start ws n first last i hf hi hl)
+
   -- late by one run of each entry, whatever the group starts with
   pub late-runs : (runs : ℕ) → runs ≡ sumTo (wcetOf ws) (last + 1) → own .deadline < own .blocking + runs
       → isOnTime (completionTest (entriesOf ws n) (groupLevel first last) i) ≡ false
-  late-runs runs p h =
-      late-start (own .blocking + runs)
-      (omega (arith, p, ap (λ (e : Entry). e .blocking) named, words-start ws n first last i hf hi hl)) h
+  late-runs runs p h = late-start (own .blocking + runs) (start-runs runs p) h
 
   -- no time at which the demand is met is before a bound by the load
   pub not-earlier : (s x : ℕ) → s ≡ start (entriesOf ws n) (groupLevel first last) i

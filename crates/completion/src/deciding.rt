@@ -3,8 +3,6 @@
 // exactly if its demand is met by its deadline.
 use super::Ending;
 use super::demand_at;
-use super::start_at;
-use super::wcet_sum;
 use task_model::Entry;
 use task_model::entry_at;
 ghost use mathlib.Core.Path.{_≡_};
@@ -119,14 +117,23 @@ fn met_from(
 
 // Whether the entry at `i` of a node ends by its deadline, in the group from `first` to `last`; the entries before it are
 // more urgent. Its rounds are followed only where its demand at the deadline does not decide, and from as late as the load
-// allows.
-pub fn ends_on_time(words: &[u32; 320], count: usize, first: usize, last: usize, i: usize) -> Ending
-    requires { ⌜ AllHold (entriesOf (now words) count) ⌝ ∗ ⌜ (first ≤ i) × (i ≤ last) × (last < count) × (count ≤ 64) ⌝ }
-    ensures { λ a. ⌜ endsOnTime a ≡ isOnTime (completionTest (entriesOf (now (words .entry)) count) (groupLevel first last) i) ⌝ }
+// allows. `runs` is the sum of the runs up to `last`, which a search needs many times.
+pub fn ends_on_time(
+    words: &[u32; 320],
+    count: usize,
+    first: usize,
+    last: usize,
+    i: usize,
+    runs: u64,
+) -> Ending
+    requires { ⌜ AllHold (entriesOf (now words) count) ⌝ ∗ ⌜ (first ≤ i) × (i ≤ last) × (last < count) × (count ≤ 64) ⌝
+        ∗ ⌜ runs ≡ sumTo (λ j. entryOf (now words) j .wcet) (last + 1) ⌝ }
+    ensures { λ a.
+        ⌜ endsOnTime a ≡ isOnTime (completionTest (entriesOf (now (words .entry)) count) (groupLevel first last) i) ⌝ }
 {
     let own = entry_at(words, i);
     let deadline = own.deadline;
-    let start = start_at(words, count, first, last, i);
+    let start = own.blocking as u64 + runs;
     if (deadline as u64) < start {
         return Ending::Late;
     }
@@ -138,15 +145,15 @@ pub fn ends_on_time(words: &[u32; 320], count: usize, first: usize, last: usize,
 }
 
 // The position behind the last entry whose deadline is shorter than its blocking and a run of every entry before `end`, or
-// 0: such an entry is late in each group that ends before `end` and has it.
-pub fn behind_late(words: &[u32; 320], count: usize, end: usize) -> usize
-    requires { ⌜ AllHold (entriesOf (now words) count) ⌝ ∗ ⌜ (end ≤ count) × (count ≤ 64) ⌝ }
+// 0: such an entry is late in each group that ends before `end` and has it. `runs` is the sum of these runs.
+pub fn behind_late(words: &[u32; 320], count: usize, end: usize, runs: u64) -> usize
+    requires { ⌜ AllHold (entriesOf (now words) count) ⌝ ∗ ⌜ (end ≤ count) × (count ≤ 64) ⌝
+        ∗ ⌜ runs ≡ sumTo (λ j. entryOf (now words) j .wcet) end ⌝ }
     ensures { λ s.
         ⌜ ((i first : ℕ) → s ≡ i + 1 → first ≤ i
         → isOnTime (completionTest (entriesOf (now (words .entry)) count) (groupLevel first (end - 1)) i) ≡ false)
         × (s ≤ end) ⌝ }
 {
-    let runs = wcet_sum(words, end);
     let mut behind: usize = 0;
     for i in 0..end {
         let e = entry_at(words, i);

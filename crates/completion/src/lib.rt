@@ -96,7 +96,7 @@ fn demand_at(words: &[u32; 320], count: usize, first: usize, last: usize, i: usi
 }
 
 // The longest runs of the entries before position `end`, added up.
-fn wcet_sum(words: &[u32; 320], end: usize) -> u64
+pub fn wcet_sum(words: &[u32; 320], end: usize) -> u64
     requires { ⌜ AllHold (entriesOf (now words) end) ⌝ ∗ ⌜ end ≤ 64 ⌝ }
     ensures { λ x. ⌜ x ≡ sumTo (λ j. entryOf (now (words .entry)) j .wcet) end ⌝ }
 {

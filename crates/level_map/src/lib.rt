@@ -11,6 +11,7 @@ ghost use Rattle.level_map.specs.Groups.{GroupPasses, LeastStart, levels
 use completion::Ending;
 use completion::behind_late;
 use completion::ends_on_time;
+use completion::wcet_sum;
 
 // A map, with the number of its levels, or that no map passes.
 // `answer` in specs/Answer gives the number that a user sees.
@@ -32,11 +33,12 @@ fn least_start(words: &[u32; 320], count: usize, end: usize) -> Start
     requires { ⌜ AllHold (entriesOf (now words) count) ⌝ ∗ ⌜ (end ≤ count) × (count ≤ 64) ⌝ }
     ensures { λ a. ⌜ LeastStart (GroupPasses (entriesOf (now (words .entry)) count) end) end a ⌝ }
 {
-    let mut start = behind_late(words, count, end);
+    let runs = wcet_sum(words, end);
+    let mut start = behind_late(words, count, end, runs);
     'starts: while start < end {
         let mut i = end;
         while start < i {
-            let Ending::OnTime = ends_on_time(words, count, start, end - 1, i - 1) else {
+            let Ending::OnTime = ends_on_time(words, count, start, end - 1, i - 1, runs) else {
                 start = i;
                 continue 'starts;
             };

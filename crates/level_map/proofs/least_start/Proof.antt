@@ -6,7 +6,7 @@ use native.Mathlib.Omega.{arith}
 use native.Mathlib.Decide.{decLt}
 use borrow.Author.Needs.{needs}
 use Rattle.task_model.specs.Words.{entriesOf}
-use Rattle.task_model.proofs.Laws.{length-entries}
+use Rattle.task_model.proofs.Laws.{length-entries, all-fewer}
 use Rattle.completion.specs.Group.{groupLevel}
 use Rattle.completion.specs.Test.{completionTest, isOnTime, endsOnTime}
 use Rattle.completion.proofs.Theorems.{widen}
@@ -16,23 +16,26 @@ use Rattle.level_map.proofs.least_start.Tie as tie
 
 -- the entries from i on are on time in the group from this start
 abbrev Inv-loop : tie.InvT-loop
-Inv-loop words count end start₀ i₀ start i =
+Inv-loop words count end runs start₀ i₀ start i =
     ((j : ℕ) → i ≤ j → j < end → isOnTime (completionTest (entriesOf words count) (groupLevel start (end - 1)) j) ≡ true)
     × (start ≡ start₀) × (start ≤ i) × (i ≤ end) × (start < end)
 
 abbrev μ-loop : tie.MeasureT-loop
-μ-loop words count end start₀ i₀ start i = i
+μ-loop words count end runs start₀ i₀ start i = i
 
 -- no group that starts before this start passes
 abbrev Inv-starts : tie.InvT-starts
-Inv-starts words count end start₀ start =
+Inv-starts words count end runs start₀ start =
     ((b : ℕ) → b < start → GroupPasses (entriesOf words count) end b → ⊥) × (start ≤ end)
 
 abbrev μ-starts : tie.MeasureT-starts
-μ-starts words count end start₀ start = end - start
+μ-starts words count end runs start₀ start = end - start
+
+wcet-sum-requires : tie.Need-wcet-sum-requires Inv-loop μ-loop Inv-starts μ-starts
+wcet-sum-requires c κs = (all-fewer _ _ _ (omega arith) (c .pre .0), omega arith)
 
 behind-late-requires : tie.Need-behind-late-requires Inv-loop μ-loop Inv-starts μ-starts
-behind-late-requires c κs = search needs
+behind-late-requires c κs = (c .before .pre .0, ((omega arith, omega arith), c .wcet-sum .ensures))
 
 starts-holds : tie.Need-starts-holds Inv-loop μ-loop Inv-starts μ-starts
 starts-holds c =
@@ -54,7 +57,11 @@ sub-ends-on-time-2 c = omega arith
 
 ends-on-time-requires : tie.Need-ends-on-time-requires Inv-loop μ-loop Inv-starts μ-starts
 ends-on-time-requires c κs =
-    (c .before .before .before .before .before .pre .0, (omega arith, omega arith, omega arith, omega arith))
+    let k = c .before .before .before .before .before .before in
+    let whole : (k .args .end - 1) + 1 ≡ k .args .end = omega arith in (
+      k .pre .0,
+      ((omega arith, omega arith, omega arith, omega arith), rw whole (c .before .before .before .before .before .wcet-sum .ensures)),
+    )
 
 enum-told : tie.Need-enum-told Inv-loop μ-loop Inv-starts μ-starts
 enum-told c = search needs
@@ -68,7 +75,7 @@ starts-less c = omega (arith, c .before .before .before .before .loop .inv .1)
 -- a late entry is late in the groups that start between this start and it
 starts-again : tie.Need-starts-again Inv-loop μ-loop Inv-starts μ-starts
 starts-again c =
-    let k = c .before .before .before .before .before .before .before .before in
+    let k = c .before .before .before .before .before .before .before .before .before in
     let l = c .before .before .before .before .loop in
     let s = c .before .before .before .before .before .before .starts in
     let late = sym (ap endsOnTime (c .enum-told2 .given .1)) ∙ c .before .before .ends-on-time .ensures in (
@@ -120,6 +127,7 @@ least-start-spec =
     μ-loop
     Inv-starts
     μ-starts
+    wcet-sum-requires
     behind-late-requires
     starts-holds
     loop-holds

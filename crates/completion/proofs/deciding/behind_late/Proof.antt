@@ -5,7 +5,7 @@ use native.Mathlib.Omega.{arith}
 use borrow.Author.Needs.{needs}
 use Rattle.task_model.specs.declared.Entry.{Entry}
 use Rattle.task_model.specs.Words.{entriesOf}
-use Rattle.task_model.proofs.Laws.{all-at, all-fewer}
+use Rattle.task_model.proofs.Laws.{all-at}
 use Rattle.completion.specs.Demand.{sumTo}
 use Rattle.completion.specs.Group.{groupLevel}
 use Rattle.completion.specs.Test.{completionTest, isOnTime}
@@ -25,16 +25,13 @@ Inv-loop words count end runs behind₀ i₀ behind i =
 abbrev μ-loop : tie.MeasureT-loop
 μ-loop words count end runs behind₀ i₀ behind i = end - i
 
-wcet-sum-requires : tie.Need-wcet-sum-requires Inv-loop μ-loop
-wcet-sum-requires c κs = (all-fewer _ _ _ (omega arith) (c .pre .0), omega arith)
-
 loop-holds : tie.Need-loop-holds Inv-loop μ-loop
 loop-holds c =
-    let a = c .before .args in (
+    let a = c .args in (
       λ k first e h. absurd (omega arith),
       omega arith,
       omega arith,
-      omega (arith, c .wcet-sum .ensures, wcet-small (a .words .now) (a .count) (c .before .pre .0) (omega arith) (a .end) (omega arith)),
+      omega (arith, c .pre .1 .1, wcet-small (a .words .now) (a .count) (c .pre .0) (omega arith) (a .end) (omega arith)),
     )
 
 entry-at-requires : tie.Need-entry-at-requires Inv-loop μ-loop
@@ -46,7 +43,7 @@ cast-if1 c = search needs
 -- the entry at hand is within the limits
 few : (c : tie.After-entry-at Inv-loop μ-loop) → c .entry-at .result .blocking ≤ 1000000000
 few c =
-    let s = c .before .before .before .before in
+    let s = c .before .before .before in
     omega (
       arith,
       ap (λ (e : Entry). e .blocking) (c .entry-at .ensures),
@@ -81,12 +78,12 @@ loop-less-2 c = omega arith
 
 loop-again-2 : tie.Need-loop-again-2 Inv-loop μ-loop
 loop-again-2 c =
-    let s = c .before .before .before .before .before .before .before in
+    let s = c .before .before .before .before .before .before in
     let l = c .before .before .before .before .before .loop in
     let ws = s .args .words .now in
-    let runs : c .before .before .before .before .before .before .wcet-sum .result ≡ sumTo (wcetOf ws) ((s .args .end - 1) + 1) =
+    let runs : s .args .runs ≡ sumTo (wcetOf ws) ((s .args .end - 1) + 1) =
     let whole : (s .args .end - 1) + 1 ≡ s .args .end = omega arith in
-    rw whole (c .before .before .before .before .before .before .wcet-sum .ensures) in (
+    rw whole (s .pre .1 .1) in (
       λ k first e h.
           let same : l .i ≡ k = omega arith in
           rw same at (late-runs ws (s .args .count) (s .pre .0) first (s .args .end - 1) (l .i) (omega arith) (omega arith) (omega arith) _
@@ -105,7 +102,6 @@ behind-late-spec =
     (tie.spec
     Inv-loop
     μ-loop
-    wcet-sum-requires
     loop-holds
     entry-at-requires
     cast-if1

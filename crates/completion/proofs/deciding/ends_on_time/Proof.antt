@@ -1,24 +1,20 @@
-use Prim.Native.Nat.{_≤_}
+use Prim.Native.Nat.{_+_, _≤_}
 use mathlib.Core.Path.{_≡_, sym, ap}
 use native.Mathlib.Nat.{le-refl}
 use native.Mathlib.Omega.{arith}
 use borrow.Author.Needs.{needs}
 use Rattle.task_model.specs.declared.Entry.{Entry}
-use Rattle.task_model.specs.Words.{entryOf}
+use Rattle.task_model.specs.Words.{entryOf, entriesOf}
 use Rattle.task_model.proofs.Laws.{all-at, all-fewer}
-use Rattle.completion.proofs.Words.{words-begin}
-use Rattle.completion.proofs.Early.{late-start, on-time-at, not-earlier, runs-below}
+use Rattle.completion.specs.Demand.{start}
+use Rattle.completion.specs.Group.{groupLevel}
+use Rattle.completion.proofs.Words.{words-begin, wcet-small}
+use Rattle.completion.proofs.Early.{start-runs, late-start, on-time-at, not-earlier, runs-below}
 use Rattle.completion.proofs.deciding.ends_on_time.Statement.{statement}
 use Rattle.completion.proofs.deciding.ends_on_time.Tie as tie
 
 entry-at-requires : tie.Need-entry-at-requires
 entry-at-requires c κs = search needs
-
-start-at-requires : tie.Need-start-at-requires
-start-at-requires c κs = search needs
-
-cast-if1 : tie.Need-cast-if1
-cast-if1 c = search needs
 
 -- the entry, and its deadline
 module _ (c : tie.After-entry-at) where
@@ -31,10 +27,30 @@ module _ (c : tie.After-entry-at) where
       let d = ap (λ (e : Entry). e .deadline) own in
       (omega arith, omega arith)
 
+  begins : c .entry-at .result .blocking + c .before .args .runs
+      ≡ start (entriesOf (c .before .args .words .now) (c .before .args .count)) (groupLevel (c .before .args .first) (c .before .args .last))
+      (c .before .args .i)
+  begins =
+      start-runs _ _ (c .before .pre .0) _ _ _ (omega arith) (omega arith) (omega arith) _ own _ (c .before .pre .1 .1)
+
+cast-start : tie.Need-cast-start
+cast-start c = search needs
+
+add-start : tie.Need-add-start
+add-start c =
+    let s = c .before .before in
+    let a = s .args in
+    let b = ap (λ (e : Entry). e .blocking) (own (c .before)) in
+    let h = all-at _ _ (s .pre .0) (a .i) (omega arith) .times in
+    omega (arith, s .pre .1 .1, wcet-small (a .words .now) (a .count) (s .pre .0) (omega arith) (a .last + 1) (omega arith))
+
+cast-if1 : tie.Need-cast-if1
+cast-if1 c = search needs
+
 returns : tie.Need-returns
 returns c =
     sym (late-start _ _ (c .before .before .before .pre .0) _ _ _ (omega arith) (omega arith) (omega arith) _
-    (own (c .before .before)) _ (c .before .start-at .ensures) (c .if1 .taken))
+    (own (c .before .before)) _ (begins (c .before .before)) (c .if1 .taken))
 
 demand-at-requires : tie.Need-demand-at-requires
 demand-at-requires c κs =
@@ -58,7 +74,7 @@ earliest-requires c κs =
         omega arith,
         (
           runs-below _ _ (p .0) _ _ _ (omega arith) (omega arith) (omega arith) _ (own (c .before .before .before .before)) _ _
-              (c .before .before .before .start-at .ensures) (omega arith),
+              (begins (c .before .before .before .before)) (omega arith),
           omega (arith, c .before .before .if1 .left),
           few (c .before .before .before .before) .1,
         ),
@@ -69,7 +85,7 @@ met-from-requires : tie.Need-met-from-requires
 met-from-requires c κs =
     let p = c .before .before .before .before .before .before .pre in
     let a = c .before .before .before .before .before .before .args in
-    let s = c .before .before .before .before .start-at .ensures in (
+    let s = begins (c .before .before .before .before .before) in (
       p .0,
       (
         (omega arith, omega arith, omega arith, omega arith),
@@ -89,7 +105,8 @@ ends-on-time-spec =
     tie.close
     (tie.spec
     entry-at-requires
-    start-at-requires
+    cast-start
+    add-start
     cast-if1
     returns
     demand-at-requires
