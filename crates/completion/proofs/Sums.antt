@@ -106,7 +106,7 @@ sumTo-step f s x n p q = rw sumTo-more (ap₂ _+_ p q)
 pub sumTo-all : (f : ℕ → ℕ) (s m n : ℕ) → s ≡ sumTo f m → m ≡ n → s ≡ sumTo f n
 sumTo-all f s m n p q = p ∙ ap (sumTo f) q
 
--- what a greater summand adds over a part
+-- term by term, over a part
 pub part-le : (f g : ℕ → ℕ) (a b : ℕ) → a ≤ b → ((j : ℕ) → j < b → f j ≤ g j) → sumTo f b - sumTo f a ≤ sumTo g b - sumTo g a
 part-le f g a b le h =
     let d : ℕ → ℕ = λ j. g j - f j in

@@ -1,5 +1,5 @@
--- The load of the more urgent entries, by which some entries are late for certain before any round. It only spares work:
--- no promise of the planner speaks of it.
+-- The load of the more urgent entries, which bounds from below, before any round, when an entry can end. It only spares
+-- work: no public promise speaks of it.
 use Prim.Native.Nat.{ℕ, _*_, _/_}
 use lib.Dec.{ltb}
 use Rattle.task_model.specs.declared.Entry.{Entry}
@@ -13,7 +13,8 @@ one = 17179869184
 unfoldable pub load : Entry → ℕ
 load e = (one * e .wcet) / e .period
 
--- Up to a deadline d, an entry with a period shorter than d runs at least its load times t; any other runs at least once.
+-- In t ticks, up to a deadline d, an entry with a period shorter than d runs at least its load times t; any other at least
+-- once.
 -- These are the load and the run that the first kind adds to a sum, and 0 for the second.
 unfoldable pub recurringLoad : ℕ → Entry → ℕ
 recurringLoad d e = only (ltb (e .period) d) (load e)

@@ -15,7 +15,7 @@ ghost use Rattle.completion.specs.Group.{groupLevel};
 ghost use Rattle.completion.specs.Test.{completionTest, isOnTime, endsOnTime};
 ghost use Rattle.completion.specs.Load.{one, recurringLoad, recurringRun};
 
-// A load of 1. Loads are in units of 2^-34: no finer one keeps the numbers of `earliest` in 64 bits.
+// A load of 1. Loads are in units of 2^-34: with a finer power of 2 the numbers of `earliest` would not fit in 64 bits.
 const ONE: u64 = 17179869184;
 
 // Of entries with periods shorter than a deadline: their loads, and their runs, added up.
@@ -66,7 +66,8 @@ fn free_share(load: u64) -> u64
 }
 
 // A time before which the demand of an entry is not met: where its test starts, `start`, or later by the load of the more
-// urgent entries, those before `first`. Their load leaves too little free for what runs once.
+// urgent entries, those before `first`. Before that time their load leaves too little free for what runs once; a load of 1
+// leaves nothing at any time, and then a time behind the deadline is as good as any.
 fn earliest(words: &[u32; 320], first: usize, deadline: u32, start: u64) -> u64
     requires { ⌜ AllHold (entriesOf (now words) first) ⌝ ∗ ⌜ first ≤ 64 ⌝
         ∗ ⌜ (sumTo (λ j. entryOf (now words) j .wcet) first < start) × (start ≤ deadline) × (deadline ≤ 1000000000) ⌝ }
@@ -145,7 +146,7 @@ pub fn ends_on_time(
 }
 
 // The position behind the last entry whose deadline is shorter than its blocking and a run of every entry before `end`, or
-// 0: such an entry is late in each group that ends before `end` and has it. `runs` is the sum of these runs.
+// 0: such an entry is late in each group that ends just before `end` and has it. `runs` is the sum of these runs.
 pub fn behind_late(words: &[u32; 320], count: usize, end: usize, runs: u64) -> usize
     requires { ⌜ AllHold (entriesOf (now words) count) ⌝ ∗ ⌜ (end ≤ count) × (count ≤ 64) ⌝
         ∗ ⌜ runs ≡ sumTo (λ j. entryOf (now words) j .wcet) end ⌝ }

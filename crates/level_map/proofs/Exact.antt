@@ -30,7 +30,7 @@ chosen-same f x =
       longest = λ a i p e. x .longest a i (f a .1 p) e;
     }
 
--- A test of the maps of n entries that goes by their groups, with the one law that the search needs.
+-- A test of the maps of n entries that goes by their groups, with the one law by which the greedy choice is the best one.
 pub record GroupTest (n : ℕ) : Type 1 where
   -- the entry at i is on time in the group from a up to, and without, e; it stays so when the group loses entries at its
   -- end

@@ -26,9 +26,9 @@ enum Start {
     Nowhere,
 }
 
-// The least start of a group that ends before `end` and has no late entry. An entry that is late stays late in each group
-// that starts later and has it, since what leaves its level becomes more urgent: so the next start to try is behind it, and
-// the last entries, which rule out the most starts, are asked first. Of a longer group its lateness says nothing.
+// The least start of a group that ends just before `end` and has no late entry. An entry that is late stays late in each
+// group that starts later and has it, since what leaves its level becomes more urgent: so the next start to try is behind
+// it, and the last entries, which rule out the most starts, are asked first. Of a longer group its lateness says nothing.
 fn least_start(words: &[u32; 320], count: usize, end: usize) -> Start
     requires { ⌜ AllHold (entriesOf (now words) count) ⌝ ∗ ⌜ (end ≤ count) × (count ≤ 64) ⌝ }
     ensures { λ a. ⌜ LeastStart (GroupPasses (entriesOf (now (words .entry)) count) end) end a ⌝ }

@@ -1,4 +1,4 @@
-//! Odd plans: the proved listing beside the plain search, which has no bound.
+//! Odd plans: the proved listing beside the plain search, which follows every round.
 //!
 //! Each listing runs in a process of its own, with a limit, because it may
 //! take hours.
@@ -24,7 +24,7 @@ const TURNS: usize = 3;
 
 /// The table of the families.
 pub fn families() {
-    println!("\n| Listing of 32 nodes of 64 entries | proved | plain, without a bound |");
+    println!("\n| Listing of 32 nodes of 64 entries | proved | plain, every round |");
     println!("|---|---|---|");
     for (at, (name, _)) in all().into_iter().enumerate() {
         let (proved, _) = in_child("proved", at, PROVED_LIMIT);
