@@ -153,6 +153,33 @@ fn spec_example() {
     assert_eq!(listing, text("samples/p.txt"));
 }
 
+/// `make list` says what is wrong with the name that it is given.
+#[test]
+fn make_list_names_the_problem() {
+    for (plan, due) in [
+        ("", "make list: PLAN is empty"),
+        (
+            "samples/no such.plan",
+            "make list: there is no file 'samples/no such.plan'",
+        ),
+        ("samples", "make list: 'samples' is a directory"),
+    ] {
+        let done = Command::new("make")
+            .arg("list")
+            .arg(format!("PLAN={plan}"))
+            .current_dir(root())
+            // As from a shell, also where the tests are run by make.
+            .env_remove("MAKELEVEL")
+            .env_remove("MAKEFLAGS")
+            .output()
+            .expect("make starts");
+        assert!(!done.status.success());
+        assert!(done.stdout.is_empty());
+        let said = String::from_utf8_lossy(&done.stderr);
+        assert!(said.starts_with(due), "{said}");
+    }
+}
+
 /// The bytes that a line begins with, up to what is said of them.
 fn hexadecimal(line: &str) -> impl Iterator<Item = u8> + '_ {
     line.split_whitespace()
