@@ -9,7 +9,7 @@ ghost use Rattle.task_model.specs.Limits.{AllHold, TimesHold};
 ghost use Rattle.task_model.specs.Words.{entryOf, entriesOf};
 ghost use Rattle.completion.specs.Demand.{releases, sumTo, urgentShare, besideShare, demand, start};
 ghost use Rattle.completion.specs.Group.{groupLevel};
-ghost use Rattle.completion.specs.Test.{completion, completionTest};
+ghost use Rattle.completion.specs.Test.{completion, completionTest, roundsIn};
 use task_model::Entry;
 use task_model::entry_at;
 
@@ -17,6 +17,18 @@ use task_model::entry_at;
 pub enum Timing {
     OnTime { time: u32, rounds: u32 },
     Late { rounds: u32 },
+}
+
+impl Timing {
+    // The rounds, on time or late.
+    pub fn rounds(self) -> u32
+        ensures { λ n. ⌜ n ≡ roundsIn (completion self) ⌝ }
+    {
+        match self {
+            Timing::OnTime { time: _, rounds } => rounds,
+            Timing::Late { rounds } => rounds,
+        }
+    }
 }
 
 // Whether an entry ends by its deadline, and no more.

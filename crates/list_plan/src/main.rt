@@ -1,29 +1,36 @@
 // Lists the plan file on standard input: the listing, or the one line that the file is refused with, and nothing else.
 ghost use mathlib.Core.Path.{_≡_};
+ghost use mathlib.Core.List.{List};
+ghost use Prim.Native.Nat.{ℕ, _<_};
 ghost use lib.ListN.{length, take};
 ghost use Rattle.io.specs.Counts.{Counts};
 ghost use Rattle.listing.specs.Listing.{listing};
+ghost use Rattle.list_plan.specs.Input.{ReadOf};
 use listing::Listed;
 
 // One byte more than an input may have: an input of this length is refused, so the rest of it need not be read.
 const READ_MOST: usize = 65537;
 
-// Writes the listing from the start of a buffer that every listing fits into, and answers its length.
-fn write_listing(file: &[u8], text: &mut [u8; listing::MOST_TEXT]) -> usize
-    requires { ⌜ length (now text) ≡ 115625 ⌝ }
-    ensures { λ n. ⌜ Counts n (now (text .exit)) ⌝ }
-    ensures { λ n. ⌜ take n (now (text .exit)) ≡ listing (now (file .entry)) ⌝ }
+// Makes the text that is written for an input of which the first `n` bytes of `array` were read: its listing, from the
+// start of a buffer that every listing fits into. Answers its length.
+fn list_read(array: &[u8], n: usize, text: &mut [u8; listing::MOST_TEXT]) -> usize
+    requires { ⌜ Counts n (now array) ⌝ ∗ ⌜ 65536 < length (now array) ⌝ ∗ ⌜ length (now text) ≡ 115625 ⌝ }
+    ensures { λ m. ⌜ Counts m (now (text .exit)) ⌝ }
+    ensures { λ m.
+        ⌜ ((input : List ℕ) → ReadOf input (now (array .entry)) n → take m (now (text .exit)) ≡ listing input) ⌝ }
 {
-    let Listed::Text(n) = listing::list_plan(file, text) else {
+    let Listed::Text(m) = listing::list_plan(&array[..n], text) else {
         return 0;
     };
-    n
+    m
 }
 
 fn main() {
     let mut file = [0u8; READ_MOST];
     let n = io::read_full(0, &mut file);
     let mut text = [0u8; listing::MOST_TEXT];
-    let m = write_listing(&file[..n], &mut text);
-    io::write_all(1, &text[..m]);
+    let m = list_read(&file, n, &mut text);
+    if !io::write_all(1, &text[..m]) {
+        io::write_all(2, b"list_plan: the listing could not be written\n");
+    }
 }

@@ -1,4 +1,4 @@
--- An input that is longer than any plan is answered as its first 65,537 bytes are.
+-- An input that is longer than any plan is answered as its beginning is.
 use Prim.Native.Nat.{ℕ, zero, suc, _+_, _*_, _≤_, _<_}
 use mathlib.Core.Path.{_≡_, _∙_, refl, ap, ap₂, sym}
 use mathlib.Core.Bool.{Bool, true, false, _&&_}
@@ -6,11 +6,12 @@ use mathlib.Core.Logic.{⊎-elim}
 use mathlib.Core.List.{List, [], _∷_}
 use native.Mathlib.Omega.{arith}
 use lib.ListN.{length, getD, take, length-take}
-use lib.Seq.{getD-take}
+use lib.Seq.{getD-take, take-all}
 use lib.Dec.{leb, eqb}
 use borrow.Author.Tests.{le-leb, ne-eqb}
 use Rattle.task_model.specs.Refusals.{at, accepted, refused, _andThen_, mustHold}
 use Rattle.task_model.proofs.Theorems.{either}
+use Rattle.completion.proofs.Iteration.{le-or-lt}
 use Rattle.plan_file.specs.declared.Row.{Row}
 use Rattle.plan_file.specs.Plan.{entryCount, rowOf}
 use Rattle.plan_file.specs.Encoding.{opening, bodiesStart}
@@ -142,10 +143,11 @@ module _ (f g : List ℕ) (lf : 41224 < length f) (lg : 41224 < length g) (same 
       (λ r. listing-refused g (r .0) (check-same ∙ r .1) ∙ sym (listing-refused f (r .0) (r .1)))
       (either (fileCheck f))
 
-long-input : (f : List ℕ) (n : ℕ) → n ≡ 65537 → 65536 < length f → listing (take n f) ≡ listing f
-long-input f n e h =
-    listing-same f (take n f) (omega arith) (omega (arith, length-take n f)) (λ k l. getD-take n f k 0 (omega arith))
-
--- An input of more than 65,536 bytes is answered as its first 65,537 bytes are.
-pub long-listing : (f : List ℕ) → 65536 < length f → listing (take 65537 f) ≡ listing f
-long-listing f h = long-input f 65537 refl h
+-- An input is answered as its first n bytes are, for any n above 65,536: nobody has to read more of it.
+pub long-listing : (n : ℕ) → 65536 < n → (f : List ℕ) → listing (take n f) ≡ listing f
+long-listing n h f =
+    ⊎-elim
+    (λ l. ap listing (take-all n f l))
+    (λ l.
+    listing-same f (take n f) (omega arith) (omega (arith, length-take n f)) (λ k b. getD-take n f k 0 (omega arith)))
+    (le-or-lt (length f) n)

@@ -32,15 +32,15 @@ fn entry_in(words: &[u32; 5]) -> Entry
 }
 
 // Ends a change: an accepted one stores its session, a refused one leaves the words alone.
-fn keep(c: Changed, session: &mut [u32; 322], values: &mut [usize; 2]) -> u32
+fn keep(c: Changed, words: &mut [u32; 322], values: &mut [usize; 2]) -> u32
     ensures { λ a. ⌜ returned a (now (values .exit)) ≡ checked (outcome (c .answer)) ⌝ }
-    ensures { λ a. ⌜ now (session .exit) ≡ wordsLeft (outcome (c .answer)) (c .session) (now (session .entry)) ⌝ }
+    ensures { λ a. ⌜ now (words .exit) ≡ wordsLeft (outcome (c .answer)) (c .session) (now (words .entry)) ⌝ }
 {
     let answer = c.answer;
     let made = c.session;
     match answer {
         Checked::Accepted => {
-            *session = to_words(made);
+            *words = to_words(made);
             give(0, 0, values)
         }
         Checked::Refused(r) => refuse(r, values),
@@ -50,99 +50,100 @@ fn keep(c: Changed, session: &mut [u32; 322], values: &mut [usize; 2]) -> u32
 // Opens a session, whatever the words held: an empty node with the given level count.
 #[no_mangle]
 pub extern "C" fn maiplur_session_open(
-    session: &mut [u32; 322],
+    words: &mut [u32; 322],
     levels: u8,
     values: &mut [usize; 2],
 ) -> u32
     ensures { λ a.
-        ⌜ Changes (opening levels) (now (session .entry)) (returned a (now (values .exit))) (now (session .exit)) ⌝ }
+        ⌜ Changes (opening levels) (now (words .entry)) (returned a (now (values .exit))) (now (words .exit)) ⌝ }
 {
-    let s = from_words(*session);
+    let s = from_words(*words);
     let c = session::opened(s, levels);
-    keep(c, session, values)
+    keep(c, words, values)
 }
 
 // Sets the level count.
 #[no_mangle]
 pub extern "C" fn maiplur_session_set_levels(
-    session: &mut [u32; 322],
+    words: &mut [u32; 322],
     levels: u8,
     values: &mut [usize; 2],
 ) -> u32
     ensures { λ a.
-        ⌜ Changes (settingLevels levels) (now (session .entry)) (returned a (now (values .exit))) (now (session .exit)) ⌝ }
+        ⌜ Changes (settingLevels levels) (now (words .entry)) (returned a (now (values .exit))) (now (words .exit)) ⌝ }
 {
-    let s = from_words(*session);
+    let s = from_words(*words);
     let c = session::with_levels(s, levels);
-    keep(c, session, values)
+    keep(c, words, values)
 }
 
 // Inserts an entry before a position; just after the last entry it appends.
 #[no_mangle]
 pub extern "C" fn maiplur_session_insert(
-    session: &mut [u32; 322],
+    words: &mut [u32; 322],
     position: usize,
     entry: &[u32; 5],
     values: &mut [usize; 2],
 ) -> u32
     ensures { λ a.
-        ⌜ Changes (inserting position (entryFrom (now (entry .entry)) 0)) (now (session .entry))
-        (returned a (now (values .exit))) (now (session .exit)) ⌝ }
+        ⌜ Changes (inserting position (entryFrom (now (entry .entry)) 0)) (now (words .entry))
+        (returned a (now (values .exit))) (now (words .exit)) ⌝ }
 {
-    let s = from_words(*session);
+    let s = from_words(*words);
     let e = entry_in(entry);
     let c = session::inserted(s, position, e);
-    keep(c, session, values)
+    keep(c, words, values)
 }
 
 // Removes the entry at a position.
 #[no_mangle]
 pub extern "C" fn maiplur_session_remove(
-    session: &mut [u32; 322],
+    words: &mut [u32; 322],
     position: usize,
     values: &mut [usize; 2],
 ) -> u32
     ensures { λ a.
-        ⌜ Changes (removing position) (now (session .entry)) (returned a (now (values .exit))) (now (session .exit)) ⌝ }
+        ⌜ Changes (removing position) (now (words .entry)) (returned a (now (values .exit))) (now (words .exit)) ⌝ }
 {
-    let s = from_words(*session);
+    let s = from_words(*words);
     let c = session::removed(s, position);
-    keep(c, session, values)
+    keep(c, words, values)
 }
 
 // Replaces the entry at a position.
 #[no_mangle]
 pub extern "C" fn maiplur_session_replace(
-    session: &mut [u32; 322],
+    words: &mut [u32; 322],
     position: usize,
     entry: &[u32; 5],
     values: &mut [usize; 2],
 ) -> u32
     ensures { λ a.
-        ⌜ Changes (replacing position (entryFrom (now (entry .entry)) 0)) (now (session .entry))
-        (returned a (now (values .exit))) (now (session .exit)) ⌝ }
+        ⌜ Changes (replacing position (entryFrom (now (entry .entry)) 0)) (now (words .entry))
+        (returned a (now (values .exit))) (now (words .exit)) ⌝ }
 {
-    let s = from_words(*session);
+    let s = from_words(*words);
     let e = entry_in(entry);
     let c = session::replaced(s, position, e);
-    keep(c, session, values)
+    keep(c, words, values)
 }
 
 // Gives a completion time, or 0 where the entry is late, and the rounds.
 fn give_time(t: Timing, values: &mut [usize; 2]) -> u32
     ensures { λ a. ⌜ returned a (now (values .exit)) ≡ givenTime (completion t) ⌝ }
 {
-    match t {
-        Timing::OnTime { time, rounds } => give(time as usize, rounds as usize, values),
-        Timing::Late { rounds } => give(0, rounds as usize, values),
-    }
+    let rounds = t.rounds() as usize;
+    let Timing::OnTime { time, rounds: _ } = t else {
+        return give(0, rounds, values);
+    };
+    give(time as usize, rounds, values)
 }
 
 // Times the entry at `i` in the group from `first` to `last`. Gives the completion time, or 0 where the entry is late, and
 // the rounds.
 #[no_mangle]
 pub extern "C" fn maiplur_session_time(
-    session: &[u32; 322],
+    words: &[u32; 322],
     first: usize,
     last: usize,
     i: usize,
@@ -150,9 +151,9 @@ pub extern "C" fn maiplur_session_time(
 ) -> u32
     ensures { λ a.
         ⌜ returned a (now (values .exit)) ≡
-        timed (timeAnswer (nodeIn (sessionIn (now (session .entry)))) first last i) ⌝ }
+        timed (timeAnswer (nodeIn (sessionIn (now (words .entry)))) first last i) ⌝ }
 {
-    let s = from_words(*session);
+    let s = from_words(*words);
     let answer = session::timed(s, first, last, i);
     match answer {
         TimeAnswer::Answered(t) => give_time(t, values),
@@ -163,21 +164,21 @@ pub extern "C" fn maiplur_session_time(
 // Maps the node, one byte an entry from the buffer's start. Gives the levels used.
 #[no_mangle]
 pub extern "C" fn maiplur_session_map(
-    session: &[u32; 322],
+    words: &[u32; 322],
     levels: &mut [u8],
     values: &mut [usize; 2],
 ) -> u32
     ensures { λ a.
         ⌜ returned a (now (values .exit)) ≡
-        levelled (mapAnswer (nodeIn (sessionIn (now (session .entry)))) (length (now (levels .entry)))) ⌝ }
+        levelled (mapAnswer (nodeIn (sessionIn (now (words .entry)))) (length (now (levels .entry)))) ⌝ }
     ensures { λ a.
-        ⌜ now (levels .exit) ≡ mapBuffer (nodeIn (sessionIn (now (session .entry)))) (now (levels .entry)) ⌝ }
+        ⌜ now (levels .exit) ≡ mapBuffer (nodeIn (sessionIn (now (words .entry)))) (now (levels .entry)) ⌝ }
     ensures { λ a.
-        ⌜ (nodeCheck 0 (nodeIn (sessionIn (now (session .entry)))) ≡ accepted →
-        NodeDemand3 (nodeIn (sessionIn (now (session .entry)))) (now (levels .entry))
-        (mapAnswer (nodeIn (sessionIn (now (session .entry)))) (length (now (levels .entry)))) (now (levels .exit))) ⌝ }
+        ⌜ (nodeCheck 0 (nodeIn (sessionIn (now (words .entry)))) ≡ accepted →
+        NodeDemand3 (nodeIn (sessionIn (now (words .entry)))) (now (levels .entry))
+        (mapAnswer (nodeIn (sessionIn (now (words .entry)))) (length (now (levels .entry)))) (now (levels .exit))) ⌝ }
 {
-    let s = from_words(*session);
+    let s = from_words(*words);
     let mapped = session::mapped(s, levels);
     match mapped {
         MappedNode::Levels(used) => give(used as usize, 0, values),

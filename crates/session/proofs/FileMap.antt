@@ -14,15 +14,33 @@ use Rattle.task_model.proofs.Laws.{sizes-true, length-entries, entry-of}
 use Rattle.task_model.proofs.Theorems.{entries-accepted}
 use Rattle.plan_file.specs.Plan.{Plan, entryCount, EntryFits, EntriesFit, PlanFits}
 use Rattle.plan_file.specs.Encoding.{encoding}
-use Rattle.plan_file.specs.Decoding.{planIn}
+use Rattle.plan_file.specs.Decoding.{planIn, nodeCount}
 use Rattle.plan_file.specs.Check.{countTest, rowTest, rowsCheck, nodesCheck, handedCheck, fileCheck, planCheck}
 use Rattle.plan_file.specs.Find.{rowIn, nodeOfRow, findCheck, nodeFound}
-use Rattle.plan_file.proofs.Theorems.{write-read, accepted-exactly, finds}
+use Rattle.plan_file.proofs.Contents.{length-rows}
+use Rattle.plan_file.proofs.Theorems.{write-read, accepted-exactly, finds, nodes-hold}
 use Rattle.planner.specs.Mapping.{heldAnswer, heldBuffer, fileAnswer, fileBuffer}
 use Rattle.session.specs.declared.Session.{Session}
 use Rattle.session.specs.State.{nodeIn}
 use Rattle.session.specs.Plan.{oneRow}
 use Rattle.session.proofs.Reading.{Kept, narrow}
+
+-- the node of any row of an accepted file, mapped under the number of that row
+module _ (f : List ℕ) (a : fileCheck f ≡ accepted) (i number : ℕ) (has : i < length (planIn f .rows))
+    (named : rowIn (planIn f .rows) i .number ≡ number) where
+  found : (findCheck f number ≡ accepted) × (nodeFound f number ≡ nodeOfRow (planIn f) i)
+  found = finds f a number i has named
+
+  pub row-answer : (room : ℕ) → fileAnswer f number room ≡ heldAnswer (nodeOfRow (planIn f) i) room
+  unfolding fileAnswer
+  row-answer room = rw (found .0, fileAnswer) (ap (λ m. heldAnswer m room) (found .1))
+
+  pub row-buffer : (buffer : List ℕ) → fileBuffer f number buffer ≡ heldBuffer (nodeOfRow (planIn f) i) buffer
+  unfolding fileBuffer
+  row-buffer buffer = rw (found .0, fileBuffer) (ap (λ m. heldBuffer m buffer) (found .1))
+
+  pub row-holds : NodeHolds (nodeOfRow (planIn f) i)
+  row-holds = nodes-hold f a i (omega (arith, length-rows f 0 (nodeCount f)))
 
 -- a node within the limits, with numbers of 16 bits, is a plan of one row that the writer accepts
 module _ (n : Node) (k : Kept n) (number : ℕ) (short : number < 65536) where
@@ -70,33 +88,26 @@ module _ (n : Node) (k : Kept n) (number : ℕ) (short : number < 65536) where
         entries-accepted 0 0 (n .entries) .1 (k .holds .each),
       )
 
-  -- its file, and the node that is found there
+  -- its file, whose only row has the node
   abbrev file : List ℕ
   file = encoding (oneRow number n)
 
-  file-accepted : fileCheck file ≡ accepted
-  file-accepted = accepted-exactly file .1 (oneRow number n, one-fits, one-accepted, refl) .1
+  pub one-file : fileCheck file ≡ accepted
+  one-file = accepted-exactly file .1 (oneRow number n, one-fits, one-accepted, refl) .1
 
-  file-plan : planIn file ≡ oneRow number n
-  file-plan = write-read (oneRow number n) one-fits one-accepted
+  one-plan : planIn file ≡ oneRow number n
+  one-plan = write-read (oneRow number n) one-fits one-accepted
 
-  found : (findCheck file number ≡ accepted) × (nodeFound file number ≡ nodeOfRow (planIn file) 0)
-  found =
-      finds file file-accepted number 0 (omega (arith, ap (λ (p : Plan). length (p .rows)) file-plan))
-      (ap (λ (p : Plan). rowIn (p .rows) 0 .number) file-plan)
+  pub one-row : 0 < length (planIn file .rows)
+  one-row = omega (arith, ap (λ (p : Plan). length (p .rows)) one-plan)
 
-  same-node : nodeFound file number ≡ n
+  pub one-number : rowIn (planIn file .rows) 0 .number ≡ number
+  one-number = ap (λ (p : Plan). rowIn (p .rows) 0 .number) one-plan
+
+  pub one-node : nodeOfRow (planIn file) 0 ≡ n
   unfolding nodeOfRow entryCount
-  same-node =
-      found .1 ∙ ap (λ (p : Plan). nodeOfRow p 0) file-plan ∙ ap (λ es. record { levels = n .levels; entries = es }) (take-length (n .entries))
-
-  pub same-answer : (room : ℕ) → fileAnswer file number room ≡ heldAnswer n room
-  unfolding fileAnswer
-  same-answer room = rw (found .0, fileAnswer) (ap (λ m. heldAnswer m room) same-node)
-
-  pub same-buffer : (buffer : List ℕ) → fileBuffer file number buffer ≡ heldBuffer n buffer
-  unfolding fileBuffer
-  same-buffer buffer = rw (found .0, fileBuffer) (ap (λ m. heldBuffer m buffer) same-node)
+  one-node =
+      ap (λ (p : Plan). nodeOfRow p 0) one-plan ∙ ap (λ es. record { levels = n .levels; entries = es }) (take-length (n .entries))
 
 -- what words hold has numbers of 16 bits
 pub kept-in : (s : Session) → NodeHolds (nodeIn s) → Kept (nodeIn s)

@@ -9,10 +9,11 @@ use Rattle.task_model.specs.Limits.{Node}
 use Rattle.task_model.specs.Checks.{nodeCheck}
 use Rattle.task_model.proofs.Theorems.{either, node-accepted}
 use Rattle.level_map.specs.Answer as map
-use Rattle.planner.specs.Mapping.{heldAnswer, heldBuffer, NodeDemand3}
+use Rattle.planner.specs.declared.MappedNode.{MappedNode}
+use Rattle.planner.specs.Mapping.{answer, heldAnswer, heldBuffer, NodeDemand3}
 use Rattle.planner.proofs.Answers.{held-demand}
 use Rattle.session.specs.Operations.{refusalIn, mapping, operationCheck, lentCheck, stepCheck}
-use Rattle.session.specs.Mapping.{mapAnswer, mapBuffer}
+use Rattle.session.specs.Mapping.{mapAnswer, mapBuffer, Maps}
 use Rattle.session.proofs.Checking.{lent-stops, lent-goes-on}
 
 module _ (n : Node) where
@@ -48,3 +49,9 @@ module _ (n : Node) where
       (λ p. lent-goes-on (mapping room) n p ∙ ap refusalIn (sym (own-answer p room)))
       (λ p. lent-stops (mapping room) n (p .0) (p .1) ∙ ap refusalIn (sym (forged-answer (p .0) (p .1) room)))
       (either (nodeCheck 0 n))
+
+  -- whoever answers and writes by the definitions maps the node
+  pub maps-by : (buffer : List ℕ) (a : MappedNode) (after : List ℕ) → answer a ≡ mapAnswer n (length buffer)
+      → after ≡ mapBuffer n buffer → Maps n buffer a after
+  maps-by buffer a after x y =
+      record { answers = x; written = y; best = λ p. rw (x, y) (own-demand p buffer) }

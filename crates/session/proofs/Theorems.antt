@@ -15,7 +15,9 @@ use Rattle.completion.specs.Group.{groupLevel}
 use Rattle.completion.specs.Test.{completionTest, on-time}
 use Rattle.completion.proofs.Theorems.{completion-least}
 use Rattle.plan_file.specs.Encoding.{encoding}
-use Rattle.plan_file.specs.Check.{planCheck}
+use Rattle.plan_file.specs.Decoding.{planIn}
+use Rattle.plan_file.specs.Check.{fileCheck, planCheck}
+use Rattle.plan_file.specs.Find.{rowIn, nodeOfRow}
 use Rattle.planner.specs.Mapping.{heldAnswer, heldBuffer, fileAnswer, fileBuffer, NodeDemand3}
 use Rattle.session.specs.declared.Session.{Session}
 use Rattle.session.specs.State.{nodeIn, sessionOf, Sound, zeros, blankSession}
@@ -29,7 +31,7 @@ use Rattle.session.specs.InWords.{sessionIn, wordsIn, wordsAfter, wordsA
 use Rattle.session.proofs.Reading.{Kept, read-back}
 use Rattle.session.proofs.Checking.{levels-within, lent-stops, insert-outside, insert-full, time-inside, time-else, time-refused, time-given, time-ready, after-refused, after-accepted}
 use Rattle.session.proofs.Mapping.{own-answer, own-buffer, own-demand, map-outcome}
-use Rattle.session.proofs.FileMap.{kept-in, one-accepted, same-answer, same-buffer}
+use Rattle.session.proofs.FileMap.{row-answer, row-buffer, row-holds, kept-in, one-accepted, one-file, one-row, one-number, one-node}
 use Rattle.session.proofs.InWords.{words-back, words-refused, words-accepted, rows-words}
 use Rattle.session.proofs.Rows.{kept-empty, own-checks, rows-session, rows-answers, rows-kept}
 
@@ -155,18 +157,39 @@ module _ (s : Session) (h : Sound s) where
       → NodeDemand3 (nodeIn s) buffer (mapAnswer (nodeIn s) (length buffer)) (mapBuffer (nodeIn s) buffer)
   map-demand-three buffer = own-demand (nodeIn s) within-checks buffer
 
-  -- Its map is that of the same node read from a file: the node, written as a plan of one row under any number, is
-  -- accepted by the writer, and mapped from that file it gives the same answer, count and bytes.
-  module _ (number : ℕ) (short : number < 65536) where
-    pub file-accepts : planCheck (oneRow number (nodeIn s)) ≡ accepted
-    file-accepts = one-accepted (nodeIn s) (kept-in s (h .within)) number short
+-- The map of a session is that of the same node in a file: in any accepted file, at any row that holds this node, mapped
+-- under that row's number. Answer, count and bytes are the same.
+module _ (s : Session) (f : List ℕ) (a : fileCheck f ≡ accepted) (i number : ℕ) (has : i < length (planIn f .rows))
+    (named : rowIn (planIn f .rows) i .number ≡ number) (same : nodeOfRow (planIn f) i ≡ nodeIn s) where
+  row-checks : nodeCheck 0 (nodeIn s) ≡ accepted
+  row-checks = node-accepted 0 (nodeIn s) .1 (rw (← same) (row-holds f a i number has named))
 
-    pub file-answers : (room : ℕ) → fileAnswer (encoding (oneRow number (nodeIn s))) number room ≡ mapAnswer (nodeIn s) room
-    file-answers room = same-answer (nodeIn s) (kept-in s (h .within)) number short room ∙ sym (map-answers room)
+  pub file-answers : (room : ℕ) → fileAnswer f number room ≡ mapAnswer (nodeIn s) room
+  file-answers room =
+      row-answer f a i number has named room ∙ ap (λ n. heldAnswer n room) same ∙ sym (own-answer (nodeIn s) row-checks room)
 
-    pub file-writes : (buffer : List ℕ)
-        → fileBuffer (encoding (oneRow number (nodeIn s))) number buffer ≡ mapBuffer (nodeIn s) buffer
-    file-writes buffer = same-buffer (nodeIn s) (kept-in s (h .within)) number short buffer ∙ sym (map-writes buffer)
+  pub file-writes : (buffer : List ℕ) → fileBuffer f number buffer ≡ mapBuffer (nodeIn s) buffer
+  file-writes buffer =
+      row-buffer f a i number has named buffer ∙ ap (λ n. heldBuffer n buffer) same ∙ sym (own-buffer (nodeIn s) row-checks buffer)
+
+-- There is such a file, under any number: that of the node as a plan of one row, which the writer accepts.
+module _ (s : Session) (h : Sound s) (number : ℕ) (short : number < 65536) where
+  kept : Kept (nodeIn s)
+  kept = kept-in s (h .within)
+
+  pub one-row-written : planCheck (oneRow number (nodeIn s)) ≡ accepted
+  one-row-written = one-accepted (nodeIn s) kept number short
+
+  pub one-row-read : (fileCheck (encoding (oneRow number (nodeIn s))) ≡ accepted)
+      × (0 < length (planIn (encoding (oneRow number (nodeIn s))) .rows))
+      × (rowIn (planIn (encoding (oneRow number (nodeIn s))) .rows) 0 .number ≡ number)
+      × (nodeOfRow (planIn (encoding (oneRow number (nodeIn s)))) 0 ≡ nodeIn s)
+  one-row-read = (
+    one-file (nodeIn s) kept number short,
+    one-row (nodeIn s) kept number short,
+    one-number (nodeIn s) kept number short,
+    one-node (nodeIn s) kept number short,
+  )
 
 -- A session as 322 words: each form is the inverse of the other.
 pub words-inverse : (w : List ℕ) → length w ≡ 322 → wordsIn (sessionIn w) ≡ w

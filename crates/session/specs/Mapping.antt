@@ -8,7 +8,7 @@ use Rattle.task_model.specs.Limits.{Node}
 use Rattle.task_model.specs.Checks.{nodeCheck}
 use Rattle.level_map.specs.Answer as map
 use Rattle.planner.specs.declared.MappedNode.{MappedNode}
-use Rattle.planner.specs.Mapping.{answer, heldAnswer, heldBuffer}
+use Rattle.planner.specs.Mapping.{answer, heldAnswer, heldBuffer, NodeDemand3}
 
 -- A session that comes from elsewhere is first checked as a node of a file is; then 10 where a byte an entry does not fit,
 -- and the node's map, or 11.
@@ -27,7 +27,9 @@ mapBuffer n buffer =
       | accepted ↦ heldBuffer n buffer
     ]
 
--- Mapping n into a buffer answers a and leaves the buffer as `after`.
+-- Mapping n into a buffer answers a and leaves the buffer as `after`. Of a node that may be lent this is the promise on
+-- maps: refused exactly when nothing passes, and what is given is the best.
 pub record Maps (n : Node) (buffer : List ℕ) (a : MappedNode) (after : List ℕ) : Type 0 where
   pub answers : answer a ≡ mapAnswer n (length buffer)
   pub written : after ≡ mapBuffer n buffer
+  pub best : nodeCheck 0 n ≡ accepted → NodeDemand3 n buffer (answer a) after

@@ -1,47 +1,57 @@
 use mathlib.Core.Path.{_∙_, ap, sym}
-use Rattle.completion.specs.Test.{completion}
-use Rattle.planner_c.specs.Returned.{givenTime}
+use Rattle.completion.specs.Test.{completion, roundsIn}
+use Rattle.planner_c.specs.Returned.{given, givenTime}
 use borrow.Author.Needs.{needs}
 use Rattle.planner_c.proofs.sessions.give_time.Statement.{statement}
 use Rattle.planner_c.proofs.sessions.give_time.Tie as tie
 
+rounds-requires : tie.Need-rounds-requires
+rounds-requires c κs = search needs
+
+cast-rounds : tie.Need-cast-rounds
+cast-rounds c = search needs
+
 enum-known-t : tie.Need-enum-known-t
 enum-known-t c = search needs
 
-cast-give : tie.Need-cast-give
-cast-give c = search needs
-
-cast-give-2 : tie.Need-cast-give-2
-cast-give-2 c = search needs
+enum-told : tie.Need-enum-told
+enum-told c = search needs
 
 give-requires : tie.Need-give-requires
 give-requires c κs = search needs
 
-enum-known-t-2 : tie.Need-enum-known-t-2
-enum-known-t-2 c = search needs
+-- the entry is late
+returns : tie.Need-returns
+returns c =
+    let e = c .before .before .enum-told .given .1 in
+    let r = c .before .before .before .before .rounds .ensures in
+    c .give .ensures ∙ ap (given 0) (r ∙ ap (λ t. roundsIn (completion t)) e) ∙ sym (ap (λ t. givenTime (completion t)) e)
 
-cast-give-3 : tie.Need-cast-give-3
-cast-give-3 c = search needs
+cast-give : tie.Need-cast-give
+cast-give c = search needs
 
 give-requires-2 : tie.Need-give-requires-2
 give-requires-2 c κs = search needs
 
-returns : tie.Need-returns
-returns c = c .give .ensures ∙ ap givenTime (sym (ap completion (c .before .before .before .t .given .1)))
-
+-- it is on time
 returns-2 : tie.Need-returns-2
-returns-2 c = c .give2 .ensures ∙ ap givenTime (sym (ap completion (c .before .before .before .t2 .given .1)))
+returns-2 c =
+    let e = c .before .before .before .t .given .1 in
+    let r = c .before .before .before .before .before .rounds .ensures in
+    c .give2 .ensures
+    ∙ ap (given (c .before .before .before .t .given .0 .0)) (r ∙ ap (λ t. roundsIn (completion t)) e)
+    ∙ sym (ap (λ t. givenTime (completion t)) e)
 
 pub give-time-spec : {M : Type 1} → statement M
 give-time-spec =
     tie.close
     (tie.spec
+    rounds-requires
+    cast-rounds
     enum-known-t
-    cast-give
-    cast-give-2
+    enum-told
     give-requires
-    enum-known-t-2
-    cast-give-3
-    give-requires-2
     returns
+    cast-give
+    give-requires-2
     returns-2)

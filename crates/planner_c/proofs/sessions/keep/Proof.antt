@@ -26,14 +26,14 @@ returns c =
     let e = sym (ap outcome (c .before .before .before .enum-told .given .1)) in
     let a = c .before .before .before .before .before .before .args in (
       c .give .ensures ∙ ap checked e,
-      c .before .before .to-words .ensures ∙ ap (λ o. wordsLeft o (a .c .session) (a .session .now)) e,
+      c .before .before .to-words .ensures ∙ ap (λ o. wordsLeft o (a .c .session) (a .words .now)) e,
     )
 
 returns-2 : tie.Need-returns-2
 returns-2 c =
     let e = sym (ap outcome (c .before .before .before .answer .given .1)) in
     let a = c .before .before .before .before .before .before .args in
-    (c .refuse .ensures ∙ ap checked e, ap (λ o. wordsLeft o (a .c .session) (a .session .now)) e)
+    (c .refuse .ensures ∙ ap checked e, ap (λ o. wordsLeft o (a .c .session) (a .words .now)) e)
 
 pub keep-spec : {M : Type 1} → statement M
 keep-spec =

@@ -36,7 +36,7 @@ returns c =
     let a = c .before .before .before .before .before .before .before .before .before .before .before .before .args in
     let e = c .before .before .before .before .before .before .before .mapped .ensures in
     let read = c .before .before .before .before .before .before .before .before .before .from-words .ensures in
-    let t = sessionIn (a .session .now) in (
+    let t = sessionIn (a .words .now) in (
       map-returned t read (a .levels .now) e _ (c .give .ensures ∙ ap levelled (sym (ap answer (c .before .before .before .mapped2 .given .1)))),
       (map-buffer t read (a .levels .now) e, map-demand t read (a .levels .now) e),
     )
@@ -49,7 +49,7 @@ returns-2 c =
     let a = c .before .before .before .before .before .before .before .before .before .before .before .before .args in
     let e = c .before .before .before .before .before .before .before .mapped .ensures in
     let read = c .before .before .before .before .before .before .before .before .before .from-words .ensures in
-    let t = sessionIn (a .session .now) in (
+    let t = sessionIn (a .words .now) in (
       map-returned t read (a .levels .now) e _ (c .refuse .ensures ∙ ap levelled (sym (ap answer (c .before .before .before .mapped3 .given .1)))),
       (map-buffer t read (a .levels .now) e, map-demand t read (a .levels .now) e),
     )

@@ -17,7 +17,7 @@ returns : tie.Need-returns
 returns c =
     let a = c .before .before .before .before .before .before .args in
     let k = c .keep .ensures in
-    changes (opening (a .levels)) (a .session .now) (c .before .before .before .before .from-words .ensures) (c .before .before .before .opened .ensures) (k .0) (k .1)
+    changes (opening (a .levels)) (a .words .now) (c .before .before .before .before .from-words .ensures) (c .before .before .before .opened .ensures) (k .0) (k .1)
 
 pub maiplur-session-open-spec : {M : Type 1} → statement M
 maiplur-session-open-spec =

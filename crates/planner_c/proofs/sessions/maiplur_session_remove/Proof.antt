@@ -17,7 +17,7 @@ returns : tie.Need-returns
 returns c =
     let a = c .before .before .before .before .before .before .args in
     let k = c .keep .ensures in
-    changes (removing (a .position)) (a .session .now) (c .before .before .before .before .from-words .ensures) (c .before .before .before .removed .ensures) (k .0) (k .1)
+    changes (removing (a .position)) (a .words .now) (c .before .before .before .before .from-words .ensures) (c .before .before .before .removed .ensures) (k .0) (k .1)
 
 pub maiplur-session-remove-spec : {M : Type 1} → statement M
 maiplur-session-remove-spec =

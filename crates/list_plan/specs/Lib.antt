@@ -1,0 +1,2 @@
+-- What a reader of the program must believe.
+pub mod Input
