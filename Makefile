@@ -1,12 +1,21 @@
 PLAN ?= samples/p.plan
+# Through the environment, so that the shell takes any name as one word.
+export PLAN
 
 .PHONY: list test bench fuzz samples fmt
 
 # Proves and builds the listing program, if that was not done yet, and lists a plan file.
 list:
+	@problem=; \
+	if test -z "$$PLAN"; then problem='PLAN is empty; name a plan file, as in PLAN=samples/p.plan'; \
+	elif test ! -e "$$PLAN"; then problem="there is no file '$$PLAN'"; \
+	elif test -d "$$PLAN"; then problem="'$$PLAN' is a directory"; \
+	elif test ! -r "$$PLAN"; then problem="'$$PLAN' cannot be read"; \
+	fi; \
+	if test -n "$$problem"; then printf 'make list: %s\n' "$$problem" >&2; exit 1; fi
 	@mkdir -p target
 	@rt check list_plan >target/list.log 2>&1 || { tail -n 20 target/list.log >&2; exit 1; }
-	@target/bin/list_plan <$(PLAN)
+	@target/bin/list_plan <"$$PLAN"
 
 # Everything that is proved and tested.
 test:

@@ -1,4 +1,4 @@
-/* Lists the plan file on standard input, and says of each of its nodes which levels its map uses.
+/* Lists the plan file on standard input, and says of each of its nodes how many levels its map uses.
  *
  * gcc -Iinclude examples/list.c target/staticlib/libplanner_c.a -o list && ./list < plan
  */

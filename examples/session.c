@@ -1,4 +1,5 @@
-/* Tries a change to one controller: does it still map if its third task must end a little earlier?
+/* Tries changes to one controller: does it still map if its third task must end a little earlier, and if its second task
+ * then goes elsewhere?
  *
  * gcc -Iinclude examples/session.c target/staticlib/libplanner_c.a -o session && ./session
  */
@@ -36,6 +37,37 @@ static void show_time(const maiplur_session *session) {
     }
 }
 
+static void show_change(const char *change, uint32_t refused, const size_t values[2]) {
+    if (refused) {
+        printf("%s: refused %u row %zu entry %zu\n", change, (unsigned)refused, values[0], values[1]);
+    } else {
+        printf("%s: done\n", change);
+    }
+}
+
+/* The third task must end earlier; then the second goes, and one level is left. */
+static void try_changes(maiplur_session *session) {
+    static const uint32_t earlier[5] = {TASK + 3, 68, 150, 137, 0};
+    size_t values[2];
+    show_change("replace", maiplur_session_replace(session, 2, earlier, values), values);
+    show_map(session);
+    show_time(session);
+    show_change("remove", maiplur_session_remove(session, 1, values), values);
+    show_change("set levels", maiplur_session_set_levels(session, 1, values), values);
+    show_map(session);
+    show_time(session);
+}
+
+/* Changes that are turned back leave the session as it is. */
+static void try_refused(maiplur_session *session) {
+    static const uint32_t long_run[5] = {TASK + 4, 6, 10, 5, 0};
+    size_t values[2];
+    show_change("insert", maiplur_session_insert(session, 1, long_run, values), values);
+    show_change("remove", maiplur_session_remove(session, 2, values), values);
+    show_change("set levels", maiplur_session_set_levels(session, 0, values), values);
+    show_map(session);
+}
+
 int main(void) {
     /* Number and kind, C, T, D and B. */
     static const uint32_t entries[3][5] = {
@@ -43,7 +75,6 @@ int main(void) {
         {TASK + 2, 30, 145, 145, 0},
         {TASK + 3, 68, 150, 150, 0},
     };
-    static const uint32_t earlier[5] = {TASK + 3, 68, 150, 137, 0};
     static maiplur_session session;
     size_t values[2];
     if (maiplur_session_open(&session, 2, values)) {
@@ -56,12 +87,7 @@ int main(void) {
     }
     show_map(&session);
     show_time(&session);
-    if (maiplur_session_replace(&session, 2, earlier, values)) {
-        return 1;
-    }
-    show_map(&session);
-    show_time(&session);
-    uint32_t refused = maiplur_session_remove(&session, 3, values);
-    printf("remove: refused %u\n", (unsigned)refused);
+    try_changes(&session);
+    try_refused(&session);
     return 0;
 }

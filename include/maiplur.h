@@ -13,8 +13,13 @@
  * A level count is a uint8_t and a node number a uint16_t. C silently cuts a larger number before the call: 257 levels
  * arrive as 1.
  *
- * maiplur_list and maiplur_session_time follow every round of the completion time test. In odd plans an entry can have up
- * to 10^9 of them (docs/BENCHMARKS.md).
+ * docs/SPEC.md says what is computed, in which terms, and in which order calls are checked.
+ *
+ * maiplur_list and maiplur_session_time follow every round of the completion time test, and an entry can have up to 10^9 of
+ * them. A station's plan is listed in less than a millisecond. But one node with the tasks (C/T/D) 1/2/2, 1/3/3, 1/7/7,
+ * 1/43/43, 1/1807/1807 and 59 of 1/1000000000/1000000000 took half a minute, and by that figure a plan of 32 such nodes
+ * takes a quarter of an hour. No call can be stopped from within: a caller that takes plans from others makes it in a
+ * process of its own.
  */
 #ifndef MAIPLUR_H
 #define MAIPLUR_H
@@ -35,7 +40,7 @@ enum {
     MAIPLUR_OFFSET = 5,
     MAIPLUR_FILE_LENGTH = 6,    /* to the writer: more or fewer entries than the rows count */
     MAIPLUR_KIND = 7,           /* kind not 1 or 2, r above 15, kind 2 with r above 0 */
-    MAIPLUR_TIMES = 8,          /* C, T, D or B outside the limits */
+    MAIPLUR_TIMES = 8,          /* not 1 <= C <= D <= T <= 1,000,000,000, or B above 1,000,000,000 */
     MAIPLUR_NO_SUCH_NODE = 9,
     MAIPLUR_SHORT_BUFFER = 10,
     MAIPLUR_NO_MAP = 11,
@@ -52,7 +57,19 @@ enum {
     MAIPLUR_MOST_TEXT = 115625   /* bytes of a listing */
 };
 
-/* A plan in memory is words of 32 bits. A row is one word: the node number in its low 16 bits, then the levels and the
+/* An entry is a task or a global critical section: a critical section of a task elsewhere that runs on this node. It has a
+ * number from 0 to 65,535, a kind, 1 for a task and 2 for a section, and (times are in whole ticks, of any one length)
+ *
+ *   C  the longest run (worst-case execution time)            1 <= C <= D
+ *   T  the period                                             D <= T <= 1,000,000,000
+ *   D  the deadline, counted from the release                 C <= D <= T
+ *   B  how long less urgent work can block it                 0 <= B <= 1,000,000,000
+ *   r  the remote sections that it calls in a period          0 <= r <= 15 for a task, 0 for a section
+ *
+ * A node is a controller: a number from 0 to 65,535, 1 to 64 priority levels, and up to 64 entries, most urgent first. A
+ * plan is a row for each of 1 to 32 nodes, with rising numbers, and their entries.
+ *
+ * A plan in memory is words of 32 bits. A row is one word: the node number in its low 16 bits, then the levels and the
  * entry count in 8 bits each. An entry is five words: the number in the low 16 bits of the first, then the kind and r in
  * 8 bits each; then C, T, D and B. The entries of all nodes stand one after another, in the order of the rows.
  */

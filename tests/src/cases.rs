@@ -1,4 +1,4 @@
-//! The starred cases of the scope paper, each as a node with number 7.
+//! The cases of docs/SPEC.md, each as a node with number 7.
 
 use crate::file::encode;
 use crate::model::{Entry, Node, Plan};

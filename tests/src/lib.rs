@@ -1,13 +1,14 @@
 //! A second implementation of the planner, to hold the proved one against.
 //!
-//! It is written from the scope paper alone and takes the plainest way to
-//! each answer: time is no object here, agreement with the paper is.
+//! It follows docs/SPEC.md and nothing of the proved code, and takes the
+//! plainest way to each answer: time is no object here, agreement with that
+//! text is.
 //! Every capability is a function over numbers and byte slices.
 //!
-//! - [`mod@file`], [`map`], [`listing`] and [`session`] answer as the paper says;
+//! - [`mod@file`], [`map`], [`listing`] and [`session`] answer as it says;
 //!   [`timing`] and [`assignments`] are what their answers are made of, and
 //!   [`lent`] has a session in memory.
-//! - [`cases`] has the paper's own nodes, [`gen`] generated ones, with
+//! - [`cases`] has its cases, [`gen`] generated ones, with
 //!   [`options`] for the seed and the size of a run.
 //! - [`ffi`] calls the proved library, with [`words`] as it takes plans, and
 //!   [`compare`] holds its answers against those of this one. [`plain`] is what

@@ -78,7 +78,7 @@ pub fn completion(entries: &[Entry], levels: &[u8], i: usize) -> Timing {
     Timing::Late { rounds }
 }
 
-/// The paper's bound on the rounds of entry `i`.
+/// The bound on the rounds of entry `i` (docs/SPEC.md).
 pub fn rounds_bound(entries: &[Entry], levels: &[u8], i: usize) -> u64 {
     let further: u64 = (0..entries.len())
         .filter(|&j| j != i && levels[j] <= levels[i])

@@ -1,15 +1,18 @@
-//! The examples in C and in Rust are compiled, linked and run.
+//! The examples in C and in Rust are compiled, linked and run; those of the
+//! documents are held to what they show.
 
 use oracle::cases;
 use oracle::file::encode;
 use oracle::gen::plans;
 use oracle::listing::list;
 use oracle::map::map_entries;
-use oracle::model::Plan;
+use oracle::model::{Entry, Plan};
 use oracle::options::rng;
 use oracle::programs::{root, run};
+use oracle::refusal::Refusal;
 use oracle::session::Session;
 use oracle::timing::Timing;
+use std::fs;
 use std::path::{Path, PathBuf};
 use std::process::Command;
 use std::time::Duration;
@@ -45,6 +48,7 @@ fn compiled_c(source: &str, name: &str) -> PathBuf {
     compile(
         Command::new("cc")
             .args(["-std=c11", "-Wall", "-Wextra", "-Wpedantic", "-Werror"])
+            .args(["-Wconversion", "-Wshadow", "-Wstrict-prototypes"])
             .args(["-Iinclude", source])
             .args(["target/staticlib/libplanner_c.a", "-o"])
             .arg(&program),
@@ -52,30 +56,139 @@ fn compiled_c(source: &str, name: &str) -> PathBuf {
     program
 }
 
-/// Case P, then case R.
+fn map_line(session: &Session) -> String {
+    let mut levels = vec![0; session.entries().len()];
+    match session.map(&mut levels) {
+        Ok(used) => {
+            let levels: Vec<String> = levels.iter().map(u8::to_string).collect();
+            format!("map: {used} levels, {}\n", levels.join(" "))
+        }
+        Err(refusal) => format!("map: refused {}\n", refusal.number),
+    }
+}
+
+fn time_line(session: &Session) -> String {
+    match session.time(1, 2, 2) {
+        Ok(Timing::OnTime { time, rounds }) => format!("time: {time}, rounds {rounds}\n"),
+        Ok(Timing::Late { rounds }) => format!("time: late, rounds {rounds}\n"),
+        Err(refusal) => format!("time: refused {}\n", refusal.number),
+    }
+}
+
+fn change_line(name: &str, answer: Result<(), Refusal>) -> String {
+    match answer {
+        Ok(()) => format!("{name}: done\n"),
+        Err(refusal) => format!("{name}: {refusal}\n"),
+    }
+}
+
+/// Case P, then case R, then R without its second task on one level, then
+/// changes that are refused.
 #[test]
 fn c_session() {
     let program = compiled_c("examples/session.c", "session_c");
     let (text, ended) = run(&program, &[], Duration::ZERO);
     assert!(ended);
-    let mut due = String::new();
-    for node in [cases::p(), cases::r()] {
-        let mut levels = vec![0; 3];
-        let session = Session::holding(2, &node.entries).unwrap();
-        due += &match session.map(&mut levels) {
-            Ok(used) => {
-                let levels: Vec<String> = levels.iter().map(u8::to_string).collect();
-                format!("map: {used} levels, {}\n", levels.join(" "))
-            }
-            Err(refusal) => format!("map: refused {}\n", refusal.number),
-        };
-        due += &match session.time(1, 2, 2).unwrap() {
-            Timing::OnTime { time, rounds } => format!("time: {time}, rounds {rounds}\n"),
-            Timing::Late { rounds } => format!("time: late, rounds {rounds}\n"),
-        };
-    }
-    due += "remove: refused 12\n";
+    let mut session = Session::holding(2, &cases::p().entries).unwrap();
+    let mut due = map_line(&session) + &time_line(&session);
+    due += &change_line("replace", session.replace(2, cases::r().entries[2]));
+    due += &(map_line(&session) + &time_line(&session));
+    due += &change_line("remove", session.remove(1));
+    due += &change_line("set levels", session.set_levels(1));
+    due += &(map_line(&session) + &time_line(&session));
+    due += &change_line("insert", session.insert(1, Entry::task(4, 6, 10, 5)));
+    due += &change_line("remove", session.remove(2));
+    due += &change_line("set levels", session.set_levels(0));
+    due += &map_line(&session);
     assert_eq!(String::from_utf8_lossy(&text), due);
+}
+
+/// The example writes case P, byte for byte.
+#[test]
+fn c_write() {
+    let program = compiled_c("examples/write.c", "write_c");
+    let (file, ended) = run(&program, &[], Duration::ZERO);
+    assert!(ended);
+    assert_eq!(file, cases::file(cases::p()));
+}
+
+/// The examples call every function that the header declares.
+#[test]
+fn every_function_is_called_from_c() {
+    let header = text("include/maiplur.h");
+    let declared: Vec<&str> = header
+        .lines()
+        .filter_map(|line| line.strip_prefix("uint32_t "))
+        .map(|line| line.split('(').next().unwrap())
+        .collect();
+    assert_eq!(declared.len(), 12);
+    let examples = ["list.c", "session.c", "write.c"].map(|name| text(&format!("examples/{name}")));
+    for name in declared {
+        let call = format!("{name}(");
+        assert!(
+            examples.iter().any(|example| example.contains(&call)),
+            "{name}"
+        );
+    }
+}
+
+/// The example of docs/SPEC.md is the sample of case P, with its listing.
+#[test]
+fn spec_example() {
+    let spec = text("docs/SPEC.md");
+    let (_, example) = spec.split_once("### An example").unwrap();
+    let (bytes, rest) = example.split_once("Its listing:").unwrap();
+    let bytes: Vec<u8> = bytes
+        .lines()
+        .filter_map(|line| line.strip_prefix("    "))
+        .flat_map(hexadecimal)
+        .collect();
+    assert_eq!(bytes, fs::read(root().join("samples/p.plan")).unwrap());
+    let listing: String = rest
+        .lines()
+        .map_while(|line| line.strip_prefix("    ").or(line.is_empty().then_some("")))
+        .filter(|line| !line.is_empty())
+        .map(|line| format!("{line}\n"))
+        .collect();
+    assert_eq!(listing, text("samples/p.txt"));
+}
+
+/// `make list` says what is wrong with the name that it is given.
+#[test]
+fn make_list_names_the_problem() {
+    for (plan, due) in [
+        ("", "make list: PLAN is empty"),
+        (
+            "samples/no such.plan",
+            "make list: there is no file 'samples/no such.plan'",
+        ),
+        ("samples", "make list: 'samples' is a directory"),
+    ] {
+        let done = Command::new("make")
+            .arg("list")
+            .arg(format!("PLAN={plan}"))
+            .current_dir(root())
+            // As from a shell, also where the tests are run by make.
+            .env_remove("MAKELEVEL")
+            .env_remove("MAKEFLAGS")
+            .output()
+            .expect("make starts");
+        assert!(!done.status.success());
+        assert!(done.stdout.is_empty());
+        let said = String::from_utf8_lossy(&done.stderr);
+        assert!(said.starts_with(due), "{said}");
+    }
+}
+
+/// The bytes that a line begins with, up to what is said of them.
+fn hexadecimal(line: &str) -> impl Iterator<Item = u8> + '_ {
+    line.split_whitespace()
+        .map_while(|word| u8::from_str_radix(word, 16).ok())
+}
+
+/// A file of the repository.
+fn text(path: &str) -> String {
+    fs::read_to_string(root().join(path)).unwrap()
 }
 
 #[test]

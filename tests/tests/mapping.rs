@@ -72,7 +72,7 @@ fn groupings_agree_with_assignments() {
 }
 
 /// Of the passing assignments that are maps, the answer is the first by the
-/// paper's rule, here read off the levels and not off the groups.
+/// rule of docs/SPEC.md, here read off the levels and not off the groups.
 #[test]
 fn answer_is_first_by_the_rule() {
     let mut rng = rng(4);

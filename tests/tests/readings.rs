@@ -1,4 +1,4 @@
-//! Wrong readings of the paper are told apart by the generated nodes.
+//! Wrong readings of docs/SPEC.md are told apart by the generated nodes.
 //!
 //! A generated set is worth its time only if a mapper with a likely mistake
 //! would be caught by it; here each mistake is made and caught many times.

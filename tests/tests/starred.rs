@@ -1,4 +1,4 @@
-//! The starred cases, with every figure the paper gives.
+//! The cases of docs/SPEC.md, with every figure that it gives.
 
 use oracle::cases;
 use oracle::map::{by_groupings, by_groups, map_entries, Map};
@@ -69,7 +69,7 @@ fn f_no_map() {
 }
 
 /// Least t up to D whose demand on one level is at most t, with ⌊t/T⌋ as
-/// document 000 prints it.
+/// Bethmangalkar (1999, equation 4.2) prints it.
 fn floor_time(entries: &[Entry], i: usize) -> Option<u64> {
     let own = &entries[i];
     let queued = |t: u64| -> u64 {

@@ -1,4 +1,4 @@
-//! The completion time test against what the paper says of its answers.
+//! The completion time test against what docs/SPEC.md says of its answers.
 
 use oracle::gen::entries;
 use oracle::model::Entry;

@@ -1,6 +1,6 @@
 -- The demand of an entry (Bethmangalkar, "Schedulability Analysis in Static Real-Time Systems", 1999, equation 4.2),
--- with the ceiling in both terms. `es` are the entries of a node, `level j` is the level of the entry at position j, and
--- level 1 is the most urgent.
+-- with the ceiling in both terms (docs/SPEC.md, 'The demand'). `es` are the entries of a node, `level j` is the level of
+-- the entry at position j, and level 1 is the most urgent.
 use Prim.Native.Nat.{ℕ, zero, suc, _+_, _-_, _*_, _/_, min}
 use mathlib.Core.Bool.{Bool, true, false, _&&_, not}
 use mathlib.Core.List.{List}

@@ -1,5 +1,5 @@
 -- The completion time test (Sha and Sathaye, "Distributed System Design Using Generalized Rate Monotonic Theory",
--- CMU/SEI-95-TR-011, 1995).
+-- CMU/SEI-95-TR-011, 1995, section 3.1; docs/SPEC.md, 'The completion time test').
 use Prim.Native.Nat.{ℕ, zero, suc, _+_, _-_}
 use mathlib.Core.Bool.{Bool, true, false, _&&_, not}
 use mathlib.Core.List.{List}

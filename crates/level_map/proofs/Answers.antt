@@ -13,7 +13,7 @@ use Rattle.level_map.specs.Answer.{Answer, mapped, refused, answerOf, bu
 use Rattle.level_map.specs.Groups.{levelsByRank, RanksMap}
 use Rattle.level_map.proofs.Theorems.{demand-three}
 
--- The answer `a`, with the buffer `before` the call and `after` it, is right: by the definition, and so by demand 3.
+-- The answer `a`, with the buffer `before` the call and `after` it, is right: by the definition, and so by promise 3.
 abbrev pub Right : List Entry → ℕ → ℕ → Answer → List ℕ → List ℕ → Type 0
 Right es most n a before after =
     (a ≡ answerOf (theMap es most)) × ((after ≡ bufferOf (theMap es most) before) × Demand3 es most a (take n after))

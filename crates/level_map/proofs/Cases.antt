@@ -1,4 +1,4 @@
--- The stations on either side: every line of the table holds.
+-- The cases of docs/SPEC.md: every line of the table holds.
 use mathlib.Core.Path.{refl}
 use native.Mathlib.Omega.{arith}
 use Rattle.completion.specs.Demand.{ceilDiv, releases, sumTo, urgentShare, besideShare, demand, start}

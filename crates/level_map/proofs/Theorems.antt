@@ -109,7 +109,7 @@ module _ (es : List Entry) (hold : AllHold es) (most : ℕ) where
         fewest = λ a x. b .fewest a (x .assignment) (x .inTime);
       }
 
-  -- Demand 3 holds of the answer, and of what is read from the buffer's start.
+  -- Promise 3 of docs/SPEC.md holds of the answer, and of what is read from the buffer's start.
   pub demand-three : (buffer : List ℕ)
       → Demand3 es most (answerOf (theMap es most)) (take (length es) (bufferOf (theMap es most) buffer))
   unfolding answerOf bufferOf

@@ -1,4 +1,4 @@
--- What the mapper answers, and what it leaves in the buffer; demand 3.
+-- What the mapper answers, and what it leaves in the buffer; 'Promise 3: maps' of docs/SPEC.md.
 use Prim.Native.Nat.{ℕ, _≤_}
 use mathlib.Core.Path.{_≡_}
 use mathlib.Core.Logic.{_↔_, _⊎_}
@@ -32,16 +32,16 @@ unfoldable pub bufferOf : Option (List ℕ) → List ℕ → List ℕ
 bufferOf none buffer = buffer
 bufferOf (some m) buffer = m ++ drop (length m) buffer
 
--- Demand 3 is the promise on maps: refused exactly when nothing passes, and what is given is the best. Of a map that is
--- given with a count it says: it is an assignment that lets every entry end by its deadline; it is the
--- choice of 'The map'; its different levels are as many as the count says, and no such assignment uses fewer.
+-- Promise 3: refused exactly when nothing passes, and what is given is the best. Of a map that is given with a count it
+-- says: it is an assignment that lets every entry end by its deadline; it is the choice of 'The map' in docs/SPEC.md; its
+-- different levels are as many as the count says, and no such assignment uses fewer.
 pub record Mapping (es : List Entry) (most count : ℕ) (m : List ℕ) : Type 0 where
   pub passing : Passing es most m
   pub chosen : Chosen (NoneLate es) most (length es) m
   pub counted : levelsUsed m ≡ count
   pub fewest : (a : List ℕ) → Passing es most a → count ≤ levelsUsed a
 
--- Demand 3 of an answer, with the map read from the buffer's start: refused exactly when no assignment lets every entry
+-- Promise 3 of an answer, with the map read from the buffer's start: refused exactly when no assignment lets every entry
 -- end by its deadline; and otherwise a map.
 pub record Demand3 (es : List Entry) (most : ℕ) (a : Answer) (m : List ℕ) : Type 0 where
   pub refusal : (a ≡ refused (at 11 0 0)) ↔ ((l : List ℕ) → Passing es most l → ⊥)

@@ -1,4 +1,4 @@
--- The stations on either side: each case with its figures, as one table. proofs/Cases shows that all of it holds.
+-- The cases of docs/SPEC.md with their figures, as one table. proofs/Cases shows that all of it holds.
 use Prim.Native.Nat.{ℕ, zero, suc, _+_, _-_, _*_, _/_, _<_, min}
 use mathlib.Core.Path.{_≡_}
 use mathlib.Core.Bool.{true, false}
@@ -64,7 +64,7 @@ timeIn (late rounds) = none
 abbrev pub times : List Entry → List ℕ → List (Option ℕ)
 times es a = map timeIn (answers es a)
 
--- A misread demand: ⌊t/T⌋ for the other entries of the own level, as document 000 prints it.
+-- A misread demand: ⌊t/T⌋ for the other entries of the own level, as Bethmangalkar prints it (equation 4.2).
 unfoldable pub floorDemand : List Entry → (ℕ → ℕ) → ℕ → ℕ → ℕ
 floorDemand es level i t =
     entryAt es i .wcet + entryAt es i .blocking

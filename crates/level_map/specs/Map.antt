@@ -1,4 +1,4 @@
--- The map: the choice among all maps of a node.
+-- The map: the choice among all maps of a node (docs/SPEC.md, 'The map').
 use Prim.Native.Nat.{ℕ, zero, suc, _+_, _-_, _≤_, _<_}
 use mathlib.Core.Path.{_≡_}
 use mathlib.Core.Logic.{_⊎_}

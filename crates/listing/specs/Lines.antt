@@ -1,4 +1,5 @@
--- The lines of a listing. Numbers are decimal without leading zeros; every line ends with one newline byte.
+-- The lines of a listing (docs/SPEC.md, 'The listing'). Numbers are decimal without leading zeros; every line ends with one
+-- newline byte.
 use Prim.Native.Nat.{ℕ}
 use mathlib.Core.List.{List, _++_}
 use Rattle.task_model.specs.Refusals.{Numbered}

@@ -56,7 +56,7 @@ listing f =
       | accepted ↦ planText (planIn f)
     ]
 
--- The answer: the text's length, or 10 where it does not fit. Its buffer then is `left` of plan_file's specs/Answers.
+-- The answer: the text's length, or 10 where it does not fit. Its buffer then is `left` of task_model's specs/Answers.
 unfoldable pub listAnswer : List ℕ → ℕ → Answer ℕ
 listAnswer f room = giving (mustHold (leb (length (listing f)) room) (at 10 0 0)) (length (listing f))
 

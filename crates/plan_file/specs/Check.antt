@@ -1,4 +1,4 @@
--- The checks of a plan file, and the writer's of a plan, each in its order.
+-- The checks of a plan file, and the writer's of a plan, each in its order (docs/SPEC.md, 'The order of the checks').
 use Prim.Native.Nat.{ℕ, suc, _+_, _*_}
 use mathlib.Core.Bool.{Bool, _&&_}
 use mathlib.Core.List.{List, [], _∷_}

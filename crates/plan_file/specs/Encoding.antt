@@ -1,4 +1,4 @@
--- The plan file of a plan: contents first, then bodies; numbers are unsigned, low byte first.
+-- The plan file of a plan (docs/SPEC.md, 'The plan file'): contents first, then bodies; numbers are unsigned, low byte first.
 use Prim.Native.Nat.{ℕ, zero, suc, _+_, _*_, _/_, _%_, _<_}
 use mathlib.Core.List.{List, [], _∷_, _++_}
 use lib.ListN.{length, getD}

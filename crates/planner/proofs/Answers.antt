@@ -32,7 +32,7 @@ module _ (n : Node) (buffer : List ℕ) where
   held-fits h =
       ((rw (le-leb (length (n .entries)) (length buffer) h, heldAnswer)), (rw (le-leb (length (n .entries)) (length buffer) h, heldBuffer)))
 
-  -- demand 3 of a node within the limits
+  -- promise 3 of a node within the limits
   pub held-demand : NodeHolds n → NodeDemand3 n buffer (heldAnswer n (length buffer)) (heldBuffer n buffer)
   held-demand holds fits =
       rw (held-fits fits .0, held-fits fits .1) (demand-three (n .entries) (holds .each) (n .levels) buffer)

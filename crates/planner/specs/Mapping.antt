@@ -49,7 +49,7 @@ fileBuffer f number buffer =
       | check.accepted ↦ heldBuffer (nodeFound f number) buffer
     ]
 
--- Demand 3, for a node that is mapped into a long enough buffer, with the map read from the buffer's start.
+-- Promise 3 of docs/SPEC.md, for a node that is mapped into a long enough buffer, with the map read from the buffer's start.
 abbrev pub NodeDemand3 : Node → List ℕ → Answer → List ℕ → Type 0
 NodeDemand3 n before a after =
     length (n .entries) ≤ length before → Demand3 (n .entries) (n .levels) a (take (length (n .entries)) after)

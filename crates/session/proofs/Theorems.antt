@@ -152,7 +152,7 @@ module _ (s : Session) (h : Sound s) where
   pub map-writes : (buffer : List ℕ) → mapBuffer (nodeIn s) buffer ≡ heldBuffer (nodeIn s) buffer
   map-writes = own-buffer (nodeIn s) within-checks
 
-  -- Demand 3, into a buffer of a byte an entry or more.
+  -- Promise 3 of docs/SPEC.md, into a buffer of a byte an entry or more.
   pub map-demand-three : (buffer : List ℕ)
       → NodeDemand3 (nodeIn s) buffer (mapAnswer (nodeIn s) (length buffer)) (mapBuffer (nodeIn s) buffer)
   map-demand-three buffer = own-demand (nodeIn s) within-checks buffer

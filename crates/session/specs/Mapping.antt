@@ -27,8 +27,8 @@ mapBuffer n buffer =
       | accepted ↦ heldBuffer n buffer
     ]
 
--- Mapping n into a buffer answers a and leaves the buffer as `after`. Of a node that may be lent this is the promise on
--- maps: refused exactly when nothing passes, and what is given is the best.
+-- Mapping n into a buffer answers a and leaves the buffer as `after`. Of a node that may be lent this is promise 3 of
+-- docs/SPEC.md: refused exactly when nothing passes, and what is given is the best.
 pub record Maps (n : Node) (buffer : List ℕ) (a : MappedNode) (after : List ℕ) : Type 0 where
   pub answers : answer a ≡ mapAnswer n (length buffer)
   pub written : after ≡ mapBuffer n buffer

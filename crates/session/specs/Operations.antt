@@ -1,5 +1,5 @@
--- The operations of a session, as functions of the level count and the list of entries alone: what each checks, in its
--- order, and what it makes of the node.
+-- The operations of a session (docs/SPEC.md, 'The session'), as functions of the level count and the list of entries alone:
+-- what each checks, in its order, and what it makes of the node.
 use Prim.Native.Nat.{ℕ, suc, _<_}
 use mathlib.Core.Bool.{_&&_}
 use mathlib.Core.List.{List, [], _∷_, _++_}

@@ -1,4 +1,4 @@
--- The limits of an entry and of a node.
+-- The limits of an entry and of a node (docs/SPEC.md, 'The entry').
 use Prim.Native.Nat.{ℕ, _≤_, _<_}
 use mathlib.Core.Path.{_≡_}
 use mathlib.Core.Logic.{_⊎_}

@@ -1,4 +1,4 @@
--- The table of refusals: what a user sees of each.
+-- The table of refusals (docs/SPEC.md, 'Refusals'): what a user sees of each.
 use Prim.Native.Nat.{ℕ}
 use mathlib.Core.Bool.{Bool, true, false}
 use Rattle.task_model.specs.declared.Refusal.{Refusal}

@@ -11,7 +11,7 @@ ghost use mathlib.Core.List.{[], _∷_};
 pub const MOST_TICKS: u32 = 1000000000;
 
 // An entry of a node: a task, or a global critical section that runs here for a remote task.
-// ("Entry", and "node" for a controller, are the scope paper's terms.)
+// (docs/SPEC.md, 'Terms', has the field's words beside these.)
 pub struct Entry {
     pub number: u16,
     // 1 is a task, 2 a global critical section.

@@ -1,4 +1,4 @@
-//! The checks of a file, in the paper's order.
+//! The checks of a file, in the order of docs/SPEC.md.
 
 use super::layout::{body_end, contents_end, entry_at, row_at, HEAD_BYTES, OPENING_BYTES};
 use crate::limits::{check_entry, check_row};
