@@ -145,8 +145,9 @@ pub fn ends_on_time(
     met_from(words, count, first, last, i, begin)
 }
 
-// The position behind the last entry whose deadline is shorter than its blocking and a run of every entry before `end`, or
-// 0: such an entry is late in each group that ends just before `end` and has it. `runs` is the sum of these runs.
+// The position behind the last entry before `end` whose deadline is shorter than its blocking and a run of every entry
+// before `end`, or 0. Such an entry is late in each group that ends just before `end` and has it. `runs` is the sum of
+// these runs.
 pub fn behind_late(words: &[u32; 320], count: usize, end: usize, runs: u64) -> usize
     requires { ⌜ AllHold (entriesOf (now words) count) ⌝ ∗ ⌜ (end ≤ count) × (count ≤ 64) ⌝
         ∗ ⌜ runs ≡ sumTo (λ j. entryOf (now words) j .wcet) end ⌝ }

@@ -1,7 +1,7 @@
--- What an entry line says of its entry.
+-- What an entry line says of its entry, and where it stands.
 use Prim.Native.Nat.{ℕ}
 use mathlib.Core.Path.{_≡_}
-use mathlib.Core.List.{List}
+use mathlib.Core.List.{List, _++_}
 use Rattle.task_model.specs.declared.Entry.{Entry}
 use Rattle.task_model.specs.Limits.{entryAt}
 use Rattle.completion.specs.Test.{on-time, completionTest}
@@ -18,3 +18,9 @@ pub record TimedLine (es : List Entry) (m : List ℕ) (i : ℕ) : Type 0 where
   pub line : entryText es m i ≡ entryLine (entryAt es i .number) (levelOf m i) time rounds
   pub tested : completionTest es (levelOf m) i ≡ on-time time rounds
   pub right : RightTiming es (levelOf m) i (on-time time rounds)
+
+-- A text stands in another one: some text before it, itself, and some text after it.
+pub record StandsIn (whole part : List ℕ) : Type 0 where
+  pub before : List ℕ
+  pub after : List ℕ
+  pub joined : whole ≡ before ++ part ++ after
