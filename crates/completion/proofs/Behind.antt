@@ -72,10 +72,11 @@ behind-late es all end h i first e hf =
     let short : entryAt es i .deadline < entryAt es i .blocking + sumTo (wcetIn es) end =
     ltb-true _ _ (last-holds (lateByRuns es end) end i (rw add-one at e)) in
     let known : i < length es = omega arith in
-    let begin = start-in es first (end - 1) i (groupLevel first (end - 1)) (named-group first (end - 1) (length es) i hf (omega arith)) hf (omega arith) (omega arith) in
+    let level = groupLevel first (end - 1) in
+    let group = named-group first (end - 1) (length es) i hf (omega arith) in
+    let begin = start-in es first (end - 1) i level group hf (omega arith) (omega arith) in
     let whole : (end - 1) + 1 ≡ end = omega arith in
-    late-none es all (groupLevel first (end - 1)) i known .1
-    (λ t due w. omega (arith, rw whole at begin, not-before es all (groupLevel first (end - 1)) i known t w))
+    late-none es all level i known .1 (λ t due w. omega (arith, rw whole at begin, not-before es all level i known t w))
 
 -- whether the runs make an entry late, by the words that hold the node
 module _ (ws : List ℕ) (n end runs : ℕ) (h : end ≤ n) (r : runs ≡ sumTo (wcetOf ws) end) (i : ℕ) (l : i < n) (e : Entry)

@@ -127,7 +127,8 @@ pub fn completion_test(
 ) -> Timing
     requires { ⌜ AllHold (entriesOf (now words) count) ⌝ ∗ ⌜ (first ≤ i) × (i ≤ last) × (last < count) × (count ≤ 64) ⌝ }
     ensures answered { λ a. ⌜ completion a ≡ completionTest (entriesOf (now (words .entry)) count) (groupLevel first last) i ⌝ }
-    ensures bounded { λ a. ⌜ roundsIn (completion a) ≤ roundsBound (entriesOf (now (words .entry)) count) (groupLevel first last) i ⌝ }
+    ensures bounded { λ a.
+        ⌜ roundsIn (completion a) ≤ roundsBound (entriesOf (now (words .entry)) count) (groupLevel first last) i ⌝ }
 {
     let own = entry_at(words, i);
     let deadline = own.deadline as u64;

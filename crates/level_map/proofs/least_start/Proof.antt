@@ -5,6 +5,7 @@ use mathlib.Core.Logic.{by-cases}
 use native.Mathlib.Omega.{arith}
 use native.Mathlib.Decide.{decLt}
 use borrow.Author.Needs.{needs}
+use lib.ListN.{length}
 use Rattle.task_model.specs.Words.{entriesOf}
 use Rattle.task_model.proofs.Laws.{length-entries, all-fewer}
 use Rattle.completion.specs.Group.{groupLevel}
@@ -44,12 +45,14 @@ starts-holds : tie.Need-starts-holds Inv-loop μ-loop Inv-starts μ-starts
 starts-holds c =
     let k = c .before .before in
     let es = entriesOf (k .args .words .now) (k .args .count) in
-    let s = c .behind-late .result in (
+    let s = c .behind-late .result in
+    let most : s ≤ k .args .end = omega (arith, c .behind-late .ensures, behind-most es (k .args .end)) in
+    let known : k .args .end ≤ length es = omega (arith, length-entries (k .args .words .now) 0 (k .args .count)) in (
       λ b h g.
           let e : behindLate es (k .args .end) ≡ (s - 1) + 1 = omega (arith, c .behind-late .ensures) in
-          false≢true (sym (behind-late es (k .pre .0) (k .args .end) (omega (arith, length-entries (k .args .words .now) 0 (k .args .count)))
-          (s - 1) b e (omega arith)) ∙ g (s - 1) (omega arith) (omega (arith, c .behind-late .ensures, behind-most es (k .args .end)))),
-      omega (arith, c .behind-late .ensures, behind-most es (k .args .end)),
+          let late = behind-late es (k .pre .0) (k .args .end) known (s - 1) b e (omega arith) in
+          false≢true (sym late ∙ g (s - 1) (omega arith) (omega arith)),
+      most,
     )
 
 loop-holds : tie.Need-loop-holds Inv-loop μ-loop Inv-starts μ-starts
