@@ -54,11 +54,6 @@ module _ (ws : List ℕ) (n : ℕ) (all : AllHold (entriesOf ws n)) (first last 
   start-runs runs p =
       omega (arith, p, ap (λ (e : Entry). e .blocking) named, words-start ws n first last i hf hi hl)
 
-  -- late by one run of each entry, wherever the group starts
-  pub late-runs : (runs : ℕ) → runs ≡ sumTo (wcetOf ws) (last + 1) → own .deadline < own .blocking + runs
-      → isOnTime (completionTest (entriesOf ws n) (groupLevel first last) i) ≡ false
-  late-runs runs p h = late-start (own .blocking + runs) (start-runs runs p) h
-
   -- no time at which the demand is met is before a bound by the load
   pub not-earlier : (s x : ℕ) → s ≡ start (entriesOf ws n) (groupLevel first last) i
       → ((t : ℕ) → s ≤ t

@@ -10,3 +10,4 @@ pub mod Words
 pub mod Theorems
 pub mod Load
 pub mod Early
+pub mod Behind

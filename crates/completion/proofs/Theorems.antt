@@ -1,5 +1,5 @@
 -- The theorems of the completion time test, for any levels of the entries; those of a group, for any group bounds.
-use Prim.Native.Nat.{ℕ, _+_, _-_, _≤_, _<_}
+use Prim.Native.Nat.{ℕ, _+_, _≤_, _<_}
 use mathlib.Core.Path.{_≡_, _∙_, refl, ap, ap₂, sym}
 use mathlib.Core.Bool.{true, false, not, false≢true}
 use mathlib.Core.Logic.{_↔_}
@@ -14,6 +14,7 @@ use Rattle.completion.specs.Demand.{releases, sumTo, only, demand, start
 use Rattle.completion.specs.Group.{IsGroup, groupLevel}
 use Rattle.completion.specs.Test.{Completion, on-time, late, completionTest, isOnTime, roundsIn, roundsBound}
 use Rattle.completion.specs.Rounds.{iterates, FixedIn, LateIn}
+use Rattle.completion.specs.Right.{LeastTime, NoTime, RightTiming}
 use Rattle.completion.proofs.Sums.{sumTo-eq, sumTo-up, part-le}
 use Rattle.completion.proofs.Releases.{beside-most}
 use Rattle.completion.proofs.Iteration.{Least, test-least}
@@ -49,14 +50,16 @@ module _ (es : List Entry) (all : AllHold es) (level : ℕ → ℕ) (i : ℕ) (k
   unfolding completionTest
   least = test-least (demand es level i) (entryAt es i .deadline) up (start es level i) 0 begins
 
-  -- The completion time is the least time whose demand is at most that time. The demand equals it there, it is at least 1,
-  -- and at most the deadline.
-  pub completion-least : (time rounds : ℕ) → completionTest es level i ≡ on-time time rounds
-      → (1 ≤ time) × (time ≤ entryAt es i .deadline) × (demand es level i time ≡ time)
-      × ((t : ℕ) → demand es level i t ≤ t → time ≤ t)
+  -- The completion time is the least time whose demand is at most that time.
+  pub completion-least : (time rounds : ℕ) → completionTest es level i ≡ on-time time rounds → LeastTime es level i time
   completion-least time rounds p =
       let l = rw p at least in
-      (omega (arith, l .0, some time), l .2, l .0, λ t h. l .3 t (not-before t h) h)
+      record {
+        some = omega (arith, l .0, some time);
+        due = l .2;
+        equal = l .0;
+        first = λ t h. l .3 t (not-before t h) h;
+      }
 
   -- An entry is on time exactly if some time up to its deadline has a demand of at most that time, and late exactly if
   -- none has.
@@ -65,7 +68,7 @@ module _ (es : List Entry) (all : AllHold es) (level : ℕ → ℕ) (i : ℕ) (k
   on-time-some = (
     λ p.
         by-answer (completionTest es level i)
-        (λ time rounds e. let l = completion-least time rounds e in (time, l .1, omega (arith, l .2)))
+        (λ time rounds e. let l = completion-least time rounds e in (time, l .due, omega (arith, l .equal)))
         (λ rounds e. absurd (false≢true (sym (ap isOnTime e) ∙ p))),
     λ h.
         by-answer (completionTest es level i)
@@ -73,13 +76,12 @@ module _ (es : List Entry) (all : AllHold es) (level : ℕ → ℕ) (i : ℕ) (k
         (λ rounds e. absurd (let l = rw e at least in omega (arith, l (h .0) (not-before (h .0) (h .2)) (h .2)))),
   )
 
-  pub late-none : isOnTime (completionTest es level i) ≡ false
-      ↔ ((t : ℕ) → t ≤ entryAt es i .deadline → demand es level i t ≤ t → ⊥)
+  pub late-none : isOnTime (completionTest es level i) ≡ false ↔ NoTime es level i
   late-none = (
     λ p t h d. false≢true (sym p ∙ on-time-some .1 (t, h, d)),
     λ h.
         by-answer (completionTest es level i)
-        (λ time rounds e. let l = completion-least time rounds e in absurd (h time (l .1) (omega (arith, l .2))))
+        (λ time rounds e. let l = completion-least time rounds e in absurd (h time (l .due) (omega (arith, l .equal))))
         (λ rounds e. ap isOnTime e),
   )
 
@@ -113,6 +115,10 @@ module _ (es : List Entry) (all : AllHold es) (level : ℕ → ℕ) (i : ℕ) (k
       rw first
       (rounds-bounded (demand es level i) (entryAt es i .deadline) up (some 1) (λ t. sumTo (later es level i t) (length es))
       (later-up es all level i known) (later-strict es all level i known))
+
+  -- The test's answer is right, and so is every answer that equals it.
+  pub timing-right : (o : Completion) → o ≡ completionTest es level i → RightTiming es level i o
+  timing-right o p = rw p (record { least = completion-least; lateIfNone = late-none; bounded = rounds-releases })
 
 -- The answer depends only on which entries are more urgent than the timed one, and which are beside it.
 pub alike : (es : List Entry) (lv lv′ : ℕ → ℕ) (i : ℕ)

@@ -3,5 +3,7 @@ pub mod Demand
 pub mod Test
 pub mod Group
 pub mod Rounds
--- Needs no belief: it names what the code adds up to spare rounds.
+pub mod Right
+-- Need no belief: they name what the code adds up and skips to spare rounds.
 pub mod Load
+pub mod Behind

@@ -6,7 +6,6 @@ use super::demand_at;
 use task_model::Entry;
 use task_model::entry_at;
 ghost use mathlib.Core.Path.{_≡_};
-ghost use mathlib.Core.Bool.{false};
 ghost use Prim.Native.Nat.{ℕ, _+_, _-_, _*_, _≤_, _<_};
 ghost use Rattle.task_model.specs.Limits.{AllHold, TimesHold};
 ghost use Rattle.task_model.specs.Words.{entryOf, entriesOf};
@@ -14,6 +13,7 @@ ghost use Rattle.completion.specs.Demand.{sumTo, demand};
 ghost use Rattle.completion.specs.Group.{groupLevel};
 ghost use Rattle.completion.specs.Test.{completionTest, isOnTime, endsOnTime};
 ghost use Rattle.completion.specs.Load.{one, recurringLoad, recurringRun};
+ghost use Rattle.completion.specs.Behind.{behindLate};
 
 // A load of 1. Loads are in units of 2^-34: with a finer power of 2 the numbers of `earliest` would not fit in 64 bits.
 const ONE: u64 = 17179869184;
@@ -145,15 +145,13 @@ pub fn ends_on_time(
     met_from(words, count, first, last, i, begin)
 }
 
-// The position behind the last entry whose deadline is shorter than its blocking and a run of every entry before `end`, or
-// 0: such an entry is late in each group that ends just before `end` and has it. `runs` is the sum of these runs.
+// The position behind the last entry before `end` whose deadline is shorter than its blocking and a run of every entry
+// before `end`, or 0. Such an entry is late in each group that ends just before `end` and has it. `runs` is the sum of
+// these runs.
 pub fn behind_late(words: &[u32; 320], count: usize, end: usize, runs: u64) -> usize
     requires { ⌜ AllHold (entriesOf (now words) count) ⌝ ∗ ⌜ (end ≤ count) × (count ≤ 64) ⌝
         ∗ ⌜ runs ≡ sumTo (λ j. entryOf (now words) j .wcet) end ⌝ }
-    ensures { λ s.
-        ⌜ ((i first : ℕ) → s ≡ i + 1 → first ≤ i
-        → isOnTime (completionTest (entriesOf (now (words .entry)) count) (groupLevel first (end - 1)) i) ≡ false)
-        × (s ≤ end) ⌝ }
+    ensures { λ s. ⌜ s ≡ behindLate (entriesOf (now (words .entry)) count) end ⌝ }
 {
     let mut behind: usize = 0;
     for i in 0..end {

@@ -9,7 +9,7 @@ ghost use Rattle.task_model.specs.Limits.{AllHold, TimesHold};
 ghost use Rattle.task_model.specs.Words.{entryOf, entriesOf};
 ghost use Rattle.completion.specs.Demand.{releases, sumTo, urgentShare, besideShare, demand, start};
 ghost use Rattle.completion.specs.Group.{groupLevel};
-ghost use Rattle.completion.specs.Test.{completion, completionTest, roundsIn};
+ghost use Rattle.completion.specs.Test.{completion, completionTest, roundsIn, roundsBound};
 use task_model::Entry;
 use task_model::entry_at;
 
@@ -138,7 +138,9 @@ pub fn completion_test(
     i: usize,
 ) -> Timing
     requires { ⌜ AllHold (entriesOf (now words) count) ⌝ ∗ ⌜ (first ≤ i) × (i ≤ last) × (last < count) × (count ≤ 64) ⌝ }
-    ensures { λ a. ⌜ completion a ≡ completionTest (entriesOf (now (words .entry)) count) (groupLevel first last) i ⌝ }
+    ensures answered { λ a. ⌜ completion a ≡ completionTest (entriesOf (now (words .entry)) count) (groupLevel first last) i ⌝ }
+    ensures bounded { λ a.
+        ⌜ roundsIn (completion a) ≤ roundsBound (entriesOf (now (words .entry)) count) (groupLevel first last) i ⌝ }
 {
     let own = entry_at(words, i);
     let deadline = own.deadline as u64;

@@ -33,6 +33,7 @@ module _ (es : List Entry) (hold : AllHold es) (most n : ℕ) (count : length es
       → after ≡ levelsByRank groups (take n ranks) ++ drop n before → Right es most n (mapped groups) before after
   unfolding answerOf bufferOf
   right-map groups ranks before after r q =
-      let long : length (levelsByRank groups (take n ranks)) ≡ n =
-      length-map (take n ranks) (λ x. groups - x) ∙ length-take-le n ranks (r .each) in
-      right (mapped groups) before after (rw (r .found) (ap mapped (sym (r .counted)))) (rw (r .found) (rw long q))
+      let m = levelsByRank groups (take n ranks) in
+      let long : length m ≡ n = length-map (take n ranks) (λ x. groups - x) ∙ length-take-le n ranks (r .each) in
+      let kept : after ≡ m ++ drop (length m) before = rw long q in
+      right (mapped groups) before after (rw (r .found) (ap mapped (sym (r .counted)))) (rw (r .found) kept)

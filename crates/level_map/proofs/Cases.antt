@@ -1,10 +1,12 @@
 -- The cases of docs/SPEC.md: every line of the table holds.
 use mathlib.Core.Path.{refl}
 use native.Mathlib.Omega.{arith}
+use Rattle.task_model.specs.Checks.{kindTest, timesTest, entryCheck, entriesCheck, sizeTest, nodeCheck}
+use Rattle.task_model.proofs.Theorems.{node-accepted}
 use Rattle.completion.specs.Demand.{ceilDiv, releases, sumTo, urgentShare, besideShare, demand, start}
 use Rattle.completion.specs.Test.{iterate, testFrom, completionTest}
 use Rattle.level_map.specs.Map.{fromLongest, mapsWith, maps, firstOf, noneLateTo, passTest, theMap}
-use Rattle.level_map.specs.Cases.{All, cases, answersTo, floorDemand, oneRunDemand, leastFrom}
+use Rattle.level_map.specs.Cases.{All, cases, countTo, answersTo, floorDemand, oneRunDemand, leastFrom}
 
 infixr 60 _▸_
 abbrev _▸_ : {A B : Type 0} → A → B → A × B
@@ -12,40 +14,50 @@ _▸_ p q = (p, q)
 
 -- line by line, in the table's order
 pub cases-hold : All cases
-unfolding cases answersTo floorDemand oneRunDemand leastFrom theMap passTest noneLateTo firstOf maps mapsWith fromLongest completionTest testFrom iterate start demand besideShare urgentShare sumTo releases ceilDiv
+unfolding cases countTo nodeCheck sizeTest entriesCheck entryCheck kindTest timesTest answersTo floorDemand oneRunDemand leastFrom theMap passTest noneLateTo firstOf maps mapsWith fromLongest completionTest testFrom iterate start demand besideShare urgentShare sumTo releases ceilDiv
 cases-hold =
     -- P, Q, R
-    (refl, refl)
-    ▸ refl
+    (node-accepted 0 _ .0 refl, refl)
     ▸ (refl, refl)
     ▸ refl
+    ▸ (node-accepted 0 _ .0 refl, refl)
+    ▸ (refl, refl)
+    ▸ refl
+    ▸ (node-accepted 0 _ .0 refl, refl)
     ▸ refl
     -- F
+    ▸ (node-accepted 0 _ .0 refl, refl)
     ▸ refl
     ▸ (refl, refl)
     ▸ refl
     ▸ refl
     ▸ refl
     -- H
+    ▸ (node-accepted 0 _ .0 refl, refl)
     ▸ refl
     ▸ refl
     ▸ refl
     ▸ (refl, refl)
     ▸ refl
     -- S
+    ▸ (node-accepted 0 _ .0 refl, refl)
     ▸ refl
     ▸ (refl, refl)
     ▸ (refl, refl)
     ▸ (refl, refl)
     ▸ (refl, refl)
     -- U
+    ▸ (node-accepted 0 _ .0 refl, refl)
     ▸ (refl, refl)
     ▸ refl
     -- V
+    ▸ (node-accepted 0 _ .0 refl, refl)
     ▸ refl
     ▸ refl
     ▸ (refl, omega arith)
     -- E
+    ▸ (node-accepted 0 _ .0 refl, refl)
     ▸ (refl, refl)
+    ▸ (node-accepted 0 _ .0 refl, refl)
     ▸ (refl, refl)
     ▸ tt

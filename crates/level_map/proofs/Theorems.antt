@@ -7,7 +7,7 @@ use mathlib.Core.List.{List, []}
 use mathlib.Core.Logic.{_⊎_, inl, inr, by-cases, ⊎-elim, _↔_}
 use native.Mathlib.Omega.{arith}
 use native.Mathlib.Decide.{decLt}
-use lib.ListN.{length, take, drop}
+use lib.ListN.{length, take}
 use lib.Seq.{take-at}
 use Rattle.task_model.specs.declared.Entry.{Entry}
 use Rattle.task_model.specs.Limits.{AllHold}
@@ -118,7 +118,8 @@ module _ (es : List Entry) (hold : AllHold es) (most : ℕ) where
       (λ r.
       let m = cutLevels (r .0) (length es) in
       let d = mapping m (r .2) in
-      rw (r .2, take-at m (drop (length m) buffer) (length es) (d .passing .assignment .each))
+      let front : take (length es) (bufferOf (some m) buffer) ≡ m = take-at m _ (length es) (d .passing .assignment .each) in
+      rw (r .2, front)
       (record {
         refusal = ((λ p. absurd (not-both p)), λ f. absurd (f m (d .passing)));
         given = inr (levelsUsed m, refl, d);

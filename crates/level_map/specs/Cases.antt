@@ -1,5 +1,5 @@
 -- The cases of docs/SPEC.md with their figures, as one table. proofs/Cases shows that all of it holds.
-use Prim.Native.Nat.{ℕ, zero, suc, _+_, _-_, _*_, _/_, _<_, min}
+use Prim.Native.Nat.{ℕ, zero, suc, _+_, _*_, _/_, _<_, min}
 use mathlib.Core.Path.{_≡_}
 use mathlib.Core.Bool.{true, false}
 use mathlib.Core.Option.{Option, none, some}
@@ -7,46 +7,55 @@ use mathlib.Core.List.{List, [], _∷_, _++_, map}
 use lib.ListN.{length}
 use lib.Dec.{leb}
 use Rattle.task_model.specs.declared.Entry.{Entry}
-use Rattle.task_model.specs.Limits.{entryAt}
+use Rattle.task_model.specs.Limits.{entryAt, NodeHolds}
 use Rattle.completion.specs.Demand.{sumTo, only, moreUrgent, beside, urgentShare, demand, start}
 use Rattle.completion.specs.Test.{Completion, on-time, late, testFrom, completionTest}
 use Rattle.level_map.specs.Assignments.{levelOf, levelsUsed}
 use Rattle.level_map.specs.Map.{theMap}
 
--- A task with C, T and D, r calls and blocking B.
-abbrev pub entry : ℕ → ℕ → ℕ → ℕ → ℕ → Entry
-entry c t d r b = record { number = 0; kind = 1; calls = r; wcet = c; period = t; deadline = d; blocking = b }
+-- A task with its number, C, T and D, r calls and blocking B.
+abbrev pub entry : ℕ → ℕ → ℕ → ℕ → ℕ → ℕ → Entry
+entry n c t d r b = record { number = n; kind = 1; calls = r; wcet = c; period = t; deadline = d; blocking = b }
 
 -- Unless said, r and B are 0.
-abbrev pub task : ℕ → ℕ → ℕ → Entry
-task c t d = entry c t d 0 0
+abbrev pub task : ℕ → ℕ → ℕ → ℕ → Entry
+task n c t d = entry n c t d 0 0
 
 abbrev pub caseP : List Entry
-caseP = task 20 100 100 ∷ task 30 145 145 ∷ task 68 150 150 ∷ []
+caseP = task 1 20 100 100 ∷ task 2 30 145 145 ∷ task 3 68 150 150 ∷ []
 
 abbrev pub caseQ : List Entry
-caseQ = task 20 100 100 ∷ task 30 145 145 ∷ task 68 150 138 ∷ []
+caseQ = task 1 20 100 100 ∷ task 2 30 145 145 ∷ task 3 68 150 138 ∷ []
 
 abbrev pub caseR : List Entry
-caseR = task 20 100 100 ∷ task 30 145 145 ∷ task 68 150 137 ∷ []
+caseR = task 1 20 100 100 ∷ task 2 30 145 145 ∷ task 3 68 150 137 ∷ []
 
 abbrev pub caseF : List Entry
 caseF = caseP
 
 abbrev pub caseH : List Entry
-caseH = task 2 5 5 ∷ task 1 20 20 ∷ entry 2 20 8 0 3 ∷ []
+caseH = task 1 2 5 5 ∷ task 2 1 20 20 ∷ entry 3 2 20 8 0 3 ∷ []
 
 abbrev pub caseS : List Entry
-caseS = task 20 100 100 ∷ task 78 150 150 ∷ task 30 160 145 ∷ []
+caseS = task 1 20 100 100 ∷ task 2 78 150 150 ∷ task 3 30 160 145 ∷ []
 
 abbrev pub caseU : List Entry
-caseU = entry 20 100 100 0 10 ∷ entry 30 160 145 0 10 ∷ task 78 150 150 ∷ []
+caseU = entry 1 20 100 100 0 10 ∷ entry 2 30 160 145 0 10 ∷ task 3 78 150 150 ∷ []
 
 abbrev pub caseV : List Entry
-caseV = task 1 5 5 ∷ entry 4 20 20 1 10 ∷ []
+caseV = task 1 1 5 5 ∷ entry 2 4 20 20 1 10 ∷ []
 
 abbrev pub caseE : List Entry
 caseE = []
+
+-- 1, 2, .., n.
+unfoldable pub countTo : ℕ → List ℕ
+countTo zero = []
+countTo (suc n) = countTo n ++ (suc n ∷ [])
+
+-- The entries' own numbers, in listed order.
+abbrev pub numbers : List Entry → List ℕ
+numbers es = map (λ (e : Entry). e .number) es
 
 -- Every entry's answer under the levels `a`.
 unfoldable pub answersTo : List Entry → List ℕ → ℕ → List Completion
@@ -85,6 +94,8 @@ leastFrom w (suc n) t = elim (leb (w t) t) [ true ↦ some t | false ↦ leastFr
 
 -- What a line of the table says of a node.
 pub data Claim : Type 0 where
+  -- with so many levels it is a node within the limits, and its entries are numbered 1, 2, 3 and so on
+  a-node : (es : List Entry) (levels : ℕ) → Claim
   -- with so many levels, this is its map, with so many levels used
   maps-to : (es : List Entry) (levels : ℕ) (m : List ℕ) (used : ℕ) → Claim
   -- with so many levels it has no map
@@ -103,6 +114,8 @@ pub data Claim : Type 0 where
   one-run-at : (es : List Entry) (a : List ℕ) (i t : ℕ) → Claim
 
 abbrev pub Holds : Claim → Type 0
+Holds (a-node es levels) =
+    NodeHolds (record { levels = levels; entries = es }) × (numbers es ≡ countTo (length es))
 Holds (maps-to es levels m used) = (theMap es levels ≡ some m) × (levelsUsed m ≡ used)
 Holds (no-map es levels) = theMap es levels ≡ none
 Holds (answered es a cs) = answers es a ≡ cs
@@ -125,37 +138,47 @@ All (c ∷ cs) = Holds c × All cs
 unfoldable pub cases : List Claim
 cases =
     -- P: the map and the figures of its listing. Q: third D 138, same times. R: third D 137, no map.
-    maps-to caseP 2 (1 ∷ 2 ∷ 2 ∷ []) 2
+    a-node caseP 2
+    ∷ maps-to caseP 2 (1 ∷ 2 ∷ 2 ∷ []) 2
     ∷ answered caseP (1 ∷ 2 ∷ 2 ∷ []) (on-time 20 1 ∷ on-time 138 2 ∷ on-time 138 2 ∷ [])
+    ∷ a-node caseQ 2
     ∷ maps-to caseQ 2 (1 ∷ 2 ∷ 2 ∷ []) 2
     ∷ answered caseQ (1 ∷ 2 ∷ 2 ∷ []) (on-time 20 1 ∷ on-time 138 2 ∷ on-time 138 2 ∷ [])
+    ∷ a-node caseR 2
     ∷ no-map caseR 2
     -- F: P with 1 level, no map: entry 1 would take 118. The floor would pass it.
+    ∷ a-node caseF 1
     ∷ no-map caseF 1
     ∷ would-take caseF (1 ∷ 1 ∷ 1 ∷ []) 0 118
     ∷ floor-at caseF (1 ∷ 1 ∷ 1 ∷ []) 0 20
     ∷ floor-at caseF (1 ∷ 1 ∷ 1 ∷ []) 1 30
     ∷ floor-at caseF (1 ∷ 1 ∷ 1 ∷ []) 2 68
     -- H: third alone late, last two together late; all on level 1: times 5, 5, 8.
+    ∷ a-node caseH 3
     ∷ late-at caseH (1 ∷ 2 ∷ 3 ∷ []) 2
     ∷ late-at caseH (1 ∷ 1 ∷ 2 ∷ []) 2
     ∷ late-at caseH (1 ∷ 2 ∷ 2 ∷ []) 2
     ∷ maps-to caseH 3 (1 ∷ 1 ∷ 1 ∷ []) 1
     ∷ timed caseH (1 ∷ 1 ∷ 1 ∷ []) (some 5 ∷ some 5 ∷ some 8 ∷ [])
     -- S: no map, for the third reaches 148, and all on one level the first needs 128.
+    ∷ a-node caseS 3
     ∷ no-map caseS 3
     ∷ would-take caseS (1 ∷ 2 ∷ 3 ∷ []) 2 148
     ∷ would-take caseS (1 ∷ 1 ∷ 2 ∷ []) 2 148
     ∷ would-take caseS (1 ∷ 2 ∷ 2 ∷ []) 2 148
     ∷ would-take caseS (1 ∷ 1 ∷ 1 ∷ []) 0 128
     -- U: map 1, 1, 2, times 60, 60, 148.
+    ∷ a-node caseU 2
     ∷ maps-to caseU 2 (1 ∷ 1 ∷ 2 ∷ []) 2
     ∷ timed caseU (1 ∷ 1 ∷ 2 ∷ []) (some 60 ∷ some 60 ∷ some 148 ∷ [])
     -- V: together, second 16, rounds 2; apart, 18, rounds 3. One own-level run only gives 15 and is wrong.
+    ∷ a-node caseV 2
     ∷ answered-at caseV (1 ∷ 1 ∷ []) 1 (on-time 16 2)
     ∷ answered-at caseV (1 ∷ 2 ∷ []) 1 (on-time 18 3)
     ∷ one-run-at caseV (1 ∷ 1 ∷ []) 1 15
     -- E: the empty node, 0 levels.
+    ∷ a-node caseE 1
     ∷ maps-to caseE 1 [] 0
+    ∷ a-node caseE 64
     ∷ maps-to caseE 64 [] 0
     ∷ []

@@ -4,4 +4,5 @@ pub mod Texts
 pub mod Mapped
 pub mod Cases
 pub mod Long
+pub mod Inside
 pub mod Theorems

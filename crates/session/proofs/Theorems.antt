@@ -12,8 +12,9 @@ use Rattle.task_model.specs.Checks.{nodeCheck}
 use Rattle.task_model.proofs.Laws.{node-sizes, length-entries}
 use Rattle.task_model.proofs.Theorems.{node-accepted, either}
 use Rattle.completion.specs.Group.{groupLevel}
-use Rattle.completion.specs.Test.{completionTest, on-time}
-use Rattle.completion.proofs.Theorems.{completion-least}
+use Rattle.completion.specs.Test.{Completion, completionTest, on-time}
+use Rattle.completion.specs.Right.{RightTiming}
+use Rattle.completion.proofs.Theorems.{timing-right}
 use Rattle.plan_file.specs.Encoding.{encoding}
 use Rattle.plan_file.specs.Decoding.{planIn}
 use Rattle.plan_file.specs.Check.{fileCheck, planCheck}
@@ -125,17 +126,23 @@ module _ (s : Session) (h : Sound s) (first last i : ℕ) where
       time-refused (nodeIn s) first last i (at 12 0 0)
       (sound-checks (timing first last i) s h ∙ time-else (nodeIn s) first last i out)
 
--- A completion time is never 0, whatever the session holds.
-pub time-some : (s : Session) (first last i time rounds : ℕ)
-    → timeAnswer (nodeIn s) first last i ≡ gives (on-time time rounds) → 1 ≤ time
-time-some s first last i time rounds p =
+-- What timing answers is right, whatever the session holds: the completion time is the least, an entry is late exactly if
+-- there is none up to its deadline, and the rounds are within their bound.
+pub time-right : (s : Session) (first last i : ℕ) (o : Completion) → timeAnswer (nodeIn s) first last i ≡ gives o
+    → RightTiming (nodeIn s .entries) (groupLevel first last) i o
+time-right s first last i o p =
     ⊎-elim
     (λ a.
     let q = time-ready s first last i a in
     let t = time-given (nodeIn s) first last i a in
-    completion-least (nodeIn s .entries) (q .0) (groupLevel first last) i (omega (arith, length-entries (s .words) 0 (s .count))) time rounds (cc) .0)
-    (λ a. let t = time-refused (nodeIn s) first last i (a .0) (a .1) in let z : _≡_ {A = ℕ} 0 1 = cc in omega arith)
+    timing-right (nodeIn s .entries) (q .0) (groupLevel first last) i (omega (arith, length-entries (s .words) 0 (s .count))) o (cc))
+    (λ a. let t = time-refused (nodeIn s) first last i (a .0) (a .1) in absurd (let z : _≡_ {A = ℕ} 0 1 = cc in omega arith))
     (either (stepCheck (timing first last i) (nodeIn s)))
+
+-- So a completion time is never 0.
+pub time-some : (s : Session) (first last i time rounds : ℕ)
+    → timeAnswer (nodeIn s) first last i ≡ gives (on-time time rounds) → 1 ≤ time
+time-some s first last i time rounds p = time-right s first last i (on-time time rounds) p .least time rounds refl .some
 
 -- Mapping, as an operation of a row, is refused exactly as its answer says; on any session.
 pub map-refusal : (s : Session) (room : ℕ) → stepCheck (mapping room) (nodeIn s) ≡ refusalIn (mapAnswer (nodeIn s) room)

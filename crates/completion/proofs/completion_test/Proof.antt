@@ -1,15 +1,18 @@
 use Prim.Native.Nat.{ℕ, _+_, _-_, _≤_, _<_}
 use mathlib.Core.Path.{_≡_, ap}
+use mathlib.Core.List.{List}
 use native.Mathlib.Omega.{arith}
 use borrow.Author.Needs.{needs}
 use Rattle.task_model.specs.declared.Entry.{Entry}
+use Rattle.task_model.specs.Limits.{AllHold}
 use Rattle.task_model.specs.Words.{entriesOf}
-use Rattle.task_model.proofs.Laws.{all-at}
+use Rattle.task_model.proofs.Laws.{length-entries, all-at}
 use Rattle.completion.specs.Demand.{demand}
 use Rattle.completion.specs.Group.{groupLevel}
-use Rattle.completion.specs.Test.{testFrom, completionTest}
+use Rattle.completion.specs.Test.{Completion, testFrom, completionTest, roundsIn, roundsBound}
 use Rattle.completion.proofs.Iteration.{loop-late, loop-done, loop-next}
 use Rattle.completion.proofs.Words.{words-up, words-begin, words-test}
+use Rattle.completion.proofs.Theorems.{timing-right}
 use Rattle.completion.proofs.completion_test.Statement.{statement}
 use Rattle.completion.proofs.completion_test.Tie as tie
 
@@ -72,10 +75,19 @@ module _ (c : tie.After-demand-at Inv-loop μ-loop) where
   ahead : c .before .before .loop .t ≤ c .demand-at .result
   ahead = omega (arith, c .before .before .loop .inv .2, c .demand-at .ensures)
 
+-- an answer that is the test's has rounds within their bound
+module _ (ws : List ℕ) (n : ℕ) (all : AllHold (entriesOf ws n)) (first last i : ℕ) (known : i < n) (o : Completion)
+    (p : o ≡ completionTest (entriesOf ws n) (groupLevel first last) i) where
+  both : (o ≡ completionTest (entriesOf ws n) (groupLevel first last) i)
+      × (roundsIn o ≤ roundsBound (entriesOf ws n) (groupLevel first last) i)
+  both = (p, timing-right (entriesOf ws n) all (groupLevel first last) i (omega (arith, length-entries ws 0 n)) o p .bounded)
+
 returns : tie.Need-returns Inv-loop μ-loop
 returns c =
-    loop-done _ _ (rise (c .before)) _ _ _ (c .before .before .before .loop .inv .3) _ (c .before .before .loop-test .taken)
-    (c .before .demand-at .ensures) (c .if1 .taken)
+    let s = at-start (c .before) in
+    both _ _ (s .pre .0) _ _ _ (omega arith) _
+    (loop-done _ _ (rise (c .before)) _ _ _ (c .before .before .before .loop .inv .3) _ (c .before .before .loop-test .taken)
+    (c .before .demand-at .ensures) (c .if1 .taken))
 
 loop-less : tie.Need-loop-less Inv-loop μ-loop
 loop-less c = omega (arith, ahead (c .before), c .if1 .left)
@@ -93,7 +105,8 @@ loop-again c =
 returns-2 : tie.Need-returns-2 Inv-loop μ-loop
 returns-2 c =
     let p = c .before .before .before .before .before .pre in
-    loop-late _ _ (words-up _ _ (p .0) _ _ _ (omega arith) (omega arith)) _ _ _ (c .before .loop .inv .3) (c .loop-test .left)
+    both _ _ (p .0) _ _ _ (omega arith) _
+    (loop-late _ _ (words-up _ _ (p .0) _ _ _ (omega arith) (omega arith)) _ _ _ (c .before .loop .inv .3) (c .loop-test .left))
 
 pub completion-test-spec : {M : Type 1} → statement M
 completion-test-spec =

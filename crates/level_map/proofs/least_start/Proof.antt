@@ -5,11 +5,14 @@ use mathlib.Core.Logic.{by-cases}
 use native.Mathlib.Omega.{arith}
 use native.Mathlib.Decide.{decLt}
 use borrow.Author.Needs.{needs}
+use lib.ListN.{length}
 use Rattle.task_model.specs.Words.{entriesOf}
 use Rattle.task_model.proofs.Laws.{length-entries, all-fewer}
 use Rattle.completion.specs.Group.{groupLevel}
 use Rattle.completion.specs.Test.{completionTest, isOnTime, endsOnTime}
+use Rattle.completion.specs.Behind.{behindLate}
 use Rattle.completion.proofs.Theorems.{widen}
+use Rattle.completion.proofs.Behind.{behind-most, behind-late}
 use Rattle.level_map.specs.Groups.{GroupPasses}
 use Rattle.level_map.proofs.least_start.Statement.{statement}
 use Rattle.level_map.proofs.least_start.Tie as tie
@@ -37,13 +40,19 @@ wcet-sum-requires c κs = (all-fewer _ _ _ (omega arith) (c .pre .0), omega arit
 behind-late-requires : tie.Need-behind-late-requires Inv-loop μ-loop Inv-starts μ-starts
 behind-late-requires c κs = (c .before .pre .0, ((omega arith, omega arith), c .wcet-sum .ensures))
 
+-- the entry before the first start is late in every group that starts no later than it
 starts-holds : tie.Need-starts-holds Inv-loop μ-loop Inv-starts μ-starts
 starts-holds c =
-    let s = c .behind-late .result in (
+    let k = c .before .before in
+    let es = entriesOf (k .args .words .now) (k .args .count) in
+    let s = c .behind-late .result in
+    let most : s ≤ k .args .end = omega (arith, c .behind-late .ensures, behind-most es (k .args .end)) in
+    let known : k .args .end ≤ length es = omega (arith, length-entries (k .args .words .now) 0 (k .args .count)) in (
       λ b h g.
-          let e : s ≡ (s - 1) + 1 = omega arith in
-          false≢true (sym (c .behind-late .ensures .0 (s - 1) b e (omega arith)) ∙ g (s - 1) (omega arith) (omega arith)),
-      c .behind-late .ensures .1,
+          let e : behindLate es (k .args .end) ≡ (s - 1) + 1 = omega (arith, c .behind-late .ensures) in
+          let late = behind-late es (k .pre .0) (k .args .end) known (s - 1) b e (omega arith) in
+          false≢true (sym late ∙ g (s - 1) (omega arith) (omega arith)),
+      most,
     )
 
 loop-holds : tie.Need-loop-holds Inv-loop μ-loop Inv-starts μ-starts

@@ -7,11 +7,12 @@ use borrow.Author.Needs.{needs}
 use Rattle.level_map.proofs.set_rank.Statement.{statement}
 use Rattle.level_map.proofs.set_rank.Tie as tie
 
+-- nothing from `end` on is written, and the entries from `start` up to j have the rank
 abbrev Inv-loop : tie.InvT-loop
-Inv-loop ranks₀ start end rank j₀ ranks j = (start ≤ j) × (j ≤ end) × (ranks ≡ filled ranks₀ start j rank)
+Inv-loop ranks₀ start end rank j₀ ranks j = (j ≤ end) × (start ≤ j) × (ranks ≡ filled ranks₀ start j rank)
 
 abbrev μ-loop : tie.MeasureT-loop
-μ-loop ranks₀ start end rank j₀ ranks j = end - j
+μ-loop ranks₀ start end rank j₀ ranks j = 64 - j
 
 loop-holds : tie.Need-loop-holds Inv-loop μ-loop
 loop-holds c = let h : c .args .start ≤ length (c .args .ranks .now) = omega arith in (omega arith, omega arith, fill-none _ _ _ h)
@@ -23,7 +24,7 @@ add-j : tie.Need-add-j Inv-loop μ-loop
 add-j c = search needs
 
 loop-less : tie.Need-loop-less Inv-loop μ-loop
-loop-less c = search needs
+loop-less c = omega arith
 
 loop-again : tie.Need-loop-again Inv-loop μ-loop
 loop-again c =

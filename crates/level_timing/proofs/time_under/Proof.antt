@@ -16,7 +16,7 @@ completion-test-requires c κs = search needs
 
 returns : tie.Need-returns
 returns c =
-    c .completion-test .ensures
+    c .completion-test .ensures .0
     ∙ time-group _ _ (length-entries _ 0 _) _ (c .before .before .before .pre .1 .1) _ _ _ (c .before .before .group-first .ensures)
     (c .before .group-last .ensures)
 

@@ -30,7 +30,7 @@ completion-test-requires c κs =
 returns-2 : tie.Need-returns-2
 returns-2 c =
     let d = c .before .before .before .before in
-    ap gives (c .completion-test .ensures)
+    ap gives (c .completion-test .ensures .0)
     ∙ sym (time-given _ _ _ _ (sym (d .before .before .check-time .ensures) ∙ ap outcome (d .enum-told .given .1)))
 
 pub timed-spec : {M : Type 1} → statement M

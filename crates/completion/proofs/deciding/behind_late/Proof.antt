@@ -1,26 +1,19 @@
-use Prim.Native.Nat.{ℕ, _+_, _-_, _≤_}
-use mathlib.Core.Path.{_≡_, ap}
-use mathlib.Core.Bool.{false}
+use Prim.Native.Nat.{_-_, _≤_}
+use mathlib.Core.Path.{_≡_, _∙_, sym, ap}
 use native.Mathlib.Omega.{arith}
 use borrow.Author.Needs.{needs}
 use Rattle.task_model.specs.declared.Entry.{Entry}
 use Rattle.task_model.specs.Words.{entriesOf}
 use Rattle.task_model.proofs.Laws.{all-at}
-use Rattle.completion.specs.Demand.{sumTo}
-use Rattle.completion.specs.Group.{groupLevel}
-use Rattle.completion.specs.Test.{completionTest, isOnTime}
-use Rattle.completion.proofs.Words.{wcetOf, wcet-small}
-use Rattle.completion.proofs.Early.{late-runs}
+use Rattle.completion.specs.Behind.{lateByRuns, behindLast, behindLate}
+use Rattle.completion.proofs.Words.{wcet-small}
+use Rattle.completion.proofs.Behind.{last-none, last-found, last-kept, runs-late, runs-fit}
 use Rattle.completion.proofs.deciding.behind_late.Statement.{statement}
 use Rattle.completion.proofs.deciding.behind_late.Tie as tie
 
 abbrev Inv-loop : tie.InvT-loop
 Inv-loop words count end runs behind₀ i₀ behind i =
-    ((k first : ℕ) → behind ≡ k + 1 → first ≤ k
-    → isOnTime (completionTest (entriesOf words count) (groupLevel first (end - 1)) k) ≡ false)
-    × (behind ≤ i)
-    × (i ≤ end)
-    × (runs ≤ 64000000000)
+    (behind ≡ behindLast (lateByRuns (entriesOf words count) end) i) × (i ≤ end) × (runs ≤ 64000000000)
 
 abbrev μ-loop : tie.MeasureT-loop
 μ-loop words count end runs behind₀ i₀ behind i = end - i
@@ -28,8 +21,7 @@ abbrev μ-loop : tie.MeasureT-loop
 loop-holds : tie.Need-loop-holds Inv-loop μ-loop
 loop-holds c =
     let a = c .args in (
-      λ k first e h. absurd (omega arith),
-      omega arith,
+      omega (arith, last-none (lateByRuns (entriesOf (a .words .now) (a .count)) (a .end))),
       omega arith,
       omega (arith, c .pre .1 .1, wcet-small (a .words .now) (a .count) (c .pre .0) (omega arith) (a .end) (omega arith)),
     )
@@ -51,7 +43,7 @@ few c =
     )
 
 add-if1 : tie.Need-add-if1 Inv-loop μ-loop
-add-if1 c = omega (arith, few (c .before), c .before .before .before .loop .inv .3)
+add-if1 c = omega (arith, few (c .before), c .before .before .before .loop .inv .2)
 
 cast-if1-2 : tie.Need-cast-if1-2 Inv-loop μ-loop
 cast-if1-2 c = search needs
@@ -64,8 +56,15 @@ loop-less c = omega arith
 
 loop-again : tie.Need-loop-again Inv-loop μ-loop
 loop-again c =
+    let s = c .before .before .before .before .before .before in
     let l = c .before .before .before .before .before .loop in
-    (l .inv .0, omega arith, omega arith, l .inv .3)
+    let ws = s .args .words .now in (
+      l .inv .0
+          ∙ sym (last-kept _ (l .i) (runs-fit ws (s .args .count) (s .args .end) _ (omega arith) (s .pre .1 .1) (l .i) (omega arith) _
+          (c .before .before .before .entry-at .ensures) (omega (arith, c .if1 .taken)))),
+      omega arith,
+      l .inv .2,
+    )
 
 add-behind : tie.Need-add-behind Inv-loop μ-loop
 add-behind c = omega arith
@@ -80,21 +79,19 @@ loop-again-2 : tie.Need-loop-again-2 Inv-loop μ-loop
 loop-again-2 c =
     let s = c .before .before .before .before .before .before in
     let l = c .before .before .before .before .before .loop in
-    let ws = s .args .words .now in
-    let runs : s .args .runs ≡ sumTo (wcetOf ws) ((s .args .end - 1) + 1) =
-    let whole : (s .args .end - 1) + 1 ≡ s .args .end = omega arith in
-    rw whole (s .pre .1 .1) in (
-      λ k first e h.
-          let same : l .i ≡ k = omega arith in
-          rw same at (late-runs ws (s .args .count) (s .pre .0) first (s .args .end - 1) (l .i) (omega arith) (omega arith) (omega arith) _
-          (c .before .before .before .entry-at .ensures) _ runs (omega (arith, c .if1 .left))),
+    let ws = s .args .words .now in (
+      sym (last-found _ (l .i) (runs-late ws (s .args .count) (s .args .end) _ (omega arith) (s .pre .1 .1) (l .i) (omega arith) _
+          (c .before .before .before .entry-at .ensures) (omega (arith, c .if1 .left)))),
       omega arith,
-      omega arith,
-      l .inv .3,
+      l .inv .2,
     )
 
 returns : tie.Need-returns Inv-loop μ-loop
-returns c = (c .before .loop .inv .0, omega arith)
+unfolding behindLate
+returns c =
+    let l = c .before .loop in
+    let e : l .i ≡ c .before .before .args .end = omega arith in
+    rw e at (l .inv .0)
 
 pub behind-late-spec : {M : Type 1} → statement M
 behind-late-spec =
