@@ -25,5 +25,7 @@ pub mod Encoded
 pub mod Decoded
 pub mod Bytes
 pub mod Fits
+-- What is accepted is within the limits.
+pub mod Limits
 pub mod Theorems
 pub mod Examples
