@@ -1,5 +1,5 @@
 -- The theorems of plan files. Those of memory speak of what the contracts of `read_plan`, `write_plan` and `find_node` name.
-use Prim.Native.Nat.{ℕ, zero, suc, _+_, _*_, _/_, _%_, _≤_, _<_}
+use Prim.Native.Nat.{ℕ, zero, suc, _+_, _*_, _/_, _≤_, _<_}
 use mathlib.Core.Path.{_≡_, _∙_, refl, sym, ap}
 use mathlib.Core.Logic.{_↔_, ⊎-elim}
 use mathlib.Core.List.{List, [], _∷_, map, append-nil}
@@ -20,7 +20,7 @@ use Rattle.plan_file.specs.Encoding.{bodiesStart, encoding, Bytes}
 use Rattle.plan_file.specs.Decoding.{wordAt, wordsFrom, nodeCount, rowAt, offsetAt, rowsIn, entryIn, entriesIn, planIn}
 use Rattle.plan_file.specs.Check.{countTest, rowTest, rowsCheck, contentsCheck, nodesCheck, headerCheck, fileCheck, handedCheck, planCheck, wordsCheck}
 use Rattle.plan_file.specs.Find.{rowIn, nodeOfRow, rowOfNumber, findCheck, nodeFound}
-use Rattle.plan_file.specs.Limits.{PlanHolds, IsPlanFile}
+use Rattle.plan_file.specs.Limits.{PlanHolds, IsPlanFile, IsPlanInMemory}
 use Rattle.task_model.proofs.Outcomes.{then-accepted, mustHold-accepts, mustHold-refuses}
 use Rattle.plan_file.proofs.Words.{entryWith, entry-in, length-words}
 use Rattle.plan_file.proofs.Contents.{length-rows}
@@ -29,7 +29,7 @@ use Rattle.plan_file.proofs.Encoding.{length-encoding}
 use Rattle.plan_file.proofs.Header.{header-holds}
 use Rattle.plan_file.proofs.File.{file-layout, file-holds}
 use Rattle.plan_file.proofs.Handed.{handed-holds, count-true, handed-nodes}
-use Rattle.plan_file.proofs.Memory.{words-of-entries, entries-of-words}
+use Rattle.plan_file.proofs.Memory.{length-words-of, words-of-entries, entries-of-words}
 use Rattle.plan_file.proofs.Encoded.{same-bytes, contents-rows}
 use Rattle.plan_file.proofs.Decoded.{same-plan, encoding-accepted, few-entries, plan-same}
 use Rattle.plan_file.proofs.Bytes.{bytes-encoding}
@@ -76,8 +76,8 @@ file-limits f = (
   λ h. accepted-exactly f .1 (h .0, h .1, holds-accepted (h .0) (h .2), h .3),
 )
 
--- Words of a plan in memory are accepted exactly if the plan is within the limits, and no part of an entry is left over.
-pub words-limits : (rs ws : List ℕ) → wordsCheck rs ws ≡ accepted ↔ (PlanHolds (planOf rs ws) × (length ws % 5 ≡ 0))
+-- Words are accepted exactly if they hold a plan within the limits.
+pub words-limits : (rs ws : List ℕ) → wordsCheck rs ws ≡ accepted ↔ IsPlanInMemory rs ws
 words-limits rs ws =
     let n = length-entries ws 0 (length ws / 5) in (
       λ a. (plan-holds (planOf rs ws) (words-plan rs ws a), omega (arith, handed-holds _ _ _ a .counts)),
@@ -102,15 +102,12 @@ read-holds f b =
 pub read-write-memory : (f : List ℕ) → Bytes f → fileCheck f ≡ accepted
     → (wordsCheck (map rowWord (planIn f .rows)) (wordsOf (planIn f .entries)) ≡ accepted)
     × (encoding (planOf (map rowWord (planIn f .rows)) (wordsOf (planIn f .entries))) ≡ f)
-read-write-memory f b a =
-    let e = words-of-entries f b (bodiesStart (nodeCount f)) (entryCount (rowsIn f)) in
-    let l : length (wordsOf (entriesIn f)) ≡ length (entriesIn f) * 5 =
-    ap length e ∙ length-words f _ _ ∙ ap (λ n. n * 5) (sym (length-entries-at f _ _)) in (
-      ap (λ (p : Plan). handedCheck (p .rows) (p .entries) (length (wordsOf (entriesIn f)))) (read-holds f b)
-          ∙ ap (handedCheck (rowsIn f) (entriesIn f)) l
-          ∙ plan-accepted f a,
-      ap encoding (read-holds f b) ∙ same-bytes f b a,
-    )
+read-write-memory f b a = (
+  ap (λ (p : Plan). handedCheck (p .rows) (p .entries) (length (wordsOf (entriesIn f)))) (read-holds f b)
+      ∙ ap (handedCheck (rowsIn f) (entriesIn f)) (length-words-of (entriesIn f))
+      ∙ plan-accepted f a,
+  ap encoding (read-holds f b) ∙ same-bytes f b a,
+)
 
 -- A plan in memory that the writer accepts, written and read again, is accepted and gives the same words.
 pub write-read-memory : (rs ws : List ℕ) → WordsFit rs → WordsFit ws → wordsCheck rs ws ≡ accepted

@@ -7,3 +7,4 @@ pub mod Find
 pub mod Limits
 pub mod Buffers
 pub mod Answers
+pub mod RoundTrips
