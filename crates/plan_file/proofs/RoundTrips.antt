@@ -74,8 +74,7 @@ module _ (f rs ws : List ℕ) (ok : fileCheck f ≡ accepted) (er : map rowWord 
   sizes : (rows words : ℕ) → length rs ≤ rows → length ws ≤ words
       → readAnswer f rows words ≡ gives (record { rows = length rs; entries = length ws / 5 })
   sizes rows words hr hw =
-      let k : entryCount (rowsIn f) ≡ length ws / 5 = omega (arith, counted) in
-      read-filled f rows words ok (omega (arith, nodes)) (omega (arith, counted)) ∙ rw (k, nodes)
+      read-filled f rows words ok (length rs) (length ws / 5) (sym nodes) (omega (arith, counted)) hr (omega (arith, counted))
 
   filled : (oldRows oldWords : List ℕ) (a : ReadPlan) (newRows newWords : List ℕ)
       → length rs ≤ length oldRows → length ws ≤ length oldWords → ReadCall f oldRows oldWords a newRows newWords

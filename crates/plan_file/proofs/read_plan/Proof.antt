@@ -93,11 +93,10 @@ returns-4 c =
     let n = c .before .before .before .before .before .before .before .before .before .before .node-count .ensures .0 in
     let f = c .before .before .before .before .before .before .before .before .before .before .before .before .before .before .before .before .before .args .file .now in
     let w = counted (c .before .before .before .before .before .before .before .before .before .before) in
-    let q : (length f - (8 + c .before .before .before .before .before .before .before .before .before .before .node-count .result * 8)) / 4 / 5 ≡ entryCount (rowsIn f) = omega (arith, w) in
     let bytes : Bytes f = λ i. c .before .before .before .before .before .before .before .before .before .before .before .before .before .before .before .before .shared-slice-known .given i .fits in
     read-ensures bytes
     (record {
-      answer = rw (q, n) (sym (read-filled _ _ _ (told (c .before .before .before .before .before .before .before .before .before .before .before)) (omega arith) (omega arith)));
+      answer = sym (read-filled _ _ _ (told (c .before .before .before .before .before .before .before .before .before .before .before)) _ _ n (omega (arith, w)) (omega arith) (omega arith));
       rowsThere = rw (← n) (c .before .before .before .before .before .before .copy-rows .ensures ∙ over-start _ _);
       wordsThere =
           rw (words-of-entries f bytes (bodiesStart (nodeCount f)) (entryCount (rowsIn f)))
