@@ -7,16 +7,12 @@ use borrow.Author.Tests.{le-leb}
 use lib.ListN.{length, take, drop, length-map}
 use lib.Seq.{take-append-seam}
 use Rattle.task_model.specs.Refusals.{Outcome, accepted, refused}
-use Rattle.task_model.specs.Answers.{gives, giving, left}
-use Rattle.plan_file.specs.declared.ReadPlan.{ReadPlan}
-use Rattle.plan_file.specs.declared.ReadPlan.the-variants as read
-use Rattle.plan_file.specs.declared.Written.{Written}
-use Rattle.plan_file.specs.declared.Written.the-variants as written
+use Rattle.task_model.specs.Answers.{Answer, gives, refuses, giving, left}
 use Rattle.plan_file.specs.Plan.{entryCount, rowWord, wordsOf, planOf, WordsFit}
 use Rattle.plan_file.specs.Encoding.{bodiesStart, encoding, Bytes}
 use Rattle.plan_file.specs.Decoding.{nodeCount, rowsIn, entriesIn, planIn}
 use Rattle.plan_file.specs.Check.{fileCheck, wordsCheck}
-use Rattle.plan_file.specs.Answers.{Sizes, readAnswer, readGives, writeAnswer, writeGives, ReadCall, WriteCall}
+use Rattle.plan_file.specs.Answers.{Sizes, readAnswer, writeAnswer, ReadCall, WriteCall}
 use Rattle.plan_file.specs.RoundTrips.{WrittenAgain, ReadAgain}
 use Rattle.task_model.proofs.Outcomes.{both-accepted}
 use Rattle.plan_file.proofs.Contents.{length-row-words}
@@ -30,18 +26,6 @@ given : {A : Type 0} (o : Outcome) (x y : A) → gives x ≡ giving o y → (o �
 given accepted x y e = (refl, cc)
 given (refused r) x y e = let z : _≡_ {A = ℕ} 0 1 = cc in absurd (omega arith)
 
-is-length : (a : Written) (n : ℕ) → writeGives a ≡ gives n → a ≡ written.Length n
-is-length (written.Length m) n e = cc
-is-length (written.Refused r) n e = cc
-
-is-filled : (a : ReadPlan) (n k : ℕ) → readGives a ≡ gives (record { rows = n; entries = k }) → a ≡ read.Filled n k
-is-filled (read.Filled rows entries) n k e =
-    let s = given accepted _ _ e .1 in
-    let er : rows ≡ n = ap (λ (s : Sizes). s .rows) s in
-    let ek : entries ≡ k = ap (λ (s : Sizes). s .entries) s in
-    cc
-is-filled (read.Refused r) n k e = cc
-
 -- what was given from the start of a buffer on
 front : (new old : List ℕ) (n : ℕ) → n ≡ length new → take n (new ++ drop (length new) old) ≡ new
 front new old n e = rw e (take-append-seam new _)
@@ -52,11 +36,11 @@ module _ (rs ws f : List ℕ) (ok : wordsCheck rs ws ≡ accepted) (e : encoding
   unfolding writeAnswer
   write-gives room h = rw (ok, e, le-leb (length f) room h)
 
-  wrote : (old : List ℕ) (a : Written) (new : List ℕ) → length f ≤ length old → WriteCall rs ws old a new
-      → (a ≡ written.Length (length f)) × (new ≡ f ++ drop (length f) old)
+  wrote : (old : List ℕ) (a : Answer ℕ) (new : List ℕ) → length f ≤ length old → WriteCall rs ws old a new
+      → (a ≡ gives (length f)) × (new ≡ f ++ drop (length f) old)
   wrote old a new h c =
       let t = c .answer ∙ write-gives (length old) h in (
-        is-length a (length f) t,
+        t,
         c .fileThere ∙ ap (λ o. left o (encoding (planOf rs ws)) old) t ∙ ap (λ s. s ++ drop (length s) old) e,
       )
 
@@ -76,41 +60,41 @@ module _ (f rs ws : List ℕ) (ok : fileCheck f ≡ accepted) (er : map rowWord 
   sizes rows words hr hw =
       read-filled f rows words ok (length rs) (length ws / 5) (sym nodes) (omega (arith, counted)) hr (omega (arith, counted))
 
-  filled : (oldRows oldWords : List ℕ) (a : ReadPlan) (newRows newWords : List ℕ)
+  filled : (oldRows oldWords : List ℕ) (a : Answer Sizes) (newRows newWords : List ℕ)
       → length rs ≤ length oldRows → length ws ≤ length oldWords → ReadCall f oldRows oldWords a newRows newWords
-      → (a ≡ read.Filled (length rs) (length ws / 5))
+      → (a ≡ gives (record { rows = length rs; entries = length ws / 5 }))
       × (newRows ≡ rs ++ drop (length rs) oldRows)
       × (newWords ≡ ws ++ drop (length ws) oldWords)
   filled oldRows oldWords a newRows newWords hr hw c =
       let t = c .answer ∙ sizes (length oldRows) (length oldWords) hr hw in (
-        is-filled a (length rs) (length ws / 5) t,
+        t,
         c .rowsThere ∙ ap (λ o. left o (map rowWord (planIn f .rows)) oldRows) t ∙ ap (λ s. s ++ drop (length s) oldRows) er,
         c .wordsThere ∙ ap (λ o. left o (wordsOf (planIn f .entries)) oldWords) t ∙ ap (λ s. s ++ drop (length s) oldWords) ew,
       )
 
 -- What a call of the reader leaves is written again as the same file. That a file is one of bytes, the type of the slice
 -- says in a function's proof.
-pub written-again : (f rows words : List ℕ) (a : ReadPlan) (rowsLeft wordsLeft : List ℕ) → Bytes f
-    → ReadCall f rows words a rowsLeft wordsLeft → WrittenAgain f (readGives a) rowsLeft wordsLeft
+pub written-again : (f rows words : List ℕ) (a : Answer Sizes) (rowsLeft wordsLeft : List ℕ) → Bytes f
+    → ReadCall f rows words a rowsLeft wordsLeft → WrittenAgain f a rowsLeft wordsLeft
 unfolding readAnswer
-written-again f rows words (read.Refused r) rowsLeft wordsLeft b c = tt
-written-again f rows words (read.Filled n k) rowsLeft wordsLeft b c =
+written-again f rows words (refuses r) rowsLeft wordsLeft b c = tt
+written-again f rows words (gives n) rowsLeft wordsLeft b c =
     let g = given _ _ _ (c .answer) in
     let m = read-write-memory f b (both-accepted (fileCheck f) _ (g .0) .0) in
-    let en : n ≡ length (map rowWord (rowsIn f)) = ap (λ (s : Sizes). s .rows) (g .1) ∙ sym (length-map (rowsIn f) rowWord) in
-    let ek : k * 5 ≡ length (wordsOf (entriesIn f)) = ap (λ (s : Sizes). s .entries * 5) (g .1) ∙ sym (length-words-of (entriesIn f)) in
+    let en : n .rows ≡ length (map rowWord (rowsIn f)) = ap (λ (s : Sizes). s .rows) (g .1) ∙ sym (length-map (rowsIn f) rowWord) in
+    let ek : n .entries * 5 ≡ length (wordsOf (entriesIn f)) = ap (λ (s : Sizes). s .entries * 5) (g .1) ∙ sym (length-words-of (entriesIn f)) in
     let er = c .rowsThere in
     let ew = c .wordsThere in
     λ old a new h w.
     wrote (map rowWord (rowsIn f)) (wordsOf (entriesIn f)) f (m .0) (m .1) old a new h
-    (rw (er, front (map rowWord (rowsIn f)) rows n en, ew, front (wordsOf (entriesIn f)) words (k * 5) ek) at w)
+    (rw (er, front (map rowWord (rowsIn f)) rows (n .rows) en, ew, front (wordsOf (entriesIn f)) words (n .entries * 5) ek) at w)
 
 -- What a call of the writer leaves is read again as the same words. That words have 32 bits, the slices' types say.
-pub read-again : (rs ws file : List ℕ) (a : Written) (fileLeft : List ℕ) → WordsFit rs → WordsFit ws
-    → WriteCall rs ws file a fileLeft → ReadAgain rs ws (writeGives a) fileLeft
+pub read-again : (rs ws file : List ℕ) (a : Answer ℕ) (fileLeft : List ℕ) → WordsFit rs → WordsFit ws
+    → WriteCall rs ws file a fileLeft → ReadAgain rs ws a fileLeft
 unfolding writeAnswer
-read-again rs ws file (written.Refused r) fileLeft hr hw c = tt
-read-again rs ws file (written.Length n) fileLeft hr hw c =
+read-again rs ws file (refuses r) fileLeft hr hw c = tt
+read-again rs ws file (gives n) fileLeft hr hw c =
     let g = given _ _ _ (c .answer) in
     let m = write-read-memory rs ws hr hw (both-accepted (wordsCheck rs ws) _ (g .0) .0) in
     let e = c .fileThere in

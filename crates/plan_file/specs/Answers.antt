@@ -56,18 +56,18 @@ abbrev pub writeGives : Written → Answer ℕ
 writeGives (written.Length n) = gives n
 writeGives (written.Refused r) = refuses (numbered r)
 
--- What a call of the reader ensures, on a file and two lent buffers: its answer, and what it leaves in the buffers, the
--- words of the rows in one and those of the entries in the other.
-pub record ReadCall (f rows words : List ℕ) (a : ReadPlan) (rowsLeft wordsLeft : List ℕ) : Type 0 where
-  pub answer : readGives a ≡ readAnswer f (length rows) (length words)
-  pub rowsThere : rowsLeft ≡ left (readGives a) (map rowWord (planIn f .rows)) rows
-  pub wordsThere : wordsLeft ≡ left (readGives a) (wordsOf (planIn f .entries)) words
+-- A call of the reader on a file and two lent buffers: what it answers, and what it leaves in the buffers, the words of
+-- the rows in one and those of the entries in the other.
+pub record ReadCall (f rows words : List ℕ) (a : Answer Sizes) (rowsLeft wordsLeft : List ℕ) : Type 0 where
+  pub answer : a ≡ readAnswer f (length rows) (length words)
+  pub rowsThere : rowsLeft ≡ left a (map rowWord (planIn f .rows)) rows
+  pub wordsThere : wordsLeft ≡ left a (wordsOf (planIn f .entries)) words
 
--- What a call of the writer ensures, on a plan in memory and a lent buffer: its answer, and what it leaves in the buffer,
--- the plan's file.
-pub record WriteCall (rows words file : List ℕ) (a : Written) (fileLeft : List ℕ) : Type 0 where
-  pub answer : writeGives a ≡ writeAnswer rows words (length file)
-  pub fileThere : fileLeft ≡ left (writeGives a) (encoding (planOf rows words)) file
+-- A call of the writer on a plan in memory and a lent buffer: what it answers, and what it leaves in the buffer, the plan's
+-- file.
+pub record WriteCall (rows words file : List ℕ) (a : Answer ℕ) (fileLeft : List ℕ) : Type 0 where
+  pub answer : a ≡ writeAnswer rows words (length file)
+  pub fileThere : fileLeft ≡ left a (encoding (planOf rows words)) file
 
 -- The finder gives a node's levels and how many entries it has.
 pub record Shape : Type 0 where

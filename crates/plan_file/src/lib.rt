@@ -144,7 +144,7 @@ pub fn check_plan(rows: &[u32], entries: &[u32]) -> Checked
 // written, read_plan reads as the same words.
 pub fn write_plan(rows: &[u32], entries: &[u32], file: &mut [u8]) -> Written
     ensures { λ a.
-        ⌜ WriteCall (now (rows .entry)) (now (entries .entry)) (now (file .entry)) a (now (file .exit)) ⌝ }
+        ⌜ WriteCall (now (rows .entry)) (now (entries .entry)) (now (file .entry)) (writeGives a) (now (file .exit)) ⌝ }
     ensures { λ a.
         ⌜ ReadAgain (now (rows .entry)) (now (entries .entry)) (writeGives a) (now (file .exit)) ⌝ }
 {
@@ -167,7 +167,7 @@ pub fn write_plan(rows: &[u32], entries: &[u32], file: &mut [u8]) -> Written
 // that is too short (10). What is filled, write_plan writes as the same bytes.
 pub fn read_plan(file: &[u8], rows: &mut [u32], entries: &mut [u32]) -> ReadPlan
     ensures { λ a.
-        ⌜ ReadCall (now (file .entry)) (now (rows .entry)) (now (entries .entry)) a
+        ⌜ ReadCall (now (file .entry)) (now (rows .entry)) (now (entries .entry)) (readGives a)
         (now (rows .exit)) (now (entries .exit)) ⌝ }
     ensures { λ a.
         ⌜ WrittenAgain (now (file .entry)) (readGives a) (now (rows .exit)) (now (entries .exit)) ⌝ }

@@ -28,9 +28,9 @@ same-length-2 c = search needs
 
 returns : tie.Need-returns
 returns c =
-    let e = c .before .before .before .before .before .before .before .before .before .read-plan .ensures .0 in (
-      c .give .ensures ∙ ap filled (sym (ap readGives (c .before .before .before .read .given .1)) ∙ e .answer),
-      (rw (e .answer) at (e .rowsThere), rw (e .answer) at (e .wordsThere)),
+    let e = c .before .before .before .before .before .before .before .before .before .read-plan .ensures in (
+      c .give .ensures ∙ ap filled (sym (ap readGives (c .before .before .before .read .given .1)) ∙ e .0 .answer),
+      (rw (e .0 .answer) at (e .0 .rowsThere), (rw (e .0 .answer) at (e .0 .wordsThere), rw (e .0 .answer) at (e .1))),
     )
 
 same-length-3 : tie.Need-same-length-3
@@ -41,9 +41,9 @@ same-length-4 c = search needs
 
 returns-2 : tie.Need-returns-2
 returns-2 c =
-    let e = c .before .before .before .before .before .before .before .before .before .read-plan .ensures .0 in (
-      c .refuse .ensures ∙ ap filled (sym (ap readGives (c .before .before .before .read2 .given .1)) ∙ e .answer),
-      (rw (e .answer) at (e .rowsThere), rw (e .answer) at (e .wordsThere)),
+    let e = c .before .before .before .before .before .before .before .before .before .read-plan .ensures in (
+      c .refuse .ensures ∙ ap filled (sym (ap readGives (c .before .before .before .read2 .given .1)) ∙ e .0 .answer),
+      (rw (e .0 .answer) at (e .0 .rowsThere), (rw (e .0 .answer) at (e .0 .wordsThere), rw (e .0 .answer) at (e .1))),
     )
 
 pub maiplur-read-spec : {M : Type 1} → statement M

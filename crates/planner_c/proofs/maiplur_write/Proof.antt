@@ -25,9 +25,9 @@ same-length c = search needs
 
 returns : tie.Need-returns
 returns c =
-    let e = c .before .before .before .before .before .before .before .write-plan .ensures .0 in (
-      c .give .ensures ∙ ap sized (sym (ap writeGives (c .before .before .before .written .given .1)) ∙ e .answer),
-      rw (e .answer) at (e .fileThere),
+    let e = c .before .before .before .before .before .before .before .write-plan .ensures in (
+      c .give .ensures ∙ ap sized (sym (ap writeGives (c .before .before .before .written .given .1)) ∙ e .0 .answer),
+      (rw (e .0 .answer) at (e .0 .fileThere), rw (e .0 .answer) at (e .1)),
     )
 
 same-length-2 : tie.Need-same-length-2
@@ -35,9 +35,9 @@ same-length-2 c = search needs
 
 returns-2 : tie.Need-returns-2
 returns-2 c =
-    let e = c .before .before .before .before .before .before .before .write-plan .ensures .0 in (
-      c .refuse .ensures ∙ ap sized (sym (ap writeGives (c .before .before .before .written2 .given .1)) ∙ e .answer),
-      rw (e .answer) at (e .fileThere),
+    let e = c .before .before .before .before .before .before .before .write-plan .ensures in (
+      c .refuse .ensures ∙ ap sized (sym (ap writeGives (c .before .before .before .written2 .given .1)) ∙ e .0 .answer),
+      (rw (e .0 .answer) at (e .0 .fileThere), rw (e .0 .answer) at (e .1)),
     )
 
 pub maiplur-write-spec : {M : Type 1} → statement M
