@@ -8,18 +8,17 @@ use native.Mathlib.Omega.{arith}
 use lib.ListN.{length, getD, take, length-take}
 use lib.Seq.{getD-take, take-all}
 use lib.Dec.{leb, eqb}
-use borrow.Author.Tests.{le-leb, ne-eqb}
-use Rattle.task_model.specs.Refusals.{at, accepted, refused, _andThen_, mustHold}
-use Rattle.task_model.proofs.Theorems.{either}
+use borrow.Author.Tests.{le-leb}
+use Rattle.task_model.specs.Refusals.{at, accepted, _andThen_, mustHold}
+use Rattle.task_model.proofs.Theorems.{either, not-both}
 use Rattle.completion.proofs.Iteration.{le-or-lt}
 use Rattle.plan_file.specs.declared.Row.{Row}
-use Rattle.plan_file.specs.Plan.{entryCount, rowOf}
+use Rattle.plan_file.specs.Plan.{rowOf}
 use Rattle.plan_file.specs.Encoding.{opening, bodiesStart}
 use Rattle.plan_file.specs.Check.{opensAt, openingTest, countTest, zerosTest, rowTest, contentsCheck, headerCheck, layoutCheck, fileCheck}
 use Rattle.plan_file.specs.Decoding.{wordAt, nodeCount, rowsFrom}
 use Rattle.plan_file.proofs.Contents.{length-rows}
-use Rattle.plan_file.proofs.Decoded.{few-entries}
-use Rattle.plan_file.proofs.Encoded.{contents-rows}
+use Rattle.plan_file.proofs.Limits.{long-layout}
 use Rattle.plan_file.proofs.File.{layout-holds}
 use Rattle.plan_file.proofs.Theorems.{file-sizes}
 use Rattle.plan_file.proofs.Header.{header-holds}
@@ -88,18 +87,6 @@ module _ (f g : List ℕ) (lf : 41224 < length f) (lg : 41224 < length g) (same 
       (ap₂ _andThen_ (ap (λ x. mustHold (eqb x required) (at 5 i 0)) (word-same (8 + i * 8 + 4) (omega arith)))
       (contents-same (suc i) (suc (r .number)) (required + r .count * 20) rs (omega arith)))
 
--- rows that are accepted end too early for such an input, so its layout is refused, and as what agrees with it is
-layout-refused : (f : List ℕ) → 41224 < length f → (n : ℕ) → n ≤ 32
-    → layoutCheck f 0 0 (bodiesStart n) (rowsFrom f 0 n) ≡ accepted → ⊥
-layout-refused f lf n h p =
-    let l = layout-holds f 0 0 (bodiesStart n) (rowsFrom f 0 n) p in
-    omega (
-      arith,
-      l .1,
-      few-entries 0 0 (rowsFrom f 0 n) (contents-rows f 0 0 (bodiesStart n) (rowsFrom f 0 n) (l .0)),
-      length-rows f 0 n,
-    )
-
 module _ (f g : List ℕ) (lf : 41224 < length f) (lg : 41224 < length g) (same : (k : ℕ) → k < 264 → getD g k 0 ≡ getD f k 0) where
   -- where the rows are accepted, both end too late
   layout-same : (n : ℕ) → n ≤ 32
@@ -107,19 +94,12 @@ module _ (f g : List ℕ) (lf : 41224 < length f) (lg : 41224 < length g) (same 
   unfolding layoutCheck
   layout-same n h =
       let rs = rowsFrom f 0 n in
+      let r = rows-same f g lf lg same 0 n (omega arith) in
       let c = contents-same f g lf lg same 0 0 (bodiesStart n) rs (omega (arith, length-rows f 0 n)) in
-      rw (rows-same f g lf lg same 0 n (omega arith), c)
-      (⊎-elim
-      (λ a.
-      let k = few-entries 0 0 rs (contents-rows f 0 0 (bodiesStart n) rs a) in
-      rw (
-        a,
-        ne-eqb (length g) (bodiesStart n + entryCount rs * 20) (λ e. omega (arith, length-rows f 0 n)),
-        ne-eqb (length f) (bodiesStart n + entryCount rs * 20) (λ e. omega (arith, length-rows f 0 n)),
-      )
-      refl)
-      (λ r. rw (r .1))
-      (either (contentsCheck f 0 0 (bodiesStart n) rs)))
+      ⊎-elim
+      (λ a. long-layout g lg n h (rw r (c ∙ a)) ∙ sym (long-layout f lf n h a))
+      (λ q. rw (r, c, q .1))
+      (either (contentsCheck f 0 0 (bodiesStart n) rs))
 
   check-same : fileCheck g ≡ fileCheck f
   unfolding fileCheck
@@ -129,7 +109,7 @@ module _ (f g : List ℕ) (lf : 41224 < length f) (lg : 41224 < length g) (same 
       let few = header-holds f a .counted .few in
       let n = nodes-same f g lf lg same in
       ⊎-elim
-      (λ b. absurd (layout-refused f lf (nodeCount f) few b))
+      (λ b. absurd (not-both b (long-layout f lf (nodeCount f) few (layout-holds f 0 0 _ _ b .0))))
       (λ r.
       rw (header-same f g lf lg same, a, n, layout-same (nodeCount f) few, r .1))
       (either (layoutCheck f 0 0 (bodiesStart (nodeCount f)) (rowsFrom f 0 (nodeCount f)))))

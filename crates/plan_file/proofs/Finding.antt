@@ -40,7 +40,7 @@ module _ (f : List ℕ) (number i n : ℕ) where
   search-end h = rw (rows-end f i n h) (omega arith)
 
 -- in rows within the checks the numbers rise, so a number is found where it stands
-not-below : (k least : ℕ) (rs : List Row) → rowsCheck k least rs ≡ accepted → (i : ℕ) → i < length rs → least ≤ rowIn rs i .number
+pub not-below : (k least : ℕ) (rs : List Row) → rowsCheck k least rs ≡ accepted → (i : ℕ) → i < length rs → least ≤ rowIn rs i .number
 unfolding rowsCheck
 not-below k least [] a i h = absurd (omega arith)
 not-below k least (r ∷ rs) a zero h =

@@ -53,12 +53,7 @@ module _ (f : List ℕ) where
 -- in words
 pub rows-of-words : (rs : List ℕ) → WordsFit rs → map rowWord (map rowOf rs) ≡ rs
 rows-of-words [] h = refl
-rows-of-words (w ∷ rs) h = rw (row-word w (h .0), rows-of-words rs (h .1))
-
-word-fits : (ws : List ℕ) → WordsFit ws → (i : ℕ) → getD ws i 0 < 4294967296
-word-fits [] h i = omega arith
-word-fits (w ∷ ws) h zero = h .0
-word-fits (w ∷ ws) h (suc i) = word-fits ws (h .1) i
+rows-of-words (w ∷ rs) h = rw (row-word w (h 0), rows-of-words rs (λ i. h (suc i)))
 
 pub words-fit-rows : (rs : List ℕ) → RowsFit (map rowOf rs)
 words-fit-rows [] = tt
@@ -69,7 +64,7 @@ module _ (ws : List ℕ) (h : WordsFit ws) where
   unfolding entriesFrom
   words-fit-entries j zero = tt
   words-fit-entries j (suc n) = (
-    rw (entry-from ws (j * 5)) (entry-fits _ _ _ _ _ (word-fits ws h _) (word-fits ws h _) (word-fits ws h _) (word-fits ws h _)),
+    rw (entry-from ws (j * 5)) (entry-fits _ _ _ _ _ (h _) (h _) (h _) (h _)),
     words-fit-entries (suc j) n,
   )
 
@@ -83,7 +78,7 @@ module _ (ws : List ℕ) (h : WordsFit ws) where
       let e3 : j * 5 + 3 ≡ suc (suc (suc (j * 5))) = omega arith in
       let e4 : j * 5 + 4 ≡ suc (suc (suc (suc (j * 5)))) = omega arith in
       let e5 : suc j * 5 ≡ suc (suc (suc (suc (suc (j * 5))))) = omega arith in
-      rw (entry-from ws (j * 5), entry-words (getD ws (j * 5) 0) _ _ _ _ (word-fits ws h _), words-again (suc j) n (omega arith), e1, e2, e3, e4, e5)
+      rw (entry-from ws (j * 5), entry-words (getD ws (j * 5) 0) _ _ _ _ (h _), words-again (suc j) n (omega arith), e1, e2, e3, e4, e5)
       (rw (
         drop-cons ws (j * 5) 0 (omega arith),
         drop-cons ws (suc (j * 5)) 0 (omega arith),

@@ -25,5 +25,11 @@ pub mod Encoded
 pub mod Decoded
 pub mod Bytes
 pub mod Fits
+-- What is accepted is within the limits.
+pub mod Limits
 pub mod Theorems
+-- The same of the buffers, as calls leave them.
+pub mod RoundTrips
+-- What functions ensure beside their answer.
+pub mod Ensured
 pub mod Examples

@@ -3,7 +3,8 @@ use Prim.Native.Nat.{ℕ, zero, suc, _+_, _-_, _*_, _≤_, _<_}
 use mathlib.Core.Path.{_≡_, _∙_, refl, ap}
 use mathlib.Core.List.{List, [], _∷_, _++_}
 use native.Mathlib.Omega.{arith}
-use lib.ListN.{getD}
+use lib.ListN.{length, getD}
+use Rattle.task_model.specs.declared.Entry.{Entry}
 use Rattle.task_model.specs.Refusals.{accepted}
 use Rattle.task_model.specs.Limits.{Node}
 use Rattle.task_model.specs.Words.{entryOf, entriesFrom, entriesOf}
@@ -28,6 +29,12 @@ pub entry-words : (w0 w1 w2 w3 w4 : ℕ) → w0 < 4294967296
     → entryWords (entryWith w0 w1 w2 w3 w4) ≡ w0 ∷ w1 ∷ w2 ∷ w3 ∷ w4 ∷ []
 unfolding entryWords entryWith
 entry-words w0 w1 w2 w3 w4 h = five (omega arith)
+
+-- five words to an entry
+pub length-words-of : (es : List Entry) → length (wordsOf es) ≡ length es * 5
+unfolding wordsOf entryWords
+length-words-of [] = refl
+length-words-of (e ∷ es) = omega (arith, length-words-of es)
 
 -- the words of the entries that lie in a file are the file's
 pub words-of-entries : (f : List ℕ) → Bytes f → (k n : ℕ) → wordsOf (entriesAt f k n) ≡ wordsFrom f k (n * 5)

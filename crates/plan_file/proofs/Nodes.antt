@@ -5,18 +5,14 @@ use mathlib.Core.List.{List, [], _∷_}
 use native.Mathlib.Omega.{arith}
 use native.Mathlib.Nat.{add-zero, zero-add}
 use lib.ListN.{length, take, drop}
-use lib.Seq.{drop-drop}
 use borrow.Author.Tests.{eqb-true}
-use Rattle.task_model.specs.declared.Entry.{Entry}
 use Rattle.task_model.specs.Refusals.{accepted}
-use Rattle.task_model.specs.Limits.{Node, NodeHolds}
-use Rattle.task_model.specs.Checks.{entriesCheck}
-use Rattle.task_model.proofs.Theorems.{entries-accepted}
+use Rattle.task_model.specs.Limits.{Node}
 use Rattle.plan_file.specs.declared.Row.{Row}
 use Rattle.plan_file.specs.Plan.{entryCount}
 use Rattle.plan_file.specs.Encoding.{bodiesStart}
-use Rattle.plan_file.specs.Decoding.{nodeCount, rowAt, offsetAt, rowsFrom, rowsIn, entriesAt, entriesIn, planIn}
-use Rattle.plan_file.specs.Check.{contentsCheck, nodesCheck, fileCheck}
+use Rattle.plan_file.specs.Decoding.{nodeCount, rowAt, offsetAt, rowsFrom, rowsIn, entriesAt, planIn}
+use Rattle.plan_file.specs.Check.{contentsCheck, fileCheck}
 use Rattle.plan_file.specs.Find.{rowIn, nodeOfRow}
 use Rattle.task_model.proofs.Outcomes.{both-accepted, demanded}
 use Rattle.plan_file.proofs.Tests.{RowHolds, row-holds}
@@ -73,17 +69,6 @@ placed-at f j least required (r ∷ rs) p (suc i) h =
     let e : j + suc i ≡ suc j + i = omega arith in
     ((rw e (t .0 ∙ omega arith)), t .1)
 
--- every row of accepted bodies has accepted entries
-nodes-each : (k : ℕ) (rs : List Row) (es : List Entry) → nodesCheck k rs es ≡ accepted → (i : ℕ) → i < length rs
-    → entriesCheck (k + i) 0 (take (rowIn rs i .count) (drop (entryCount (take i rs)) es)) ≡ accepted
-unfolding nodesCheck entryCount
-nodes-each k [] es a i h = absurd (omega arith)
-nodes-each k (r ∷ rs) es a zero h = rw add-zero (both-accepted _ _ a .0)
-nodes-each k (r ∷ rs) es a (suc i) h =
-    let e : k + suc i ≡ suc k + i = omega arith in
-    rw (e, ← drop-drop (entryCount (take i rs)) (r .count) es)
-    (nodes-each (suc k) rs (drop (r .count) es) (both-accepted (entriesCheck k 0 (take (r .count) es)) _ a .1) i (omega arith))
-
 -- the node of row `i` of an accepted file
 module _ (f : List ℕ) (a : fileCheck f ≡ accepted) (i : ℕ) (h : i < nodeCount f) where
   held : FileHolds f
@@ -127,14 +112,3 @@ module _ (f : List ℕ) (a : fileCheck f ≡ accepted) (i : ℕ) (h : i < nodeCo
   pub node-length : length (nodeOfRow (planIn f) i .entries) ≡ rowAt f i .count
   node-length =
       ap (λ (n : Node). length (n .entries)) node-at ∙ length-entries-at f (offsetAt f i) (rowAt f i .count)
-
-  -- its node is within every limit of a node
-  pub node-holds : NodeHolds (nodeOfRow (planIn f) i)
-  unfolding nodeOfRow
-  node-holds =
-      record {
-        someLevels = rw at-row (row-limits .someLevels);
-        fewLevels = rw at-row (row-limits .fewLevels);
-        fewEntries = omega (arith, node-length, node-few);
-        each = entries-accepted (0 + i) 0 _ .0 (nodes-each 0 (rowsIn f) (entriesIn f) (held .bodies) i inside);
-      }

@@ -36,16 +36,18 @@ module _ (f : List ℕ) (rows words : ℕ) where
           lt-leb (length (entriesIn f) * 5) words (omega (arith, length-entries-at f (bodiesStart (nodeCount f)) (entryCount (rowsIn f)))),
         )
 
-    pub read-filled : nodeCount f ≤ rows → entryCount (rowsIn f) * 5 ≤ words
-        → readAnswer f rows words ≡ gives (record { rows = nodeCount f; entries = entryCount (rowsIn f) })
+    pub read-filled : (nodes count : ℕ) → nodes ≡ nodeCount f → count ≡ entryCount (rowsIn f) → nodes ≤ rows → count * 5 ≤ words
+        → readAnswer f rows words ≡ gives (record { rows = nodes; entries = count })
     unfolding readAnswer
-    read-filled h l =
+    read-filled nodes count en ec h l =
         rw (
           a,
           length-rows f 0 (nodeCount f),
           length-entries-at f (bodiesStart (nodeCount f)) (entryCount (rowsIn f)),
-          le-leb (nodeCount f) rows h,
-          le-leb (entryCount (rowsIn f) * 5) words l,
+          ← ec,
+          ← en,
+          le-leb nodes rows h,
+          le-leb (count * 5) words l,
         )
 
 module _ (f : List ℕ) (number : ℕ) where

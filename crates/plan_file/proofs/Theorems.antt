@@ -18,22 +18,24 @@ use Rattle.plan_file.specs.declared.Row.{Row}
 use Rattle.plan_file.specs.Plan.{Plan, entryCount, rowWord, rowOf, wordsOf, planOf, PlanFits, WordsFit}
 use Rattle.plan_file.specs.Encoding.{bodiesStart, encoding, Bytes}
 use Rattle.plan_file.specs.Decoding.{wordAt, wordsFrom, nodeCount, rowAt, offsetAt, rowsIn, entryIn, entriesIn, planIn}
-use Rattle.plan_file.specs.Check.{countTest, rowTest, rowsCheck, nodesCheck, handedCheck, fileCheck, planCheck, wordsCheck}
+use Rattle.plan_file.specs.Check.{countTest, rowTest, rowsCheck, contentsCheck, nodesCheck, headerCheck, fileCheck, handedCheck, planCheck, wordsCheck}
 use Rattle.plan_file.specs.Find.{rowIn, nodeOfRow, rowOfNumber, findCheck, nodeFound}
+use Rattle.plan_file.specs.Limits.{PlanHolds, IsPlanFile, IsPlanInMemory}
 use Rattle.task_model.proofs.Outcomes.{then-accepted, mustHold-accepts, mustHold-refuses}
 use Rattle.plan_file.proofs.Words.{entryWith, entry-in, length-words}
 use Rattle.plan_file.proofs.Contents.{length-rows}
 use Rattle.plan_file.proofs.Bodies.{length-entries-at}
 use Rattle.plan_file.proofs.Encoding.{length-encoding}
-use Rattle.plan_file.proofs.File.{file-holds}
+use Rattle.plan_file.proofs.Header.{header-holds}
+use Rattle.plan_file.proofs.File.{file-layout, file-holds}
 use Rattle.plan_file.proofs.Handed.{handed-holds, count-true, handed-nodes}
-use Rattle.plan_file.proofs.Nodes.{node-holds}
-use Rattle.plan_file.proofs.Memory.{words-of-entries, entries-of-words}
+use Rattle.plan_file.proofs.Memory.{length-words-of, words-of-entries, entries-of-words}
 use Rattle.plan_file.proofs.Encoded.{same-bytes, contents-rows}
 use Rattle.plan_file.proofs.Decoded.{same-plan, encoding-accepted, few-entries, plan-same}
 use Rattle.plan_file.proofs.Bytes.{bytes-encoding}
 use Rattle.plan_file.proofs.Fits.{plan-fits, rows-of-words, rows-words, words-fit-rows, words-fit-entries, entries-words}
 use Rattle.plan_file.proofs.Finding.{found-at, found-number}
+use Rattle.plan_file.proofs.Limits.{plan-holds, holds-accepted, words-plan, long-layout}
 
 -- An accepted file, read and written again, is the same bytes.
 pub read-write : (f : List ℕ) → Bytes f → fileCheck f ≡ accepted → encoding (planIn f) ≡ f
@@ -63,6 +65,28 @@ accepted-exactly f = (
   λ h. (rw (← h .3) (bytes-encoding (h .0)), (rw (← h .3) (encoding-accepted (h .0) (h .2) (h .1)))),
 )
 
+-- A plan is accepted exactly if it is within the limits.
+pub plan-limits : (p : Plan) → planCheck p ≡ accepted ↔ PlanHolds p
+plan-limits p = (plan-holds p, holds-accepted p)
+
+-- A list of bytes is accepted as a file exactly if it is the file of a plan within the limits.
+pub file-limits : (f : List ℕ) → (Bytes f × (fileCheck f ≡ accepted)) ↔ IsPlanFile f
+file-limits f = (
+  λ h. let e = accepted-exactly f .0 h in (e .0, e .1, plan-holds (e .0) (e .2), e .3),
+  λ h. accepted-exactly f .1 (h .0, h .1, holds-accepted (h .0) (h .2), h .3),
+)
+
+-- Words are accepted exactly if they hold a plan within the limits.
+pub words-limits : (rs ws : List ℕ) → wordsCheck rs ws ≡ accepted ↔ IsPlanInMemory rs ws
+words-limits rs ws =
+    let n = length-entries ws 0 (length ws / 5) in (
+      λ a. (plan-holds (planOf rs ws) (words-plan rs ws a), omega (arith, handed-holds _ _ _ a .counts)),
+      λ h.
+          let whole : length ws / 5 * 5 ≡ length ws = omega (arith, h .1) in
+          ap (handedCheck (planOf rs ws .rows) (planOf rs ws .entries)) (sym (ap (λ k. k * 5) n ∙ whole))
+          ∙ holds-accepted (planOf rs ws) (h .0),
+    )
+
 -- What the reader fills holds the plan of the file.
 pub read-holds : (f : List ℕ) → Bytes f
     → planOf (map rowWord (planIn f .rows)) (wordsOf (planIn f .entries)) ≡ planIn f
@@ -78,15 +102,12 @@ read-holds f b =
 pub read-write-memory : (f : List ℕ) → Bytes f → fileCheck f ≡ accepted
     → (wordsCheck (map rowWord (planIn f .rows)) (wordsOf (planIn f .entries)) ≡ accepted)
     × (encoding (planOf (map rowWord (planIn f .rows)) (wordsOf (planIn f .entries))) ≡ f)
-read-write-memory f b a =
-    let e = words-of-entries f b (bodiesStart (nodeCount f)) (entryCount (rowsIn f)) in
-    let l : length (wordsOf (entriesIn f)) ≡ length (entriesIn f) * 5 =
-    ap length e ∙ length-words f _ _ ∙ ap (λ n. n * 5) (sym (length-entries-at f _ _)) in (
-      ap (λ (p : Plan). handedCheck (p .rows) (p .entries) (length (wordsOf (entriesIn f)))) (read-holds f b)
-          ∙ ap (handedCheck (rowsIn f) (entriesIn f)) l
-          ∙ plan-accepted f a,
-      ap encoding (read-holds f b) ∙ same-bytes f b a,
-    )
+read-write-memory f b a = (
+  ap (λ (p : Plan). handedCheck (p .rows) (p .entries) (length (wordsOf (entriesIn f)))) (read-holds f b)
+      ∙ ap (handedCheck (rowsIn f) (entriesIn f)) (length-words-of (entriesIn f))
+      ∙ plan-accepted f a,
+  ap encoding (read-holds f b) ∙ same-bytes f b a,
+)
 
 -- A plan in memory that the writer accepts, written and read again, is accepted and gives the same words.
 pub write-read-memory : (rs ws : List ℕ) → WordsFit rs → WordsFit ws → wordsCheck rs ws ≡ accepted
@@ -97,7 +118,7 @@ write-read-memory rs ws hr hw a =
     let h = handed-holds _ _ _ a in
     let n : length ws / 5 * 5 ≡ length ws = omega (arith, h .counts) in
     let fits : PlanFits (planOf rs ws) = record { rows = words-fit-rows rs; entries = words-fit-entries ws hw 0 (length ws / 5) } in
-    let ok : planCheck (planOf rs ws) ≡ accepted = rw (length-entries ws 0 (length ws / 5), n) a in
+    let ok = words-plan rs ws a in
     let same = same-plan (planOf rs ws) ok fits in (
       encoding-accepted (planOf rs ws) ok fits,
       ap (λ (p : Plan). map rowWord (p .rows)) same ∙ rows-of-words rs hr,
@@ -106,7 +127,7 @@ write-read-memory rs ws hr hw a =
 
 -- Each node of an accepted file is within every limit of a node.
 pub nodes-hold : (f : List ℕ) → fileCheck f ≡ accepted → (i : ℕ) → i < nodeCount f → NodeHolds (nodeOfRow (planIn f) i)
-nodes-hold f a i h = node-holds f a i h
+nodes-hold f a i h = plan-holds (planIn f) (plan-accepted f a) .nodes i (omega (arith, length-rows f 0 (nodeCount f)))
 
 -- The fields of a row are bytes of the file: node number (2), levels (1), entry count (1), offset (4).
 pub row-fields : (f : List ℕ) → Bytes f → (i k : ℕ) → k ≡ 8 + i * 8
@@ -185,6 +206,12 @@ file-sizes f a =
     let n = length-rows f 0 (nodeCount f) in
     let k = few-entries 0 0 (rowsIn f) (contents-rows f 0 0 _ (rowsIn f) (h .contents)) in
     (omega (arith, h .ends, h .header .counted .some), omega (arith, h .ends, h .header .counted .few))
+
+-- A file of more than 41,224 bytes, and so one of more than 65,536, whose header and contents pass, is refused as 6: no
+-- plan has so many entries.
+pub long-file : (f : List ℕ) → 41224 < length f → headerCheck f ≡ accepted
+    → contentsCheck f 0 0 (bodiesStart (nodeCount f)) (rowsIn f) ≡ accepted → fileCheck f ≡ refused (at 6 0 0)
+long-file f l h a = file-layout f h (at 6 0 0) (long-layout f l (nodeCount f) (header-holds f h .counted .few) a)
 
 -- One empty node: the smallest plan.
 pub smallest : Plan

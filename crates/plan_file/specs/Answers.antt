@@ -2,11 +2,11 @@
 use Prim.Native.Nat.{ℕ, _+_, _*_}
 use mathlib.Core.Bool.{Bool, _&&_}
 use mathlib.Core.Path.{_≡_}
-use mathlib.Core.List.{List, _++_}
+use mathlib.Core.List.{List, _++_, map}
 use lib.ListN.{length, drop}
 use lib.Dec.{leb}
 use Rattle.task_model.specs.Refusals.{at, numbered, _andThen_, mustHold}
-use Rattle.task_model.specs.Answers.{Answer, gives, refuses, giving}
+use Rattle.task_model.specs.Answers.{Answer, gives, refuses, giving, left}
 use Rattle.task_model.specs.Limits.{Node}
 use Rattle.task_model.specs.Words.{nodeOf}
 use Rattle.plan_file.specs.declared.Row.{Row}
@@ -16,7 +16,7 @@ use Rattle.plan_file.specs.declared.Written.{Written}
 use Rattle.plan_file.specs.declared.Written.the-variants as written
 use Rattle.plan_file.specs.declared.FoundNode.{FoundNode}
 use Rattle.plan_file.specs.declared.FoundNode.the-variants as found
-use Rattle.plan_file.specs.Plan.{Plan, wordsOf, planOf}
+use Rattle.plan_file.specs.Plan.{Plan, rowWord, wordsOf, planOf}
 use Rattle.plan_file.specs.Encoding.{encoding}
 use Rattle.plan_file.specs.Decoding.{rowAt, planIn}
 use Rattle.plan_file.specs.Check.{fileCheck, wordsCheck}
@@ -55,6 +55,19 @@ writeAnswer rows words room =
 abbrev pub writeGives : Written → Answer ℕ
 writeGives (written.Length n) = gives n
 writeGives (written.Refused r) = refuses (numbered r)
+
+-- A call of the reader on a file and two lent buffers: what it answers, and what it leaves in the buffers, the words of
+-- the rows in one and those of the entries in the other.
+pub record ReadCall (f rows words : List ℕ) (a : Answer Sizes) (rowsLeft wordsLeft : List ℕ) : Type 0 where
+  pub answer : a ≡ readAnswer f (length rows) (length words)
+  pub rowsThere : rowsLeft ≡ left a (map rowWord (planIn f .rows)) rows
+  pub wordsThere : wordsLeft ≡ left a (wordsOf (planIn f .entries)) words
+
+-- A call of the writer on a plan in memory and a lent buffer: what it answers, and what it leaves in the buffer, the plan's
+-- file.
+pub record WriteCall (rows words file : List ℕ) (a : Answer ℕ) (fileLeft : List ℕ) : Type 0 where
+  pub answer : a ≡ writeAnswer rows words (length file)
+  pub fileThere : fileLeft ≡ left a (encoding (planOf rows words)) file
 
 -- The finder gives a node's levels and how many entries it has.
 pub record Shape : Type 0 where

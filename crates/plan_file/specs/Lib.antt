@@ -4,5 +4,7 @@ pub mod Encoding
 pub mod Decoding
 pub mod Check
 pub mod Find
+pub mod Limits
 pub mod Buffers
 pub mod Answers
+pub mod RoundTrips

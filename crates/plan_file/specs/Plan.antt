@@ -1,7 +1,7 @@
 -- A plan, apart from any file: its rows and its entries, and how they lie in memory.
 use Prim.Native.Nat.{ℕ, _+_, _*_, _/_, _%_, _<_}
 use mathlib.Core.List.{List, [], _∷_, _++_, map}
-use lib.ListN.{length}
+use lib.ListN.{length, getD}
 use Rattle.task_model.specs.declared.Entry.{Entry}
 use Rattle.task_model.specs.Words.{entriesOf}
 use Rattle.plan_file.specs.declared.Row.{Row}
@@ -69,5 +69,4 @@ pub record PlanFits (p : Plan) : Type 0 where
 
 -- Words of 32 bits.
 abbrev pub WordsFit : List ℕ → Type 0
-WordsFit [] = Unit
-WordsFit (w ∷ ws) = (w < 4294967296) × WordsFit ws
+WordsFit ws = (i : ℕ) → getD ws i 0 < 4294967296

@@ -22,16 +22,18 @@ use store::put_header;
 use task_model::Checked;
 use task_model::Refusal;
 ghost use mathlib.Core.Path.{_≡_};
-ghost use mathlib.Core.List.{map};
+ghost use mathlib.Core.Logic.{_↔_};
 ghost use lib.ListN.{length};
 ghost use Prim.Native.Nat.{_+_, _≤_, _<_};
 ghost use Rattle.task_model.specs.Refusals.{outcome, accepted};
-ghost use Rattle.plan_file.specs.Plan.{rowWord, wordsOf, planOf};
-ghost use Rattle.plan_file.specs.Encoding.{bodiesStart, encoding};
-ghost use Rattle.plan_file.specs.Decoding.{nodeCount, rowAt, rowsFrom, planIn};
+ghost use Rattle.plan_file.specs.Plan.{wordsOf};
+ghost use Rattle.plan_file.specs.Encoding.{bodiesStart};
+ghost use Rattle.plan_file.specs.Decoding.{nodeCount, rowAt, rowsFrom};
 ghost use Rattle.plan_file.specs.Check.{fileCheck, wordsCheck};
+ghost use Rattle.plan_file.specs.Limits.{IsPlanFile, IsPlanInMemory};
 ghost use Rattle.plan_file.specs.Find.{rowOfNumber, nodeFound};
-ghost use Rattle.plan_file.specs.Answers.{Loaded, Holding, readGives, readAnswer, writeGives, writeAnswer, findGives, findAnswer};
+ghost use Rattle.plan_file.specs.Answers.{Loaded, Holding, readGives, ReadCall, writeGives, WriteCall, findGives, findAnswer};
+ghost use Rattle.plan_file.specs.RoundTrips.{WrittenAgain, ReadAgain};
 ghost use Rattle.task_model.specs.Answers.{left};
 
 // The four bytes that a plan file opens with.
@@ -101,9 +103,11 @@ fn row_of_number(file: &[u8], number: u16, nodes: usize) -> usize
     nodes
 }
 
-// Accepts a plan file, or refuses it as the first of its checks that is met does.
+// Accepts a plan file, or refuses it as the first of its checks that is met does. Accepts exactly the files of plans within
+// the limits.
 pub fn check_file(file: &[u8]) -> Checked
     ensures { λ a. ⌜ outcome a ≡ fileCheck (now (file .entry)) ⌝ }
+    ensures { λ a. ⌜ (outcome a ≡ accepted) ↔ IsPlanFile (now (file .entry)) ⌝ }
 {
     let header = check_header(file);
     let Checked::Accepted = header else {
@@ -117,9 +121,11 @@ pub fn check_file(file: &[u8]) -> Checked
     check_bodies(file, nodes)
 }
 
-// Accepts rows and entries as the writer takes them, or refuses them as the first of its checks that is met does.
+// Accepts rows and entries as the writer takes them, or refuses them as the first of its checks that is met does. Accepts
+// exactly the words of plans within the limits.
 pub fn check_plan(rows: &[u32], entries: &[u32]) -> Checked
     ensures { λ a. ⌜ outcome a ≡ wordsCheck (now (rows .entry)) (now (entries .entry)) ⌝ }
+    ensures { λ a. ⌜ (outcome a ≡ accepted) ↔ IsPlanInMemory (now (rows .entry)) (now (entries .entry)) ⌝ }
 {
     if rows.len() < 1 {
         return Checked::Refused(Refusal::NodeCount);
@@ -134,12 +140,13 @@ pub fn check_plan(rows: &[u32], entries: &[u32]) -> Checked
     check_nodes(rows, entries)
 }
 
-// Writes a plan as a file from the buffer's start. Refuses as check_plan does, then a buffer that is too short (10).
+// Writes a plan as a file from the buffer's start. Refuses as check_plan does, then a buffer that is too short (10). What is
+// written, read_plan reads as the same words.
 pub fn write_plan(rows: &[u32], entries: &[u32], file: &mut [u8]) -> Written
-    ensures { λ a. ⌜ writeGives a ≡ writeAnswer (now (rows .entry)) (now (entries .entry)) (length (now (file .entry))) ⌝ }
     ensures { λ a.
-        ⌜ now (file .exit) ≡
-        left (writeGives a) (encoding (planOf (now (rows .entry)) (now (entries .entry)))) (now (file .entry)) ⌝ }
+        ⌜ WriteCall (now (rows .entry)) (now (entries .entry)) (now (file .entry)) (writeGives a) (now (file .exit)) ⌝ }
+    ensures { λ a.
+        ⌜ ReadAgain (now (rows .entry)) (now (entries .entry)) (writeGives a) (now (file .exit)) ⌝ }
 {
     let checked = check_plan(rows, entries);
     if let Checked::Refused(r) = checked {
@@ -157,16 +164,13 @@ pub fn write_plan(rows: &[u32], entries: &[u32], file: &mut [u8]) -> Written
 }
 
 // Reads a file's plan into buffers: a word for each row, five for each entry. Refuses as check_file does, then a buffer
-// that is too short (10).
+// that is too short (10). What is filled, write_plan writes as the same bytes.
 pub fn read_plan(file: &[u8], rows: &mut [u32], entries: &mut [u32]) -> ReadPlan
     ensures { λ a.
-        ⌜ readGives a ≡ readAnswer (now (file .entry)) (length (now (rows .entry))) (length (now (entries .entry))) ⌝ }
+        ⌜ ReadCall (now (file .entry)) (now (rows .entry)) (now (entries .entry)) (readGives a)
+        (now (rows .exit)) (now (entries .exit)) ⌝ }
     ensures { λ a.
-        ⌜ now (rows .exit) ≡
-        left (readGives a) (map rowWord (planIn (now (file .entry)) .rows)) (now (rows .entry)) ⌝ }
-    ensures { λ a.
-        ⌜ now (entries .exit) ≡
-        left (readGives a) (wordsOf (planIn (now (file .entry)) .entries)) (now (entries .entry)) ⌝ }
+        ⌜ WrittenAgain (now (file .entry)) (readGives a) (now (rows .exit)) (now (entries .exit)) ⌝ }
 {
     let checked = check_file(file);
     if let Checked::Refused(r) = checked {

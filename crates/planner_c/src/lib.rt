@@ -5,6 +5,7 @@
 pub mod sessions;
 
 ghost use mathlib.Core.Path.{_≡_};
+ghost use mathlib.Core.Logic.{_↔_};
 ghost use mathlib.Core.List.{map};
 ghost use lib.ListN.{length};
 ghost use Prim.Native.Nat.{_≤_};
@@ -15,6 +16,8 @@ ghost use Rattle.plan_file.specs.Check.{fileCheck};
 ghost use Rattle.plan_file.specs.Decoding.{planIn};
 ghost use Rattle.plan_file.specs.Encoding.{encoding};
 ghost use Rattle.plan_file.specs.Find.{findCheck, nodeFound};
+ghost use Rattle.plan_file.specs.Limits.{IsPlanFile};
+ghost use Rattle.plan_file.specs.RoundTrips.{WrittenAgain, ReadAgain};
 ghost use Rattle.plan_file.specs.Plan.{rowWord, wordsOf, planOf};
 ghost use Rattle.planner.specs.Mapping.{fileAnswer, fileBuffer, NodeDemand3};
 ghost use Rattle.listing.specs.Listing.{listing, listAnswer};
@@ -43,10 +46,11 @@ fn give(first: usize, second: usize, values: &mut [usize; 2]) -> u32
     0
 }
 
-// Accepts a plan file, or refuses it.
+// Accepts a plan file, or refuses it. Accepts exactly the files of plans within the limits.
 #[no_mangle]
 pub extern "C" fn maiplur_check(file: &[u8], values: &mut [usize; 2]) -> u32
     ensures { λ a. ⌜ returned a (now (values .exit)) ≡ checked (fileCheck (now (file .entry))) ⌝ }
+    ensures { λ a. ⌜ (fileCheck (now (file .entry)) ≡ accepted) ↔ IsPlanFile (now (file .entry)) ⌝ }
 {
     let found = plan_file::check_file(file);
     match found {
@@ -55,7 +59,8 @@ pub extern "C" fn maiplur_check(file: &[u8], values: &mut [usize; 2]) -> u32
     }
 }
 
-// Reads a file's plan into buffers: a word for each row, five for each entry. Gives how many rows and entries.
+// Reads a file's plan into buffers: a word for each row, five for each entry. Gives how many rows and entries. What is
+// filled, maiplur_write writes as the same bytes.
 #[no_mangle]
 pub extern "C" fn maiplur_read(
     file: &[u8],
@@ -74,6 +79,10 @@ pub extern "C" fn maiplur_read(
         ⌜ now (entries .exit) ≡
         left (readAnswer (now (file .entry)) (length (now (rows .entry))) (length (now (entries .entry))))
         (wordsOf (planIn (now (file .entry)) .entries)) (now (entries .entry)) ⌝ }
+    ensures { λ a.
+        ⌜ WrittenAgain (now (file .entry))
+        (readAnswer (now (file .entry)) (length (now (rows .entry))) (length (now (entries .entry))))
+        (now (rows .exit)) (now (entries .exit)) ⌝ }
 {
     let read = plan_file::read_plan(file, rows, entries);
     match read {
@@ -85,7 +94,8 @@ pub extern "C" fn maiplur_read(
     }
 }
 
-// Writes a plan as a file from the buffer's start. Gives the file's length.
+// Writes a plan as a file from the buffer's start. Gives the file's length. What is written, maiplur_read reads as the same
+// words.
 #[no_mangle]
 pub extern "C" fn maiplur_write(
     rows: &[u32],
@@ -100,6 +110,9 @@ pub extern "C" fn maiplur_write(
         ⌜ now (file .exit) ≡
         left (writeAnswer (now (rows .entry)) (now (entries .entry)) (length (now (file .entry))))
         (encoding (planOf (now (rows .entry)) (now (entries .entry)))) (now (file .entry)) ⌝ }
+    ensures { λ a.
+        ⌜ ReadAgain (now (rows .entry)) (now (entries .entry))
+        (writeAnswer (now (rows .entry)) (now (entries .entry)) (length (now (file .entry)))) (now (file .exit)) ⌝ }
 {
     let written = plan_file::write_plan(rows, entries, file);
     match written {

@@ -1,5 +1,5 @@
 -- What a check's answer says: accepted is within every limit, and each refusal names what is broken.
-use Prim.Native.Nat.{ℕ, zero, suc, _+_, _<_}
+use Prim.Native.Nat.{ℕ, zero, suc, _+_, _≤_, _<_}
 use mathlib.Core.Path.{_≡_, _∙_, refl, sym, ap}
 use mathlib.Core.Bool.{true, false, _&&_, true≢false}
 use mathlib.Core.Logic.{_⊎_, inl, inr, ⊎-elim, _↔_}
@@ -98,6 +98,18 @@ module _ (row position : ℕ) (e : Entry) where
     λ h. check-times row position e (kind-true e (h .0)) (times-false e (h .1)),
   )
 
+  -- 4 is of a node's sizes, and of no entry
+  not-four : entryCheck row position e ≡ refused (at 4 row 0) → ⊥
+  unfolding number
+  not-four p =
+      ⊎-elim
+      (λ k. ⊎-elim
+      (λ t. not-both (check-accepts row position e k t) p)
+      (λ t. let z : _≡_ {A = ℕ} 8 4 = ap number (sym (check-times row position e k t) ∙ p) in omega arith)
+      (true-or-false (timesTest e)))
+      (λ k. let z : _≡_ {A = ℕ} 7 4 = ap number (sym (check-kind row position e k) ∙ p) in omega arith)
+      (true-or-false (kindTest (e .kind) (e .calls)))
+
 -- what holds of the first entry, and of those after it
 hold-cons : (e : Entry) (es : List Entry) (n : ℕ) → EntryHolds e → ((i : ℕ) → i < n → EntryHolds (entryAt es i))
     → (i : ℕ) → i < suc n → EntryHolds (entryAt (e ∷ es) i)
@@ -168,4 +180,15 @@ module _ (row : ℕ) where
         (λ p. absurd (not-both a (node-sizes row n (λ h1 h2 h3. true≢false (sym (sizes-true _ _ h1 h2 h3) ∙ p)))))
         (true-or-false (sizeTest (n .levels) (length (n .entries)))),
     λ h. node-entries row n (h .someLevels) (h .fewLevels) (h .fewEntries) ∙ to-all 0 (n .entries) (h .each),
+  )
+
+  -- It is refused as 4 exactly if its sizes are outside: not 1 to 64 levels, or more than 64 entries.
+  pub sizes-refused : (n : Node)
+      → nodeCheck row n ≡ refused (at 4 row 0)
+      ↔ (((1 ≤ n .levels) × (n .levels ≤ 64) × (length (n .entries) ≤ 64)) → ⊥)
+  sizes-refused n = (
+    λ a h.
+        let r = entries-refused (n .entries) (at 4 row 0) (sym (node-entries row n (h .0) (h .1) (h .2)) ∙ a) in
+        not-four row (r .0) _ (r .3),
+    λ out. node-sizes row n (λ h1 h2 h3. out (h1, h2, h3)),
   )

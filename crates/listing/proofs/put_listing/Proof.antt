@@ -32,12 +32,12 @@ same-length c = search needs
 returns : tie.Need-returns
 returns c =
     let f = c .before .before .before .before .before .before .before .before .before .before .args .file .now in
-    let r = sym (c .before .before .before .before .before .before .before .check-file .ensures) ∙ ap outcome (c .before .before .before .before .before .checked .given .1) in
+    let r = sym (c .before .before .before .before .before .before .before .check-file .ensures .0) ∙ ap outcome (c .before .before .before .before .before .checked .given .1) in
     upto-same (sym (listing-refused f _ r)) (upto-more 115625 (omega arith) (c .before .before .put-refused-line .ensures))
 
 -- an accepted file
 found : (c : tie.After-check-file) → c .check-file .result ≡ Accepted → fileCheck (c .before .before .before .args .file .now) ≡ accepted
-found c e = sym (c .check-file .ensures) ∙ ap outcome e
+found c e = sym (c .check-file .ensures .0) ∙ ap outcome e
 
 few : (f : List ℕ) → fileCheck f ≡ accepted → nodeCount f ≤ 32
 few f a = file-holds f a .header .counted .few

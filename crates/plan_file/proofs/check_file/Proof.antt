@@ -8,6 +8,7 @@ use Rattle.plan_file.specs.Decoding.{nodeCount, rowsIn}
 use Rattle.plan_file.specs.Encoding.{bodiesStart}
 use Rattle.plan_file.proofs.File.{file-header, file-layout, file-bodies, layout-holds}
 use Rattle.plan_file.proofs.Header.{HeaderHolds, header-holds}
+use Rattle.plan_file.proofs.Ensured.{file-ensures}
 use Rattle.plan_file.proofs.check_file.Statement.{statement}
 use Rattle.plan_file.proofs.check_file.Tie as tie
 
@@ -34,8 +35,9 @@ enum-told-2 c = search needs
 
 returns : tie.Need-returns
 returns c =
-    ap outcome (c .enum-told2 .given .1)
-    ∙ sym (file-header _ _ (header (c .before .before) _ (c .enum-told2 .given .1)))
+    file-ensures (λ i. c .before .before .before .shared-slice-known .given i .fits)
+    (ap outcome (c .enum-told2 .given .1)
+    ∙ sym (file-header _ _ (header (c .before .before) _ (c .enum-told2 .given .1))))
 
 node-count-requires : tie.Need-node-count-requires
 node-count-requires c κs = held c .long
@@ -52,8 +54,9 @@ enum-told-4 c = search needs
 
 returns-2 : tie.Need-returns-2
 returns-2 c =
-    ap outcome (c .enum-told4 .given .1)
-    ∙ sym (file-layout _ (header (c .before .before .before .before .before .before) _ (c .before .before .before .before .enum-told .given .1)) _ (layout (c .before .before) _ (c .enum-told4 .given .1)))
+    file-ensures (λ i. c .before .before .before .before .before .before .before .shared-slice-known .given i .fits)
+    (ap outcome (c .enum-told4 .given .1)
+    ∙ sym (file-layout _ (header (c .before .before .before .before .before .before) _ (c .before .before .before .before .enum-told .given .1)) _ (layout (c .before .before) _ (c .enum-told4 .given .1))))
 
 check-bodies-requires : tie.Need-check-bodies-requires
 check-bodies-requires c κs =
@@ -62,8 +65,9 @@ check-bodies-requires c κs =
 
 returns-3 : tie.Need-returns-3
 returns-3 c =
-    (rw (c .before .before .before .before .node-count .ensures .0) at (c .check-bodies .ensures))
-    ∙ sym (file-bodies _ (header (c .before .before .before .before .before .before .before) _ (c .before .before .before .before .before .enum-told .given .1)) (layout (c .before .before .before) _ (c .before .enum-told3 .given .1)))
+    file-ensures (λ i. c .before .before .before .before .before .before .before .before .shared-slice-known .given i .fits)
+    ((rw (c .before .before .before .before .node-count .ensures .0) at (c .check-bodies .ensures))
+    ∙ sym (file-bodies _ (header (c .before .before .before .before .before .before .before) _ (c .before .before .before .before .before .enum-told .given .1)) (layout (c .before .before .before) _ (c .before .enum-told3 .given .1))))
 
 pub check-file-spec : {M : Type 1} → statement M
 check-file-spec =

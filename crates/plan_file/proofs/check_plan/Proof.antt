@@ -10,6 +10,7 @@ use Rattle.task_model.specs.declared.Checked.{Checked}
 use Rattle.plan_file.specs.Check.{countTest}
 use Rattle.plan_file.specs.Plan.{entryCount, rowOf}
 use Rattle.plan_file.proofs.Handed.{tally, tally-holds, count-true, count-false, handed-count, handed-tally, handed-nodes}
+use Rattle.plan_file.proofs.Ensured.{plan-ensures}
 use Rattle.plan_file.proofs.check_plan.Statement.{statement}
 use Rattle.plan_file.proofs.check_plan.Tie as tie
 
@@ -22,10 +23,10 @@ told : (c : tie.After-check-rows) (o : Checked) → c .check-rows .result ≡ o
 told c o p = sym (c .check-rows .ensures) ∙ ap outcome p
 
 returns : tie.Need-returns
-returns c = sym (handed-count _ _ _ (count-false _ (λ h1 h2. omega (arith, length-map (c .before .before .before .args .rows .now) rowOf))))
+returns c = plan-ensures (c .before .before .before .args .rows .now) (c .before .before .before .args .entries .now) (sym (handed-count _ _ _ (count-false _ (λ h1 h2. omega (arith, length-map (c .before .before .before .args .rows .now) rowOf)))))
 
 returns-2 : tie.Need-returns-2
-returns-2 c = sym (handed-count _ _ _ (count-false _ (λ h1 h2. omega (arith, length-map (c .before .before .before .before .args .rows .now) rowOf))))
+returns-2 c = plan-ensures (c .before .before .before .before .args .rows .now) (c .before .before .before .before .args .entries .now) (sym (handed-count _ _ _ (count-false _ (λ h1 h2. omega (arith, length-map (c .before .before .before .before .args .rows .now) rowOf)))))
 
 check-rows-requires : tie.Need-check-rows-requires
 check-rows-requires c κs = search needs
@@ -38,8 +39,9 @@ enum-told-2 c = search needs
 
 returns-3 : tie.Need-returns-3
 returns-3 c =
-    ap outcome (c .enum-told2 .given .1)
-    ∙ sym (handed-tally _ _ _ (counted (c .before .before)) _ (told (c .before .before) _ (c .enum-told2 .given .1)))
+    plan-ensures (c .before .before .before .before .before .before .before .args .rows .now) (c .before .before .before .before .before .before .before .args .entries .now)
+    (ap outcome (c .enum-told2 .given .1)
+    ∙ sym (handed-tally _ _ _ (counted (c .before .before)) _ (told (c .before .before) _ (c .enum-told2 .given .1))))
 
 check-nodes-requires : tie.Need-check-nodes-requires
 check-nodes-requires c κs = omega (arith, tally-holds _ _ (told (c .before .before) _ (c .enum-told .given .1)) .1)
@@ -48,8 +50,9 @@ returns-4 : tie.Need-returns-4
 returns-4 c =
     let n = tally-holds _ _ (told (c .before .before .before) _ (c .before .enum-told .given .1)) .1 in
     let e : length (c .before .before .before .before .before .before .before .before .args .entries .now) / 5 ≡ entryCount (map rowOf (c .before .before .before .before .before .before .before .before .args .rows .now)) = omega arith in
-    rw (← e) at (c .check-nodes .ensures)
-    ∙ sym (handed-nodes _ _ _ (counted (c .before .before .before)) (told (c .before .before .before) _ (c .before .enum-told .given .1)))
+    plan-ensures (c .before .before .before .before .before .before .before .before .args .rows .now) (c .before .before .before .before .before .before .before .before .args .entries .now)
+    (rw (← e) at (c .check-nodes .ensures)
+    ∙ sym (handed-nodes _ _ _ (counted (c .before .before .before)) (told (c .before .before .before) _ (c .before .enum-told .given .1))))
 
 pub check-plan-spec : {M : Type 1} → statement M
 check-plan-spec =

@@ -18,14 +18,14 @@ enum-known-checked c = search needs
 
 -- the file is accepted
 told : (c : tie.After-enum-told) → fileCheck (c .before .before .before .before .args .file .now) ≡ accepted
-told c = sym (c .before .before .check-file .ensures) ∙ ap outcome (c .enum-told .given .1)
+told c = sym (c .before .before .check-file .ensures .0) ∙ ap outcome (c .enum-told .given .1)
 
 -- the row that is sought
 sought : (c : tie.After-row-of-number) → c .row-of-number .result ≡ rowOfNumber (c .before .before .before .before .before .before .args .number) (rowsIn (c .before .before .before .before .before .before .args .file .now))
 sought c = rw (← c .before .node-count .ensures .0) (c .row-of-number .ensures)
 
 returns : tie.Need-returns
-returns c = (sym (find-refused _ _ _ (sym (c .before .before .before .check-file .ensures) ∙ ap outcome (c .before .checked .given .1))), (refl, tt))
+returns c = (sym (find-refused _ _ _ (sym (c .before .before .before .check-file .ensures .0) ∙ ap outcome (c .before .checked .given .1))), (refl, tt))
 
 enum-told : tie.Need-enum-told
 enum-told c = search needs

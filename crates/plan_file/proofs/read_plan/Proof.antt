@@ -5,13 +5,14 @@ use lib.ListN.{length}
 use borrow.Author.Needs.{needs}
 use Rattle.task_model.specs.Refusals.{outcome, accepted}
 use Rattle.plan_file.specs.Decoding.{nodeCount, rowsIn}
-use Rattle.plan_file.specs.Encoding.{bodiesStart}
+use Rattle.plan_file.specs.Encoding.{bodiesStart, Bytes}
 use Rattle.plan_file.specs.Check.{fileCheck}
 use Rattle.plan_file.specs.Plan.{entryCount}
 use Rattle.plan_file.proofs.Memory.{words-of-entries}
 use Rattle.plan_file.proofs.Buffers.{over-start}
 use Rattle.plan_file.proofs.Reading.{read-refused, read-few-rows, read-few-words, read-filled}
 use Rattle.plan_file.proofs.File.{file-holds}
+use Rattle.plan_file.proofs.Ensured.{read-ensures}
 use Rattle.plan_file.proofs.read_plan.Statement.{statement}
 use Rattle.plan_file.proofs.read_plan.Tie as tie
 
@@ -23,7 +24,7 @@ enum-known-checked c = search needs
 
 -- the file is accepted
 told : (c : tie.After-enum-told) → fileCheck (c .before .before .before .before .before .before .args .file .now) ≡ accepted
-told c = sym (c .before .before .check-file .ensures) ∙ ap outcome (c .enum-told .given .1)
+told c = sym (c .before .before .check-file .ensures .0) ∙ ap outcome (c .enum-told .given .1)
 
 -- how many words the entries have
 counted : (c : tie.After-node-count)
@@ -31,7 +32,14 @@ counted : (c : tie.After-node-count)
 counted c = omega (arith, c .node-count .ensures .0, file-holds _ (told (c .before)) .ends)
 
 returns : tie.Need-returns
-returns c = (sym (read-refused _ _ _ _ (sym (c .before .before .before .check-file .ensures) ∙ ap outcome (c .before .checked .given .1))), (refl, refl))
+returns c = (
+  record {
+    answer = sym (read-refused _ _ _ _ (sym (c .before .before .before .check-file .ensures .0) ∙ ap outcome (c .before .checked .given .1)));
+    rowsThere = refl;
+    wordsThere = refl;
+  },
+  tt,
+)
 
 enum-told : tie.Need-enum-told
 enum-told c = search needs
@@ -49,10 +57,24 @@ sub-words : tie.Need-sub-words
 sub-words c = omega (arith, (file-holds _ (told (c .before))) .header .contents)
 
 returns-2 : tie.Need-returns-2
-returns-2 c = (sym (read-few-rows _ _ _ (told (c .before .before)) (rw (← c .before .node-count .ensures .0) (c .if1 .taken))), (refl, refl))
+returns-2 c = (
+  record {
+    answer = sym (read-few-rows _ _ _ (told (c .before .before)) (rw (← c .before .node-count .ensures .0) (c .if1 .taken)));
+    rowsThere = refl;
+    wordsThere = refl;
+  },
+  tt,
+)
 
 returns-3 : tie.Need-returns-3
-returns-3 c = (sym (read-few-words _ _ _ (told (c .before .before .before)) (omega arith) (omega (arith, counted (c .before .before)))), (refl, refl))
+returns-3 c = (
+  record {
+    answer = sym (read-few-words _ _ _ (told (c .before .before .before)) (omega arith) (omega (arith, counted (c .before .before))));
+    rowsThere = refl;
+    wordsThere = refl;
+  },
+  tt,
+)
 
 copy-rows-requires : tie.Need-copy-rows-requires
 copy-rows-requires c κs = omega (arith, c .before .before .before .node-count .ensures .0, file-holds _ (told (c .before .before .before .before)) .header .contents)
@@ -71,14 +93,15 @@ returns-4 c =
     let n = c .before .before .before .before .before .before .before .before .before .before .node-count .ensures .0 in
     let f = c .before .before .before .before .before .before .before .before .before .before .before .before .before .before .before .before .before .args .file .now in
     let w = counted (c .before .before .before .before .before .before .before .before .before .before) in
-    let q : (length f - (8 + c .before .before .before .before .before .before .before .before .before .before .node-count .result * 8)) / 4 / 5 ≡ entryCount (rowsIn f) = omega (arith, w) in (
-      rw (q, n) (sym (read-filled _ _ _ (told (c .before .before .before .before .before .before .before .before .before .before .before)) (omega arith) (omega arith))),
-      (
-        rw (← n) (c .before .before .before .before .before .before .copy-rows .ensures ∙ over-start _ _),
-        rw (words-of-entries f (λ i. c .before .before .before .before .before .before .before .before .before .before .before .before .before .before .before .before .shared-slice-known .given i .fits) (bodiesStart (nodeCount f)) (entryCount (rowsIn f)))
-            ((rw (w, n) at (c .before .before .copy-words .ensures)) ∙ over-start _ _),
-      ),
-    )
+    let bytes : Bytes f = λ i. c .before .before .before .before .before .before .before .before .before .before .before .before .before .before .before .before .shared-slice-known .given i .fits in
+    read-ensures bytes
+    (record {
+      answer = sym (read-filled _ _ _ (told (c .before .before .before .before .before .before .before .before .before .before .before)) _ _ n (omega (arith, w)) (omega arith) (omega arith));
+      rowsThere = rw (← n) (c .before .before .before .before .before .before .copy-rows .ensures ∙ over-start _ _);
+      wordsThere =
+          rw (words-of-entries f bytes (bodiesStart (nodeCount f)) (entryCount (rowsIn f)))
+          ((rw (w, n) at (c .before .before .copy-words .ensures)) ∙ over-start _ _);
+    })
 
 pub read-plan-spec : {M : Type 1} → statement M
 read-plan-spec =

@@ -9,6 +9,7 @@ use Rattle.plan_file.specs.Plan.{rowOf}
 use Rattle.plan_file.proofs.Writing.{written, write-refused, write-short, write-fits}
 use Rattle.plan_file.proofs.Handed.{handed-holds}
 use Rattle.plan_file.proofs.Buffers.{over-start}
+use Rattle.plan_file.proofs.Ensured.{write-ensures}
 use Rattle.plan_file.proofs.write_plan.Statement.{statement}
 use Rattle.plan_file.proofs.write_plan.Tie as tie
 
@@ -20,13 +21,19 @@ enum-known-checked c = search needs
 
 -- the plan is accepted
 told : (c : tie.After-enum-told) → wordsCheck (c .before .before .before .before .before .before .args .rows .now) (c .before .before .before .before .before .before .args .entries .now) ≡ accepted
-told c = sym (c .before .before .check-plan .ensures) ∙ ap outcome (c .enum-told .given .1)
+told c = sym (c .before .before .check-plan .ensures .0) ∙ ap outcome (c .enum-told .given .1)
 
 few : (c : tie.After-enum-told) → length (c .before .before .before .before .before .before .args .rows .now) ≤ 32
 few c = omega (arith, handed-holds _ _ _ (told c) .few, length-map (c .before .before .before .before .before .before .args .rows .now) rowOf)
 
 returns : tie.Need-returns
-returns c = (sym (write-refused _ _ _ _ (sym (c .before .before .before .check-plan .ensures) ∙ ap outcome (c .before .checked .given .1))), refl)
+returns c = (
+  record {
+    answer = sym (write-refused _ _ _ _ (sym (c .before .before .before .check-plan .ensures .0) ∙ ap outcome (c .before .checked .given .1)));
+    fileThere = refl;
+  },
+  tt,
+)
 
 enum-told : tie.Need-enum-told
 enum-told c = search needs
@@ -44,7 +51,7 @@ add-length : tie.Need-add-length
 add-length c = omega (arith, few c)
 
 returns-2 : tie.Need-returns-2
-returns-2 c = (sym (write-short _ _ _ (told (c .before)) (omega arith)), refl)
+returns-2 c = (record { answer = sym (write-short _ _ _ (told (c .before)) (omega arith)); fileThere = refl }, tt)
 
 put-header-requires : tie.Need-put-header-requires
 put-header-requires c κs = search needs
@@ -59,11 +66,14 @@ same-length : tie.Need-same-length
 same-length c = search needs
 
 returns-3 : tie.Need-returns-3
-returns-3 c = (
-  sym (write-fits _ _ _ (told (c .before .before .before .before .before .before .before .before .before .before .before .before .before)) (omega arith)),
-  rw (c .before .before .put-bodies .ensures, c .before .before .before .before .before .before .put-contents .ensures, c .before .before .before .before .before .before .before .before .before .before .put-header .ensures)
-      (written (c .before .before .before .before .before .before .before .before .before .before .before .before .before .before .before .before .before .before .before .args .rows .now) (c .before .before .before .before .before .before .before .before .before .before .before .before .before .before .before .before .before .before .before .args .entries .now) _ ∙ over-start _ _),
-)
+returns-3 c =
+    write-ensures (λ i. c .before .before .before .before .before .before .before .before .before .before .before .before .before .before .before .before .before .before .shared-slice-known .given i .fits)
+    (λ i. c .before .before .before .before .before .before .before .before .before .before .before .before .before .before .before .before .before .shared-slice-known2 .given i .fits)
+    (record {
+      answer = sym (write-fits _ _ _ (told (c .before .before .before .before .before .before .before .before .before .before .before .before .before)) (omega arith));
+      fileThere = rw (c .before .before .put-bodies .ensures, c .before .before .before .before .before .before .put-contents .ensures, c .before .before .before .before .before .before .before .before .before .before .put-header .ensures)
+          (written (c .before .before .before .before .before .before .before .before .before .before .before .before .before .before .before .before .before .before .before .args .rows .now) (c .before .before .before .before .before .before .before .before .before .before .before .before .before .before .before .before .before .before .before .args .entries .now) _ ∙ over-start _ _);
+    })
 
 pub write-plan-spec : {M : Type 1} → statement M
 write-plan-spec =

@@ -22,11 +22,17 @@ refuse-requires c κs = search needs
 
 returns : tie.Need-returns
 returns c =
-    c .give .ensures ∙ ap checked (sym (ap outcome (c .before .before .enum-told .given .1)) ∙ c .before .before .before .before .check-file .ensures)
+    let e = c .before .before .before .before .check-file .ensures in (
+      c .give .ensures ∙ ap checked (sym (ap outcome (c .before .before .enum-told .given .1)) ∙ e .0),
+      rw (e .0) at (e .1),
+    )
 
 returns-2 : tie.Need-returns-2
 returns-2 c =
-    c .refuse .ensures ∙ ap checked (sym (ap outcome (c .before .before .before .found .given .1)) ∙ c .before .before .before .before .before .check-file .ensures)
+    let e = c .before .before .before .before .before .check-file .ensures in (
+      c .refuse .ensures ∙ ap checked (sym (ap outcome (c .before .before .before .found .given .1)) ∙ e .0),
+      rw (e .0) at (e .1),
+    )
 
 pub maiplur-check-spec : {M : Type 1} → statement M
 maiplur-check-spec =

@@ -29,8 +29,8 @@ same-length-2 c = search needs
 returns : tie.Need-returns
 returns c =
     let e = c .before .before .before .before .before .before .before .before .before .read-plan .ensures in (
-      c .give .ensures ∙ ap filled (sym (ap readGives (c .before .before .before .read .given .1)) ∙ e .0),
-      (rw (e .0) at (e .1 .0), rw (e .0) at (e .1 .1)),
+      c .give .ensures ∙ ap filled (sym (ap readGives (c .before .before .before .read .given .1)) ∙ e .0 .answer),
+      (rw (e .0 .answer) at (e .0 .rowsThere), (rw (e .0 .answer) at (e .0 .wordsThere), rw (e .0 .answer) at (e .1))),
     )
 
 same-length-3 : tie.Need-same-length-3
@@ -42,8 +42,8 @@ same-length-4 c = search needs
 returns-2 : tie.Need-returns-2
 returns-2 c =
     let e = c .before .before .before .before .before .before .before .before .before .read-plan .ensures in (
-      c .refuse .ensures ∙ ap filled (sym (ap readGives (c .before .before .before .read2 .given .1)) ∙ e .0),
-      (rw (e .0) at (e .1 .0), rw (e .0) at (e .1 .1)),
+      c .refuse .ensures ∙ ap filled (sym (ap readGives (c .before .before .before .read2 .given .1)) ∙ e .0 .answer),
+      (rw (e .0 .answer) at (e .0 .rowsThere), (rw (e .0 .answer) at (e .0 .wordsThere), rw (e .0 .answer) at (e .1))),
     )
 
 pub maiplur-read-spec : {M : Type 1} → statement M

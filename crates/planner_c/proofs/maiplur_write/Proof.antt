@@ -26,8 +26,8 @@ same-length c = search needs
 returns : tie.Need-returns
 returns c =
     let e = c .before .before .before .before .before .before .before .write-plan .ensures in (
-      c .give .ensures ∙ ap sized (sym (ap writeGives (c .before .before .before .written .given .1)) ∙ e .0),
-      rw (e .0) at (e .1),
+      c .give .ensures ∙ ap sized (sym (ap writeGives (c .before .before .before .written .given .1)) ∙ e .0 .answer),
+      (rw (e .0 .answer) at (e .0 .fileThere), rw (e .0 .answer) at (e .1)),
     )
 
 same-length-2 : tie.Need-same-length-2
@@ -36,8 +36,8 @@ same-length-2 c = search needs
 returns-2 : tie.Need-returns-2
 returns-2 c =
     let e = c .before .before .before .before .before .before .before .write-plan .ensures in (
-      c .refuse .ensures ∙ ap sized (sym (ap writeGives (c .before .before .before .written2 .given .1)) ∙ e .0),
-      rw (e .0) at (e .1),
+      c .refuse .ensures ∙ ap sized (sym (ap writeGives (c .before .before .before .written2 .given .1)) ∙ e .0 .answer),
+      (rw (e .0 .answer) at (e .0 .fileThere), rw (e .0 .answer) at (e .1)),
     )
 
 pub maiplur-write-spec : {M : Type 1} → statement M

@@ -1,0 +1,31 @@
+-- A function's second promise from its first. The sizes of bytes and words are what the types of its slices say.
+use Prim.Native.Nat.{ℕ}
+use mathlib.Core.Path.{_≡_, _∙_, sym}
+use mathlib.Core.Logic.{_↔_}
+use mathlib.Core.List.{List}
+use Rattle.task_model.specs.Refusals.{Outcome, accepted}
+use Rattle.task_model.specs.Answers.{Answer}
+use Rattle.plan_file.specs.Plan.{WordsFit}
+use Rattle.plan_file.specs.Encoding.{Bytes}
+use Rattle.plan_file.specs.Check.{fileCheck, wordsCheck}
+use Rattle.plan_file.specs.Limits.{IsPlanFile, IsPlanInMemory}
+use Rattle.plan_file.specs.Answers.{Sizes, ReadCall, WriteCall}
+use Rattle.plan_file.specs.RoundTrips.{WrittenAgain, ReadAgain}
+use Rattle.plan_file.proofs.Theorems.{file-limits, words-limits}
+use Rattle.plan_file.proofs.RoundTrips.{written-again, read-again}
+
+pub file-ensures : {f : List ℕ} {o : Outcome} → Bytes f → o ≡ fileCheck f → (o ≡ fileCheck f) × (o ≡ accepted ↔ IsPlanFile f)
+file-ensures b e = (e, (λ p. file-limits _ .0 (b, sym e ∙ p), λ h. e ∙ file-limits _ .1 h .1))
+
+pub plan-ensures : (rs ws : List ℕ) {o : Outcome} → o ≡ wordsCheck rs ws
+    → (o ≡ wordsCheck rs ws) × (o ≡ accepted ↔ IsPlanInMemory rs ws)
+plan-ensures rs ws e = (e, (λ p. words-limits rs ws .0 (sym e ∙ p), λ h. e ∙ words-limits rs ws .1 h))
+
+pub read-ensures : {f rows words : List ℕ} {a : Answer Sizes} {rowsLeft wordsLeft : List ℕ} → Bytes f
+    → ReadCall f rows words a rowsLeft wordsLeft
+    → ReadCall f rows words a rowsLeft wordsLeft × WrittenAgain f a rowsLeft wordsLeft
+read-ensures b c = (c, written-again _ _ _ _ _ _ b c)
+
+pub write-ensures : {rs ws file : List ℕ} {a : Answer ℕ} {fileLeft : List ℕ} → WordsFit rs → WordsFit ws
+    → WriteCall rs ws file a fileLeft → WriteCall rs ws file a fileLeft × ReadAgain rs ws a fileLeft
+write-ensures hr hw c = (c, read-again _ _ _ _ _ hr hw c)

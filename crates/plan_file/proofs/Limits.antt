@@ -1,0 +1,156 @@
+-- A plan is accepted by the writer's checks exactly if it is within the limits; a file that is too long for one is not.
+use Prim.Native.Nat.{ℕ, zero, suc, _+_, _*_, _/_, _≤_, _<_}
+use mathlib.Core.Path.{_≡_, _∙_, refl}
+use mathlib.Core.List.{List, [], _∷_}
+use native.Mathlib.Omega.{arith}
+use lib.ListN.{length, take, drop, length-drop}
+use lib.Seq.{drop-drop, length-take-le}
+use borrow.Author.Tests.{eq-eqb, ne-eqb}
+use Rattle.task_model.specs.declared.Entry.{Entry}
+use Rattle.task_model.specs.Refusals.{at, accepted, refused, mustHold}
+use Rattle.task_model.specs.Limits.{AllHold}
+use Rattle.task_model.specs.Checks.{entriesCheck}
+use Rattle.task_model.proofs.Outcomes.{both-accepted, then-accepted, demanded, mustHold-accepts, mustHold-refuses}
+use Rattle.task_model.proofs.Laws.{length-entries}
+use Rattle.task_model.proofs.Theorems.{entries-accepted}
+use Rattle.plan_file.specs.declared.Row.{Row}
+use Rattle.plan_file.specs.Plan.{Plan, entryCount, planOf}
+use Rattle.plan_file.specs.Check.{rowTest, rowsCheck, contentsCheck, layoutCheck, nodesCheck, planCheck, wordsCheck}
+use Rattle.plan_file.specs.Encoding.{bodiesStart}
+use Rattle.plan_file.specs.Decoding.{rowsFrom}
+use Rattle.plan_file.specs.Find.{rowIn, nodeOfRow}
+use Rattle.plan_file.specs.Limits.{PlanHolds}
+use Rattle.plan_file.proofs.Tests.{RowHolds, row-true, row-holds}
+use Rattle.plan_file.proofs.Nodes.{count-split}
+use Rattle.plan_file.proofs.Handed.{handed-holds, handed-nodes, count-true}
+use Rattle.plan_file.proofs.Finding.{not-below}
+use Rattle.plan_file.proofs.Contents.{length-rows}
+use Rattle.plan_file.proofs.Encoded.{contents-rows}
+use Rattle.plan_file.proofs.Decoded.{few-entries}
+
+-- rows that are accepted: each within its limits, with numbers that rise
+rows-each : (k least : ℕ) (rs : List Row) → rowsCheck k least rs ≡ accepted → (i : ℕ) → i < length rs → RowHolds 0 (rowIn rs i)
+unfolding rowsCheck
+rows-each k least [] a i h = absurd (omega arith)
+rows-each k least (r ∷ rs) a zero h =
+    let t = row-holds least r (demanded _ _ (both-accepted (mustHold (rowTest least r) _) _ a .0)) in
+    record { rises = omega arith; someLevels = t .someLevels; fewLevels = t .fewLevels; fewEntries = t .fewEntries }
+rows-each k least (r ∷ rs) a (suc i) h =
+    rows-each (suc k) (suc (r .number)) rs (both-accepted (mustHold (rowTest least r) _) _ a .1) i (omega arith)
+
+rows-rise : (k least : ℕ) (rs : List Row) → rowsCheck k least rs ≡ accepted → (i : ℕ) → suc i < length rs
+    → rowIn rs i .number < rowIn rs (suc i) .number
+unfolding rowsCheck
+rows-rise k least [] a i h = absurd (omega arith)
+rows-rise k least (r ∷ rs) a zero h =
+    omega (arith, not-below (suc k) (suc (r .number)) rs (both-accepted (mustHold (rowTest least r) _) _ a .1) 0 (omega arith))
+rows-rise k least (r ∷ rs) a (suc i) h =
+    rows-rise (suc k) (suc (r .number)) rs (both-accepted (mustHold (rowTest least r) _) _ a .1) i (omega arith)
+
+-- and rows of that kind are accepted
+rows-accepted : (k least : ℕ) (rs : List Row)
+    → (0 < length rs → least ≤ rowIn rs 0 .number)
+    → ((i : ℕ) → i < length rs → RowHolds 0 (rowIn rs i))
+    → ((i : ℕ) → suc i < length rs → rowIn rs i .number < rowIn rs (suc i) .number)
+    → rowsCheck k least rs ≡ accepted
+unfolding rowsCheck
+rows-accepted k least [] first each rise = refl
+rows-accepted k least (r ∷ rs) first each rise =
+    let e = each 0 (omega arith) in
+    let t : RowHolds least r =
+    record {
+      rises = first (omega arith);
+      someLevels = e .someLevels;
+      fewLevels = e .fewLevels;
+      fewEntries = e .fewEntries;
+    } in
+    then-accepted _ _ (mustHold-accepts _ _ (row-true least r t))
+    ∙ rows-accepted (suc k) (suc (r .number)) rs
+    (λ h. rise 0 (omega arith))
+    (λ i h. each (suc i) (omega arith))
+    (λ i h. rise (suc i) (omega arith))
+
+-- the entries of each row are accepted exactly if all of them are within the limits
+nodes-each : (k : ℕ) (rs : List Row) (es : List Entry) → nodesCheck k rs es ≡ accepted → (i : ℕ) → i < length rs
+    → AllHold (take (rowIn rs i .count) (drop (entryCount (take i rs)) es))
+unfolding nodesCheck entryCount
+nodes-each k [] es a i h = absurd (omega arith)
+nodes-each k (r ∷ rs) es a zero h = entries-accepted k 0 _ .0 (both-accepted _ _ a .0)
+nodes-each k (r ∷ rs) es a (suc i) h =
+    rw (← drop-drop (entryCount (take i rs)) (r .count) es)
+    (nodes-each (suc k) rs (drop (r .count) es) (both-accepted (entriesCheck k 0 (take (r .count) es)) _ a .1) i (omega arith))
+
+nodes-accepted : (k : ℕ) (rs : List Row) (es : List Entry)
+    → ((i : ℕ) → i < length rs → AllHold (take (rowIn rs i .count) (drop (entryCount (take i rs)) es)))
+    → nodesCheck k rs es ≡ accepted
+unfolding nodesCheck entryCount
+nodes-accepted k [] es each = refl
+nodes-accepted k (r ∷ rs) es each =
+    then-accepted _ _ (entries-accepted k 0 _ .1 (each 0 (omega arith)))
+    ∙ nodes-accepted (suc k) rs (drop (r .count) es)
+    (λ i h. rw (drop-drop (entryCount (take i rs)) (r .count) es) (each (suc i) (omega arith)))
+
+module _ (p : Plan) where
+  -- a node has as many entries as its row counts, where the counts add up
+  length-node : entryCount (p .rows) ≡ length (p .entries) → (i : ℕ) → i < length (p .rows)
+      → length (nodeOfRow p i .entries) ≡ rowIn (p .rows) i .count
+  unfolding nodeOfRow
+  length-node e i h =
+      length-take-le (rowIn (p .rows) i .count) (drop (entryCount (take i (p .rows))) (p .entries))
+      (omega (arith, count-split (p .rows) i h, length-drop (entryCount (take i (p .rows))) (p .entries)))
+
+  pub plan-holds : planCheck p ≡ accepted → PlanHolds p
+  unfolding nodeOfRow
+  plan-holds a =
+      let h = handed-holds (p .rows) (p .entries) (length (p .entries) * 5) a in
+      let e : entryCount (p .rows) ≡ length (p .entries) = omega (arith, h .counts) in
+      record {
+        some = h .some;
+        few = h .few;
+        rising = rows-rise 0 0 (p .rows) (h .rowsHold);
+        nodes =
+            λ i l.
+            let r = rows-each 0 0 (p .rows) (h .rowsHold) i l in
+            record {
+              someLevels = r .someLevels;
+              fewLevels = r .fewLevels;
+              fewEntries = omega (arith, length-node e i l, r .fewEntries);
+              each = nodes-each 0 (p .rows) (p .entries) (h .nodes) i l;
+            };
+        counts = e;
+      }
+
+  pub holds-accepted : PlanHolds p → planCheck p ≡ accepted
+  unfolding nodeOfRow
+  holds-accepted h =
+      let rows =
+      rows-accepted 0 0 (p .rows) (λ l. omega arith)
+      (λ i l.
+      let n = h .nodes i l in
+      record {
+        rises = omega arith;
+        someLevels = n .someLevels;
+        fewLevels = n .fewLevels;
+        fewEntries = omega (arith, length-node (h .counts) i l, n .fewEntries);
+      })
+      (h .rising) in
+      handed-nodes (p .rows) (p .entries) (length (p .entries) * 5) (count-true (length (p .rows)) (h .some) (h .few))
+      (then-accepted _ _ rows ∙ mustHold-accepts _ _ (eq-eqb (length (p .entries) * 5) (entryCount (p .rows) * 5) (omega (arith, h .counts))))
+      ∙ nodes-accepted 0 (p .rows) (p .entries) (λ i l. h .nodes i l .each)
+
+-- words that are accepted hold a plan that is
+pub words-plan : (rs ws : List ℕ) → wordsCheck rs ws ≡ accepted → planCheck (planOf rs ws) ≡ accepted
+words-plan rs ws a =
+    let n : length ws / 5 * 5 ≡ length ws = omega (arith, handed-holds _ _ _ a .counts) in
+    rw (length-entries ws 0 (length ws / 5), n) a
+
+-- accepted rows end too early for a file that is longer than any plan's
+pub long-layout : (f : List ℕ) → 41224 < length f → (n : ℕ) → n ≤ 32
+    → contentsCheck f 0 0 (bodiesStart n) (rowsFrom f 0 n) ≡ accepted
+    → layoutCheck f 0 0 (bodiesStart n) (rowsFrom f 0 n) ≡ refused (at 6 0 0)
+unfolding layoutCheck
+long-layout f l n few a =
+    let rs = rowsFrom f 0 n in
+    let k = few-entries 0 0 rs (contents-rows f 0 0 (bodiesStart n) rs a) in
+    then-accepted _ _ a
+    ∙ mustHold-refuses _ _ (ne-eqb (length f) (bodiesStart n + entryCount rs * 20) (λ e. omega (arith, length-rows f 0 n)))

@@ -1,0 +1,128 @@
+-- The round trips of what the calls leave in the buffers.
+use Prim.Native.Nat.{ℕ, _*_, _/_, _≤_}
+use mathlib.Core.Path.{_≡_, _∙_, refl, sym, ap}
+use mathlib.Core.Bool.{Bool, true, false}
+use mathlib.Core.List.{List, _++_, map}
+use native.Mathlib.Omega.{arith}
+use borrow.Author.Tests.{le-leb, leb-true}
+use lib.ListN.{length, take, drop, length-map}
+use lib.Dec.{leb}
+use lib.Seq.{take-append-seam}
+use Rattle.task_model.specs.Refusals.{Numbered, at, Outcome, accepted, refused, _andThen_, mustHold}
+use Rattle.task_model.specs.Answers.{Answer, gives, refuses, giving, left}
+use Rattle.plan_file.specs.Plan.{entryCount, rowWord, wordsOf, planOf, WordsFit}
+use Rattle.plan_file.specs.Encoding.{bodiesStart, encoding, Bytes}
+use Rattle.plan_file.specs.Decoding.{nodeCount, rowsIn, entriesIn, planIn}
+use Rattle.plan_file.specs.Check.{fileCheck, wordsCheck}
+use Rattle.plan_file.specs.Answers.{Sizes, roomTest, readAnswer, writeAnswer, ReadCall, WriteCall}
+use Rattle.plan_file.specs.RoundTrips.{WrittenAgain, ReadAgain}
+use Rattle.task_model.proofs.Laws.{and-true}
+use Rattle.plan_file.proofs.Contents.{length-row-words}
+use Rattle.plan_file.proofs.Bodies.{length-entries-at}
+use Rattle.plan_file.proofs.Memory.{length-words-of}
+use Rattle.plan_file.proofs.Reading.{read-filled}
+use Rattle.plan_file.proofs.Theorems.{read-write-memory, write-read-memory}
+
+-- where an answer gives something, the checks accepted and the last test holds
+given : {A : Type 0} (o : Outcome) (b : Bool) (r : Numbered) (x y : A) → gives x ≡ giving (o andThen mustHold b r) y
+    → (o ≡ accepted) × (b ≡ true) × (x ≡ y)
+given accepted true r x y e = (refl, refl, cc)
+given accepted false r x y e = let z : _≡_ {A = ℕ} 0 1 = cc in absurd (omega arith)
+given (refused q) b r x y e = let z : _≡_ {A = ℕ} 0 1 = cc in absurd (omega arith)
+
+read-given : (f : List ℕ) (rows words : ℕ) (n : Sizes) → gives n ≡ readAnswer f rows words
+    → (fileCheck f ≡ accepted) × (roomTest (planIn f) rows words ≡ true)
+    × (n ≡ record { rows = length (planIn f .rows); entries = length (planIn f .entries) })
+unfolding readAnswer
+read-given f rows words n e = given (fileCheck f) (roomTest (planIn f) rows words) (at 10 0 0) _ _ e
+
+write-given : (rs ws : List ℕ) (room n : ℕ) → gives n ≡ writeAnswer rs ws room
+    → (wordsCheck rs ws ≡ accepted) × (leb (length (encoding (planOf rs ws))) room ≡ true)
+    × (n ≡ length (encoding (planOf rs ws)))
+unfolding writeAnswer
+write-given rs ws room n e = given (wordsCheck rs ws) (leb (length (encoding (planOf rs ws))) room) (at 10 0 0) _ _ e
+
+-- what was given from the start of a buffer on
+front : (new old : List ℕ) (n : ℕ) → n ≡ length new → take n (new ++ drop (length new) old) ≡ new
+front new old n e = rw e (take-append-seam new _)
+
+-- What was filled, and what was written, lies in the buffers: a caller takes those parts.
+pub filled-inside : {f rows words rowsLeft wordsLeft : List ℕ} {n : Sizes} → ReadCall f rows words (gives n) rowsLeft wordsLeft
+    → (n .rows ≤ length rows) × (n .entries * 5 ≤ length words)
+filled-inside c =
+    let g = read-given _ _ _ _ (c .answer) in
+    let r = and-true _ _ (g .1) in
+    rw (g .2) (leb-true _ _ (r .0), leb-true _ _ (r .1))
+
+pub written-inside : {rs ws file fileLeft : List ℕ} {n : ℕ} → WriteCall rs ws file (gives n) fileLeft → n ≤ length file
+written-inside c = let g = write-given _ _ _ _ (c .answer) in rw (g .2) (leb-true _ _ (g .1))
+
+-- a call of the writer on words that it accepts, with room
+module _ (rs ws f : List ℕ) (ok : wordsCheck rs ws ≡ accepted) (e : encoding (planOf rs ws) ≡ f) where
+  write-gives : (room : ℕ) → length f ≤ room → writeAnswer rs ws room ≡ gives (length f)
+  unfolding writeAnswer
+  write-gives room h = rw (ok, e, le-leb (length f) room h)
+
+  wrote : (old : List ℕ) (a : Answer ℕ) (new : List ℕ) → length f ≤ length old → WriteCall rs ws old a new
+      → (a ≡ gives (length f)) × (new ≡ f ++ drop (length f) old)
+  wrote old a new h c =
+      let t = c .answer ∙ write-gives (length old) h in (
+        t,
+        c .fileThere ∙ ap (λ o. left o (encoding (planOf rs ws)) old) t ∙ ap (λ s. s ++ drop (length s) old) e,
+      )
+
+-- a call of the reader on a file that it accepts, with room
+module _ (f rs ws : List ℕ) (ok : fileCheck f ≡ accepted) (er : map rowWord (planIn f .rows) ≡ rs) (ew : wordsOf (planIn f .entries) ≡ ws) where
+  nodes : nodeCount f ≡ length rs
+  nodes = sym (length-row-words f (nodeCount f)) ∙ ap length er
+
+  counted : entryCount (rowsIn f) * 5 ≡ length ws
+  counted =
+      ap (λ n. n * 5) (sym (length-entries-at f (bodiesStart (nodeCount f)) (entryCount (rowsIn f))))
+      ∙ sym (length-words-of (entriesIn f))
+      ∙ ap length ew
+
+  sizes : (rows words : ℕ) → length rs ≤ rows → length ws ≤ words
+      → readAnswer f rows words ≡ gives (record { rows = length rs; entries = length ws / 5 })
+  sizes rows words hr hw =
+      read-filled f rows words ok (length rs) (length ws / 5) (sym nodes) (omega (arith, counted)) hr (omega (arith, counted))
+
+  filled : (oldRows oldWords : List ℕ) (a : Answer Sizes) (newRows newWords : List ℕ)
+      → length rs ≤ length oldRows → length ws ≤ length oldWords → ReadCall f oldRows oldWords a newRows newWords
+      → (a ≡ gives (record { rows = length rs; entries = length ws / 5 }))
+      × (newRows ≡ rs ++ drop (length rs) oldRows)
+      × (newWords ≡ ws ++ drop (length ws) oldWords)
+  filled oldRows oldWords a newRows newWords hr hw c =
+      let t = c .answer ∙ sizes (length oldRows) (length oldWords) hr hw in (
+        t,
+        c .rowsThere ∙ ap (λ o. left o (map rowWord (planIn f .rows)) oldRows) t ∙ ap (λ s. s ++ drop (length s) oldRows) er,
+        c .wordsThere ∙ ap (λ o. left o (wordsOf (planIn f .entries)) oldWords) t ∙ ap (λ s. s ++ drop (length s) oldWords) ew,
+      )
+
+-- What a call of the reader leaves is written again as the same file. That a file is one of bytes, the type of the slice
+-- says in a function's proof.
+pub written-again : (f rows words : List ℕ) (a : Answer Sizes) (rowsLeft wordsLeft : List ℕ) → Bytes f
+    → ReadCall f rows words a rowsLeft wordsLeft → WrittenAgain f a rowsLeft wordsLeft
+written-again f rows words (refuses r) rowsLeft wordsLeft b c = tt
+written-again f rows words (gives n) rowsLeft wordsLeft b c =
+    let g = read-given f _ _ n (c .answer) in
+    let m = read-write-memory f b (g .0) in
+    let en : n .rows ≡ length (map rowWord (rowsIn f)) = ap (λ (s : Sizes). s .rows) (g .2) ∙ sym (length-map (rowsIn f) rowWord) in
+    let ek : n .entries * 5 ≡ length (wordsOf (entriesIn f)) = ap (λ (s : Sizes). s .entries * 5) (g .2) ∙ sym (length-words-of (entriesIn f)) in
+    let er = c .rowsThere in
+    let ew = c .wordsThere in
+    λ old a new h w.
+    wrote (map rowWord (rowsIn f)) (wordsOf (entriesIn f)) f (m .0) (m .1) old a new h
+    (rw (er, front (map rowWord (rowsIn f)) rows (n .rows) en, ew, front (wordsOf (entriesIn f)) words (n .entries * 5) ek) at w)
+
+-- What a call of the writer leaves is read again as the same words. That words have 32 bits, the slices' types say.
+pub read-again : (rs ws file : List ℕ) (a : Answer ℕ) (fileLeft : List ℕ) → WordsFit rs → WordsFit ws
+    → WriteCall rs ws file a fileLeft → ReadAgain rs ws a fileLeft
+read-again rs ws file (refuses r) fileLeft hr hw c = tt
+read-again rs ws file (gives n) fileLeft hr hw c =
+    let g = write-given rs ws _ n (c .answer) in
+    let m = write-read-memory rs ws hr hw (g .0) in
+    let e = c .fileThere in
+    λ oldRows oldWords a newRows newWords lr lw t.
+    filled (encoding (planOf rs ws)) rs ws (m .0) (m .1) (m .2) oldRows oldWords a newRows newWords lr lw
+    (rw (e, front (encoding (planOf rs ws)) file n (g .2)) at t)
