@@ -1,24 +1,22 @@
 -- The map of a session is that of its node in a file.
-use Prim.Native.Nat.{ℕ, suc, _+_, _*_, _<_}
+use Prim.Native.Nat.{ℕ, zero, suc, _<_}
 use mathlib.Core.Path.{_≡_, _∙_, refl, ap}
 use mathlib.Core.List.{List, [], _∷_}
 use native.Mathlib.Omega.{arith}
 use lib.ListN.{length}
 use lib.Seq.{take-length}
-use borrow.Author.Tests.{le-leb, eq-eqb}
 use Rattle.task_model.specs.declared.Entry.{Entry}
 use Rattle.task_model.specs.Refusals.{accepted}
 use Rattle.task_model.specs.Limits.{Node, entryAt, EntryHolds, NodeHolds}
 use Rattle.task_model.specs.Words.{entryFrom}
-use Rattle.task_model.proofs.Laws.{sizes-true, length-entries, entry-of}
-use Rattle.task_model.proofs.Theorems.{entries-accepted}
+use Rattle.task_model.proofs.Laws.{length-entries, entry-of}
 use Rattle.plan_file.specs.Plan.{Plan, entryCount, EntryFits, EntriesFit, PlanFits}
 use Rattle.plan_file.specs.Encoding.{encoding}
 use Rattle.plan_file.specs.Decoding.{planIn, nodeCount}
-use Rattle.plan_file.specs.Check.{countTest, rowTest, rowsCheck, nodesCheck, handedCheck, fileCheck, planCheck}
+use Rattle.plan_file.specs.Check.{fileCheck, planCheck}
 use Rattle.plan_file.specs.Find.{rowIn, nodeOfRow, findCheck, nodeFound}
 use Rattle.plan_file.proofs.Contents.{length-rows}
-use Rattle.plan_file.proofs.Theorems.{write-read, accepted-exactly, finds, nodes-hold}
+use Rattle.plan_file.proofs.Theorems.{write-read, accepted-exactly, plan-limits, finds, nodes-hold}
 use Rattle.planner.specs.Mapping.{heldAnswer, heldBuffer, fileAnswer, fileBuffer}
 use Rattle.session.specs.declared.Session.{Session}
 use Rattle.session.specs.State.{nodeIn}
@@ -76,17 +74,28 @@ module _ (n : Node) (k : Kept n) (number : ℕ) (short : number < 65536) where
         entries = all-fit (n .entries) (λ j h. entry-fits _ (k .holds .each j h) (k .numbers j h));
       }
 
+  only-node : nodeOfRow (oneRow number n) 0 ≡ n
+  unfolding nodeOfRow entryCount
+  only-node = ap (λ es. record { levels = n .levels; entries = es }) (take-length (n .entries))
+
+  each-holds : (i : ℕ) → i < 1 → NodeHolds (nodeOfRow (oneRow number n) i)
+  each-holds zero h = rw only-node (k .holds)
+  each-holds (suc i) h = absurd (omega arith)
+
+  counted : entryCount (oneRow number n .rows) ≡ length (n .entries)
+  unfolding entryCount
+  counted = omega arith
+
   pub one-accepted : planCheck (oneRow number n) ≡ accepted
-  unfolding handedCheck rowsCheck countTest rowTest nodesCheck entryCount
   one-accepted =
-      let c : length (n .entries) * 5 ≡ (length (n .entries) + 0) * 5 = omega arith in
-      rw (
-        le-leb 0 number (omega arith),
-        sizes-true (n .levels) (length (n .entries)) (k .holds .someLevels) (k .holds .fewLevels) (k .holds .fewEntries),
-        eq-eqb (length (n .entries) * 5) ((length (n .entries) + 0) * 5) c,
-        take-length (n .entries),
-        entries-accepted 0 0 (n .entries) .1 (k .holds .each),
-      )
+      plan-limits (oneRow number n) .1
+      (record {
+        some = omega arith;
+        few = omega arith;
+        rising = λ i h. absurd (omega arith);
+        nodes = each-holds;
+        counts = counted;
+      })
 
   -- its file, whose only row has the node
   abbrev file : List ℕ
@@ -105,9 +114,7 @@ module _ (n : Node) (k : Kept n) (number : ℕ) (short : number < 65536) where
   one-number = ap (λ (p : Plan). rowIn (p .rows) 0 .number) one-plan
 
   pub one-node : nodeOfRow (planIn file) 0 ≡ n
-  unfolding nodeOfRow entryCount
-  one-node =
-      ap (λ (p : Plan). nodeOfRow p 0) one-plan ∙ ap (λ es. record { levels = n .levels; entries = es }) (take-length (n .entries))
+  one-node = ap (λ (p : Plan). nodeOfRow p 0) one-plan ∙ only-node
 
 -- what words hold has numbers of 16 bits
 pub kept-in : (s : Session) → NodeHolds (nodeIn s) → Kept (nodeIn s)
