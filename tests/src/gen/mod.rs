@@ -9,4 +9,6 @@ pub mod lent;
 pub mod odd;
 pub mod ops;
 pub mod parts;
+pub mod places;
 pub mod plans;
+pub mod sessions;
