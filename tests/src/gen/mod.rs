@@ -6,6 +6,7 @@ pub mod damage;
 pub mod entries;
 pub mod faults;
 pub mod lent;
+pub mod listings;
 pub mod odd;
 pub mod ops;
 pub mod parts;
