@@ -12,7 +12,7 @@ use crate::gen::budget;
 use crate::gen::buffers::known;
 use crate::listing;
 use crate::map::map_node;
-use crate::model::{Entry, Plan, Row};
+use crate::model::{Entry, Node, Plan, Row};
 use crate::refusal::{Refusal, BUFFER};
 use crate::tally::Tally;
 use crate::words::{self, ENTRY_WORDS};
@@ -106,8 +106,8 @@ pub fn list_into(tally: &mut Tally, file: &[u8], text: &[u8], room: usize) {
 
 /// Every call that takes a file, on any bytes.
 ///
-/// A plan whose tests would take long is neither mapped nor listed, but counted
-/// as left out.
+/// A node whose tests would take long is not mapped, and its plan not listed;
+/// the tally counts both.
 pub fn file(tally: &mut Tally, bytes: &[u8]) {
     match check(tally, bytes) {
         Ok(()) => plan(
@@ -140,24 +140,28 @@ fn plan(tally: &mut Tally, plan: &Plan, bytes: &[u8]) {
     for room in rooms(bytes.len()) {
         let _ = write(tally, &rows, &entries, room);
     }
+    for node in &plan.nodes {
+        let done = budget::fits(&node.entries);
+        tally.node(done);
+        if done {
+            maps(tally, node, bytes);
+        }
+    }
     let done = budget::plan_fits(plan);
     tally.plan(done);
     if done {
-        maps(tally, plan, bytes);
         list(tally, bytes);
     }
 }
 
-/// The map of each node, and of numbers that the plan may not have.
-fn maps(tally: &mut Tally, plan: &Plan, bytes: &[u8]) {
-    for node in &plan.nodes {
-        for room in rooms(node.entries.len()) {
-            map(tally, bytes, node.number, room);
-        }
-        for room in [0, 64] {
-            map(tally, bytes, node.number ^ 0x8000, room);
-            map(tally, bytes, node.number.wrapping_add(1), room);
-        }
+/// The map of a node of the file, and of numbers that the plan may not have.
+fn maps(tally: &mut Tally, node: &Node, bytes: &[u8]) {
+    for room in rooms(node.entries.len()) {
+        map(tally, bytes, node.number, room);
+    }
+    for room in [0, 64] {
+        map(tally, bytes, node.number ^ 0x8000, room);
+        map(tally, bytes, node.number.wrapping_add(1), room);
     }
 }
 

@@ -1,5 +1,5 @@
 //! What a run has met: how often each refusal number, how many maps, and how
-//! many plans were left out for their cost.
+//! many nodes and plans were left out for their cost.
 
 use crate::refusal::{Refusal, NO_MAP, NUMBERS};
 use std::fmt;
@@ -10,8 +10,10 @@ pub struct Tally {
     accepted: u64,
     refused: [u64; NUMBERS as usize],
     maps: u64,
+    nodes: u64,
+    unmapped: u64,
     plans: u64,
-    skipped: u64,
+    unlisted: u64,
 }
 
 impl Tally {
@@ -30,11 +32,18 @@ impl Tally {
         self.note(answer)
     }
 
-    /// Counts one accepted plan or session; `done` says whether it was mapped,
-    /// or left out for its cost.
+    /// Counts one good node; `done` says whether it was mapped, or left out for
+    /// its cost.
+    pub fn node(&mut self, done: bool) {
+        self.nodes += 1;
+        self.unmapped += u64::from(!done);
+    }
+
+    /// Counts one good plan; `done` says whether it was listed, or left out for
+    /// its cost.
     pub fn plan(&mut self, done: bool) {
         self.plans += 1;
-        self.skipped += u64::from(!done);
+        self.unlisted += u64::from(!done);
     }
 
     /// How often the number was met.
@@ -52,27 +61,21 @@ impl Tally {
         self.maps
     }
 
-    /// Accepted plans, those left out among them.
-    pub fn plans(&self) -> u64 {
-        self.plans
-    }
-
-    /// Accepted plans that were left out for their cost.
-    pub fn skipped(&self) -> u64 {
-        self.skipped
-    }
-
     /// Asserts that so many calls gave a map and so many had none.
     pub fn assert_maps(&self, maps: u64, none: u64) {
         assert!(self.maps >= maps && self.met(NO_MAP) >= none, "{self}");
     }
 
-    /// Asserts that at most one accepted plan in `whole` was left out.
-    pub fn assert_few_skipped(&self, whole: u64) {
-        assert!(
-            self.plans > 0 && self.skipped * whole <= self.plans,
-            "{self}"
-        );
+    /// Asserts that at most one node in `nodes` was not mapped, and one plan in
+    /// `plans` not listed, for their cost; with 0 none at all.
+    pub fn assert_few_left_out(&self, nodes: u64, plans: u64) {
+        let few = |left_out: u64, all: u64, whole: u64| match whole {
+            0 => left_out == 0,
+            _ => left_out * whole <= all,
+        };
+        assert!(self.nodes > 0, "{self}");
+        assert!(few(self.unmapped, self.nodes, nodes), "{self}");
+        assert!(few(self.unlisted, self.plans, plans), "{self}");
     }
 }
 
@@ -82,15 +85,14 @@ impl fmt::Display for Tally {
         for number in (1..=NUMBERS).filter(|&number| self.met(number) > 0) {
             write!(f, ", refused {number}: {}", self.met(number))?;
         }
-        let (maps, plans, skipped) = (self.maps, self.plans, self.skipped);
-        if maps > 0 {
-            write!(f, "; {maps} maps")?;
+        if self.maps > 0 {
+            write!(f, "; {} maps", self.maps)?;
         }
-        if plans > 0 {
-            write!(
-                f,
-                "; {plans} plans, {skipped} of them not mapped for their cost"
-            )?;
+        if self.nodes > 0 {
+            write!(f, "; {} of {} nodes not mapped", self.unmapped, self.nodes)?;
+        }
+        if self.plans > 0 {
+            write!(f, ", {} of {} plans not listed", self.unlisted, self.plans)?;
         }
         Ok(())
     }

@@ -47,7 +47,7 @@ impl Run {
         let op = family.change(rng, &held);
         held.apply(&op, &mut []).expect("the change is good");
         let fits = family.fits(held.entries());
-        self.tally.plan(fits);
+        self.tally.node(fits);
         if fits {
             both.step(&mut self.tally, &op, 0)
                 .expect("the change is good");
@@ -89,7 +89,7 @@ impl Run {
         self.tally.assert_maps(times(maps[0]), times(maps[1]));
         assert!(self.on_time >= times(timed[0]), "{}", self.on_time);
         assert!(self.late >= times(timed[1]), "{}", self.late);
-        self.tally.assert_few_skipped(whole);
+        self.tally.assert_few_left_out(whole, 0);
     }
 }
 
