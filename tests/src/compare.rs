@@ -106,8 +106,8 @@ pub fn list_into(tally: &mut Tally, file: &[u8], text: &[u8], room: usize) {
 
 /// Every call that takes a file, on any bytes.
 ///
-/// A node whose tests would take long is not mapped, and its plan not listed;
-/// the tally counts both.
+/// A node whose tests would take long is neither mapped nor listed; the tally
+/// counts it.
 pub fn file(tally: &mut Tally, bytes: &[u8]) {
     match check(tally, bytes) {
         Ok(()) => plan(
@@ -140,17 +140,17 @@ fn plan(tally: &mut Tally, plan: &Plan, bytes: &[u8]) {
     for room in rooms(bytes.len()) {
         let _ = write(tally, &rows, &entries, room);
     }
+    let mut short = Plan::default();
     for node in &plan.nodes {
         let done = budget::fits(&node.entries);
         tally.node(done);
         if done {
             maps(tally, node, bytes);
+            short.nodes.push(node.clone());
         }
     }
-    let done = budget::plan_fits(plan);
-    tally.plan(done);
-    if done {
-        list(tally, bytes);
+    if !short.nodes.is_empty() {
+        list(tally, &file::encode(&short).expect("a part of a good plan"));
     }
 }
 

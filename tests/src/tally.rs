@@ -1,5 +1,5 @@
 //! What a run has met: how often each refusal number, how many maps, and how
-//! many nodes and plans were left out for their cost.
+//! many nodes were left out for their cost.
 
 use crate::refusal::{Refusal, NO_MAP, NUMBERS};
 use std::fmt;
@@ -11,9 +11,7 @@ pub struct Tally {
     refused: [u64; NUMBERS as usize],
     maps: u64,
     nodes: u64,
-    unmapped: u64,
-    plans: u64,
-    unlisted: u64,
+    left_out: u64,
 }
 
 impl Tally {
@@ -36,14 +34,7 @@ impl Tally {
     /// its cost.
     pub fn node(&mut self, done: bool) {
         self.nodes += 1;
-        self.unmapped += u64::from(!done);
-    }
-
-    /// Counts one good plan; `done` says whether it was listed, or left out for
-    /// its cost.
-    pub fn plan(&mut self, done: bool) {
-        self.plans += 1;
-        self.unlisted += u64::from(!done);
+        self.left_out += u64::from(!done);
     }
 
     /// How often the number was met.
@@ -66,16 +57,17 @@ impl Tally {
         assert!(self.maps >= maps && self.met(NO_MAP) >= none, "{self}");
     }
 
-    /// Asserts that at most one node in `nodes` was not mapped, and one plan in
-    /// `plans` not listed, for their cost; with 0 none at all.
-    pub fn assert_few_left_out(&self, nodes: u64, plans: u64) {
-        let few = |left_out: u64, all: u64, whole: u64| match whole {
-            0 => left_out == 0,
-            _ => left_out * whole <= all,
-        };
-        assert!(self.nodes > 0, "{self}");
-        assert!(few(self.unmapped, self.nodes, nodes), "{self}");
-        assert!(few(self.unlisted, self.plans, plans), "{self}");
+    /// Asserts that at most one node in `whole` was left out for its cost.
+    pub fn assert_few_left_out(&self, whole: u64) {
+        assert!(
+            self.nodes > 0 && self.left_out * whole <= self.nodes,
+            "{self}"
+        );
+    }
+
+    /// Asserts that none was.
+    pub fn assert_none_left_out(&self) {
+        assert!(self.nodes > 0 && self.left_out == 0, "{self}");
     }
 }
 
@@ -89,10 +81,8 @@ impl fmt::Display for Tally {
             write!(f, "; {} maps", self.maps)?;
         }
         if self.nodes > 0 {
-            write!(f, "; {} of {} nodes not mapped", self.unmapped, self.nodes)?;
-        }
-        if self.plans > 0 {
-            write!(f, ", {} of {} plans not listed", self.unlisted, self.plans)?;
+            let (left_out, nodes) = (self.left_out, self.nodes);
+            write!(f, "; {left_out} of {nodes} nodes left out for their cost")?;
         }
         Ok(())
     }

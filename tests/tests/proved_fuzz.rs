@@ -17,12 +17,12 @@ fn a_short_run() {
     let (files, sessions) = (fuzz.tally(), fuzz.sessions());
     assert!(fuzz.kinds() > 400, "{}", fuzz.kinds());
     files.assert_maps(times(3_000), times(8_000));
-    files.assert_few_left_out(25, 3);
-    sessions.assert_maps(times(7_000), times(2_500));
+    files.assert_few_left_out(25);
+    sessions.assert_maps(times(6_000), times(4_000));
     for number in 1..=11 {
         assert!(files.met(number) >= times(500), "{number}: {files}");
     }
     for number in [4, 7, 8, 10, 11, 12, 13] {
-        assert!(sessions.met(number) >= times(300), "{number}: {sessions}");
+        assert!(sessions.met(number) >= times(250), "{number}: {sessions}");
     }
 }

@@ -23,7 +23,7 @@ fn compare_plans(part: u64, name: &str, count: u64, draw: fn(&mut Rng) -> Plan) 
     let plans = times(count);
     writeln!(std::io::stdout(), "\n{plans} plans, {name}: {tally}").expect("output is open");
     // The generators keep to the budget.
-    tally.assert_few_left_out(0, 0);
+    tally.assert_none_left_out();
     tally
 }
 

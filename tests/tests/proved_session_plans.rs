@@ -6,7 +6,7 @@ use oracle::gen::sessions::{Family, LIMITS, LONG, MANY, NEAR_ONE, STATION, TIGHT
 use oracle::lent::words_of;
 use oracle::options::{rng, times};
 use oracle::rng::Rng;
-use oracle::session::{Op, Reply, Session};
+use oracle::session::{Op, Reply};
 use oracle::tally::Tally;
 use oracle::timing::Timing;
 use std::io::Write;
@@ -61,9 +61,7 @@ fn compare_sessions(part: u64, count: u64, changes: u64, family: Family) -> Run 
     let mut rng = rng(part);
     let mut run = Run::default();
     for _ in 0..times(count) {
-        let node = family.node(&mut rng);
-        let held = Session::holding(usize::from(node.levels), &node.entries);
-        let mut both = Both::of(&words_of(&held.expect("generators give good nodes")));
+        let mut both = Both::of(&words_of(&family.session(&mut rng)));
         run.look(&mut rng, &mut both);
         for _ in 0..changes {
             run.change(&mut rng, &mut both, &family);
@@ -89,7 +87,7 @@ impl Run {
         self.tally.assert_maps(times(maps[0]), times(maps[1]));
         assert!(self.on_time >= times(timed[0]), "{}", self.on_time);
         assert!(self.late >= times(timed[1]), "{}", self.late);
-        self.tally.assert_few_left_out(whole, 0);
+        self.tally.assert_few_left_out(whole);
     }
 }
 

@@ -2,9 +2,12 @@
 //! somebody who tries what fits.
 
 use super::budget::{rounds_ceiling, ROUNDS};
+use super::ops::group;
 use super::plans;
+use crate::lent::words_of;
 use crate::model::{Entry, Node, Plan, MAX_ENTRIES, MAX_R, MAX_TICKS, TASK};
 use crate::rng::Rng;
+use crate::rows::Row;
 use crate::session::{Op, Session};
 
 /// Where the nodes of a session come from.
@@ -41,6 +44,9 @@ pub const NEAR_ONE: Family = Family {
     ..of("loads near 1", plans::near_one)
 };
 
+/// Every family.
+pub const FAMILIES: [Family; 7] = [WIDE, TIGHT, STATION, LONG, LIMITS, MANY, NEAR_ONE];
+
 impl Family {
     /// A node with at least one entry.
     pub fn node(&self, rng: &mut Rng) -> Node {
@@ -51,6 +57,33 @@ impl Family {
                 return node;
             }
         }
+    }
+
+    /// A session that holds such a node.
+    pub fn session(&self, rng: &mut Rng) -> Session {
+        let Node {
+            levels, entries, ..
+        } = self.node(rng);
+        Session::holding(usize::from(levels), &entries).expect("generators give good nodes")
+    }
+
+    /// A row of changes, maps and timings whose tests are all short enough.
+    pub fn row(&self, rng: &mut Rng) -> Row {
+        let mut held = self.session(rng);
+        let start = words_of(&held);
+        let mut ops = Vec::new();
+        for _ in 0..rng.range(1, 8) {
+            let mut changed = held.clone();
+            let op = self.change(rng, &held);
+            changed.apply(&op, &mut []).expect("the change is good");
+            if self.fits(changed.entries()) {
+                held = changed;
+                ops.push(op);
+            }
+            ops.push(group(rng, held.entries().len()));
+        }
+        ops.push(Op::Map);
+        Row { start, ops }
     }
 
     /// Whether the tests of these entries are short enough.
