@@ -147,6 +147,7 @@ fn long_buffers() {
                 (more, words),
                 (rows.len(), more.max(words)),
                 (more, 65_536),
+                (rows.len(), ENTRY_WORDS * 65_536),
                 (rows.len() - 1, 65_536),
                 (more, words - 1),
             ] {

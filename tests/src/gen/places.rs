@@ -26,8 +26,12 @@ pub fn row_faults(row: Row, last: Option<u16>) -> Vec<Row> {
     let levels = [0, 65, 66, 128, 255].map(|levels| Row { levels, ..row });
     let counts = [65, 66, 128, 192, 255].map(|entries| Row { entries, ..row });
     let numbers = last.into_iter().flat_map(|last| {
-        let high_only = last & 0xFF00;
-        [0, last, last - 1, high_only].map(|number| Row { number, ..row })
+        // The last of these has a low byte of 255, so one not below `last`'s.
+        let high = last & 0xFF00;
+        [0, last - 1, last, high, high.wrapping_sub(1)]
+            .into_iter()
+            .filter(move |&number| number <= last)
+            .map(|number| Row { number, ..row })
     });
     levels.into_iter().chain(counts).chain(numbers).collect()
 }
