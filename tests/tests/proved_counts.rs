@@ -81,21 +81,24 @@ fn one(entries: &[Entry]) -> Plan {
     }
 }
 
-/// Case P with zeros behind it: its own length, if that is cut.
+/// Plans with zeros behind them: their own lengths, if these are cut.
 #[test]
-fn case_p_padded() {
+fn padded_files() {
     let mut tally = Tally::default();
-    let p = cases::file(cases::p());
-    assert_eq!(p.len(), 76);
+    let full = full_plan(&mut rng(325));
+    let (p, full) = (cases::file(cases::p()), encode(&full).unwrap());
+    assert_eq!((p.len(), full.len()), (76, LONGEST));
     for more in [1, 256, 65_536, 131_072, 1 << 24] {
-        let mut file = p.clone();
-        file.resize(p.len() + more, 0);
-        let due = Refusal::plain(LENGTH);
-        assert_eq!(compare::check(&mut tally, &file), Err(due), "{more} more");
-        compare::read(&mut tally, &file, 1, 15);
-        compare::map(&mut tally, &file, 7, 3);
-        compare::list(&mut tally, &file);
-        assert_eq!(list(&file), format!("{due}\n"));
+        for (file, number) in [(&p, 7), (&full, 100)] {
+            let mut file = file.clone();
+            file.resize(file.len() + more, 0);
+            let due = Refusal::plain(LENGTH);
+            assert_eq!(compare::check(&mut tally, &file), Err(due), "{more} more");
+            compare::read(&mut tally, &file, MAX_NODES, 10_240);
+            compare::map(&mut tally, &file, number, MAX_ENTRIES);
+            compare::list(&mut tally, &file);
+            assert_eq!(list(&file), format!("{due}\n"));
+        }
     }
 }
 
@@ -219,8 +222,8 @@ const TICKS: [u64; 12] = [
     MAX_TICKS - 1,
     MAX_TICKS,
     MAX_TICKS + 1,
-    1 << 30,
-    1 << 31,
+    (1 << 30) + 1,
+    (1 << 31) + 1,
     u32::MAX as u64,
 ];
 

@@ -4,7 +4,9 @@
 use oracle::compare;
 use oracle::compare::session::Both;
 use oracle::file::{body_end, contents_end, encode, LONGEST};
+use oracle::gen::damage::{damage, AIMS};
 use oracle::gen::lent::sound;
+use oracle::gen::parts::{damage_parts, PART_AIMS};
 use oracle::gen::places::{
     entry_faults, full_plan, offset_faults, put_entry, put_words, row_faults, with_offset, with_row,
 };
@@ -12,7 +14,7 @@ use oracle::lent::{session_in, Words};
 use oracle::model::{Entry, Plan, Row, MAX_ENTRIES, MAX_NODES};
 use oracle::options::{rng, times};
 use oracle::refusal::{Refusal, LENGTH, OFFSET, ROW};
-use oracle::session::Op;
+use oracle::session::{Op, Reply};
 use oracle::tally::Tally;
 use std::io::Write;
 
@@ -118,6 +120,33 @@ fn two_faulty_entries_of_a_file() {
     }
 }
 
+/// Faults of any two kinds, anywhere in the longest plan, in a file and for the
+/// writer.
+#[test]
+fn two_faults_of_any_kind() {
+    let (mut rng, mut tally) = (rng(309), Tally::default());
+    let plan = full_plan(&mut rng);
+    for a in AIMS {
+        for b in AIMS {
+            for _ in 0..times(5) {
+                let damaged = damage(&mut rng, &plan, &[a, b]);
+                let answer = compare::check(&mut tally, &damaged.file);
+                assert_eq!(answer, Err(damaged.due), "{a:?} {b:?}");
+            }
+        }
+    }
+    for a in PART_AIMS {
+        for b in PART_AIMS {
+            for _ in 0..times(5) {
+                let parts = damage_parts(&mut rng, &plan, &[a, b]);
+                let answer = compare::write(&mut tally, &parts.rows, &parts.entries, parts.room);
+                assert_eq!(answer, Err(parts.due), "{a:?} {b:?}");
+            }
+        }
+    }
+    say("two faults of any kind", &tally);
+}
+
 /// The writer refuses these rows and entries, and names the place.
 fn assert_not_written(tally: &mut Tally, rows: &[Row], entries: &[Entry], due: Refusal) {
     let answer = compare::write(tally, rows, entries, LONGEST);
@@ -197,22 +226,29 @@ fn a_fault_in_every_entry_of_a_session() {
             assert_no_session(&mut tally, &faulty, due);
             // A session with fewer entries has nothing there.
             faulty[1] = position as u32;
-            assert!(Both::of(&faulty)
-                .step(&mut tally, &Op::SetLevels(3), 0)
-                .is_ok());
-        }
-    }
-    for (word, wrong) in [0, 1]
-        .into_iter()
-        .zip([[0, 65, 257, 1 << 16 | 1], [65, 66, 257, 1 << 16 | 1]])
-    {
-        for value in wrong {
-            let mut faulty = words;
-            faulty[word] = value;
-            assert_no_session(&mut tally, &faulty, Refusal::at_row(ROW, 0));
+            let answer = Both::of(&faulty).step(&mut tally, &Op::SetLevels(3), 0);
+            assert_eq!(answer, Ok(Reply::Changed), "{position}");
         }
     }
     say("a fault in every entry of a session", &tally);
+}
+
+/// Counts of levels and of entries that are too large, some of them good if
+/// they are cut.
+#[test]
+fn a_fault_in_the_counts_of_a_full_session() {
+    let (mut rng, mut tally) = (rng(326), Tally::default());
+    let words = sound(&mut rng, MAX_ENTRIES);
+    for word in [0, 1] {
+        for wrong in [65, 66, 128, 257, 1 << 16 | 1, 1 << 24 | 64, u32::MAX] {
+            let mut faulty = words;
+            faulty[word] = wrong;
+            assert_no_session(&mut tally, &faulty, Refusal::at_row(ROW, 0));
+        }
+    }
+    let mut faulty = words;
+    faulty[0] = 0;
+    assert_no_session(&mut tally, &faulty, Refusal::at_row(ROW, 0));
 }
 
 /// Good and faulty entries inserted and replaced at every position, and every
