@@ -12,7 +12,7 @@ use crate::gen::budget;
 use crate::gen::buffers::known;
 use crate::listing;
 use crate::map::map_node;
-use crate::model::{Entry, Plan, Row};
+use crate::model::{Entry, Node, Plan, Row};
 use crate::refusal::{Refusal, BUFFER};
 use crate::tally::Tally;
 use crate::words::{self, ENTRY_WORDS};
@@ -52,7 +52,12 @@ pub fn read(tally: &mut Tally, file: &[u8], row_room: usize, word_room: usize) {
 }
 
 /// Writing rows and entries into so many bytes.
-pub fn write(tally: &mut Tally, rows: &[Row], entries: &[Entry], room: usize) {
+pub fn write(
+    tally: &mut Tally,
+    rows: &[Row],
+    entries: &[Entry],
+    room: usize,
+) -> Result<usize, Refusal> {
     let mut due_buffer = known(room);
     let due = tally.note(file::write(rows, entries, &mut due_buffer));
     let mut buffer = known(room);
@@ -63,12 +68,13 @@ pub fn write(tally: &mut Tally, rows: &[Row], entries: &[Entry], room: usize) {
     );
     assert_eq!(answer, due, "{room} bytes: {rows:?} {entries:?}");
     assert_eq!(buffer, due_buffer, "{room} bytes: {rows:?} {entries:?}");
+    due
 }
 
 /// Mapping the node with a number into so many bytes.
 pub fn map(tally: &mut Tally, file: &[u8], number: u16, room: usize) {
     let mut due_buffer = known(room);
-    let due = tally.note(map_node(file, u64::from(number), &mut due_buffer));
+    let due = tally.note_map(map_node(file, u64::from(number), &mut due_buffer));
     let mut buffer = known(room);
     let answer = ffi::map(file, number, &mut buffer);
     let lent = || format!("{room} bytes: map of {number} in {}", hex(file));
@@ -80,26 +86,28 @@ pub fn map(tally: &mut Tally, file: &[u8], number: u16, room: usize) {
 pub fn list(tally: &mut Tally, file: &[u8]) {
     let text = listing::list(file).into_bytes();
     for room in rooms(text.len()) {
-        let due = tally.note(match text.len() <= room {
-            true => Ok(text.len()),
-            false => Err(Refusal::plain(BUFFER)),
-        });
-        let mut buffer = known(room);
-        let answer = ffi::list(file, &mut buffer);
-        let lent = || format!("{room} bytes: listing of {}", hex(file));
-        assert_eq!(answer, due, "{}", lent());
-        let written = if due.is_ok() {
-            text.clone()
-        } else {
-            Vec::new()
-        };
-        assert_eq!(buffer, begun(written, known(room)), "{}", lent());
+        list_into(tally, file, &text, room);
     }
+}
+
+/// The listing of a file, which is `text`, into so many bytes.
+pub fn list_into(tally: &mut Tally, file: &[u8], text: &[u8], room: usize) {
+    let due = tally.note(match text.len() <= room {
+        true => Ok(text.len()),
+        false => Err(Refusal::plain(BUFFER)),
+    });
+    let mut buffer = known(room);
+    let answer = ffi::list(file, &mut buffer);
+    let lent = || format!("{room} bytes: listing of {}", hex(file));
+    assert_eq!(answer, due, "{}", lent());
+    let written = text[..due.unwrap_or(0)].to_vec();
+    assert_eq!(buffer, begun(written, known(room)), "{}", lent());
 }
 
 /// Every call that takes a file, on any bytes.
 ///
-/// A plan whose tests would take long is neither mapped nor listed.
+/// A node whose tests would take long is neither mapped nor listed; the tally
+/// counts it.
 pub fn file(tally: &mut Tally, bytes: &[u8]) {
     match check(tally, bytes) {
         Ok(()) => plan(
@@ -125,25 +133,36 @@ fn refused_file(tally: &mut Tally, bytes: &[u8]) {
 fn plan(tally: &mut Tally, plan: &Plan, bytes: &[u8]) {
     let (rows, entries) = (plan.rows(), plan.entries());
     for row_room in rooms(rows.len()) {
-        read(tally, bytes, row_room, entries.len() * ENTRY_WORDS);
-    }
-    for word_room in rooms(entries.len() * ENTRY_WORDS) {
-        read(tally, bytes, rows.len(), word_room);
+        for word_room in rooms(entries.len() * ENTRY_WORDS) {
+            read(tally, bytes, row_room, word_room);
+        }
     }
     for room in rooms(bytes.len()) {
-        write(tally, &rows, &entries, room);
+        let _ = write(tally, &rows, &entries, room);
     }
-    if !plan.nodes.iter().all(|node| budget::fits(&node.entries)) {
-        return;
-    }
+    let mut short = Plan::default();
     for node in &plan.nodes {
-        for room in rooms(node.entries.len()) {
-            map(tally, bytes, node.number, room);
+        let done = budget::fits(&node.entries);
+        tally.node(done);
+        if done {
+            maps(tally, node, bytes);
+            short.nodes.push(node.clone());
         }
-        map(tally, bytes, node.number ^ 0x8000, 64);
-        map(tally, bytes, node.number.wrapping_add(1), 64);
     }
-    list(tally, bytes);
+    if !short.nodes.is_empty() {
+        list(tally, &file::encode(&short).expect("a part of a good plan"));
+    }
+}
+
+/// The map of a node of the file, and of numbers that the plan may not have.
+fn maps(tally: &mut Tally, node: &Node, bytes: &[u8]) {
+    for room in rooms(node.entries.len()) {
+        map(tally, bytes, node.number, room);
+    }
+    for room in [0, 64] {
+        map(tally, bytes, node.number ^ 0x8000, room);
+        map(tally, bytes, node.number.wrapping_add(1), room);
+    }
 }
 
 /// What is written from the start, and what was there beyond.

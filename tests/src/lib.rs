@@ -11,8 +11,9 @@
 //! - [`cases`] has its cases, [`gen`] generated ones, with
 //!   [`options`] for the seed and the size of a run.
 //! - [`ffi`] calls the proved library, with [`words`] as it takes plans, and
-//!   [`compare`] holds its answers against those of this one. [`plain`] is what
-//!   its speed is measured against.
+//!   [`compare`] holds its answers against those of this one, [`fuzz`] on
+//!   random files and rows of operations. [`plain`] is what its speed is
+//!   measured against.
 
 #![deny(unsafe_code)]
 #![warn(missing_docs)]
@@ -24,6 +25,7 @@ pub mod corpus;
 #[allow(unsafe_code)]
 pub mod ffi;
 pub mod file;
+pub mod fuzz;
 pub mod gen;
 pub mod lent;
 pub mod limits;

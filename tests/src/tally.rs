@@ -1,6 +1,7 @@
-//! How often each refusal number is met.
+//! What a run has met: how often each refusal number, how many maps, and how
+//! many nodes were left out for their cost.
 
-use crate::refusal::{Refusal, NUMBERS};
+use crate::refusal::{Refusal, NO_MAP, NUMBERS};
 use std::fmt;
 
 /// Counts of accepted and refused calls.
@@ -8,6 +9,9 @@ use std::fmt;
 pub struct Tally {
     accepted: u64,
     refused: [u64; NUMBERS as usize],
+    maps: u64,
+    nodes: u64,
+    left_out: u64,
 }
 
 impl Tally {
@@ -20,6 +24,19 @@ impl Tally {
         answer
     }
 
+    /// Counts the answer of a call that maps, and hands it back.
+    pub fn note_map<T>(&mut self, answer: Result<T, Refusal>) -> Result<T, Refusal> {
+        self.maps += u64::from(answer.is_ok());
+        self.note(answer)
+    }
+
+    /// Counts one good node; `done` says whether it was mapped, or left out for
+    /// its cost.
+    pub fn node(&mut self, done: bool) {
+        self.nodes += 1;
+        self.left_out += u64::from(!done);
+    }
+
     /// How often the number was met.
     pub fn met(&self, number: u8) -> u64 {
         self.refused[usize::from(number) - 1]
@@ -29,13 +46,43 @@ impl Tally {
     pub fn accepted(&self) -> u64 {
         self.accepted
     }
+
+    /// How often a call gave a map.
+    pub fn maps(&self) -> u64 {
+        self.maps
+    }
+
+    /// Asserts that so many calls gave a map and so many had none.
+    pub fn assert_maps(&self, maps: u64, none: u64) {
+        assert!(self.maps >= maps && self.met(NO_MAP) >= none, "{self}");
+    }
+
+    /// Asserts that at most one node in `whole` was left out for its cost.
+    pub fn assert_few_left_out(&self, whole: u64) {
+        assert!(
+            self.nodes > 0 && self.left_out * whole <= self.nodes,
+            "{self}"
+        );
+    }
+
+    /// Asserts that none was.
+    pub fn assert_none_left_out(&self) {
+        assert!(self.nodes > 0 && self.left_out == 0, "{self}");
+    }
 }
 
 impl fmt::Display for Tally {
     fn fmt(&self, f: &mut fmt::Formatter<'_>) -> fmt::Result {
         write!(f, "accepted {}", self.accepted)?;
-        for number in 1..=NUMBERS {
+        for number in (1..=NUMBERS).filter(|&number| self.met(number) > 0) {
             write!(f, ", refused {number}: {}", self.met(number))?;
+        }
+        if self.maps > 0 {
+            write!(f, "; {} maps", self.maps)?;
+        }
+        if self.nodes > 0 {
+            let (left_out, nodes) = (self.left_out, self.nodes);
+            write!(f, "; {left_out} of {nodes} nodes left out for their cost")?;
         }
         Ok(())
     }

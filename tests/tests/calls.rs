@@ -1,11 +1,12 @@
 //! The order of the checks of a call, and what a refused call leaves.
 
 use oracle::cases;
+use oracle::ffi;
 use oracle::file::encode;
 use oracle::gen::buffers::known;
 use oracle::gen::damage::{damage, AIMS};
 use oracle::gen::plans;
-use oracle::map::{map_entries, map_node};
+use oracle::map::map_node;
 use oracle::model::{Entry, Plan};
 use oracle::options::{rng, times};
 use oracle::refusal::{Refusal, BUFFER, FULL, KIND, NO_MAP, NO_NODE, POSITION, TICKS};
@@ -42,29 +43,27 @@ fn mapping_a_file_checks_file_then_9_10_11() {
 #[test]
 fn mapping_fills_from_the_start_and_keeps_the_rest() {
     let mut rng = rng(81);
-    let mut mapped = 0;
+    let (mut mapped, mut none) = (0, 0);
     for _ in 0..times(500) {
         let plan = plans::small(&mut rng);
         let file = encode(&plan).unwrap();
         for node in &plan.nodes {
             let count = node.entries.len();
-            let map = map_entries(&node.entries, node.levels);
+            // Into an exact buffer, by the proved library.
+            let mut levels = known(count);
+            let due = ffi::map(&file, node.number, &mut levels);
             for room in [count, count + 5] {
                 let mut buffer = known(room);
                 let answer = map_node(&file, u64::from(node.number), &mut buffer);
-                let Some(map) = &map else {
-                    assert_eq!(answer, Err(Refusal::plain(NO_MAP)));
-                    assert_eq!(buffer, known(room));
-                    continue;
-                };
-                assert_eq!(answer, Ok(map.used));
-                assert_eq!(buffer[..count], map.levels);
+                assert_eq!(answer.map(usize::from), due);
+                assert_eq!(buffer[..count], levels);
                 assert_eq!(buffer[count..], known(room)[count..]);
-                mapped += 1;
+                mapped += u64::from(due.is_ok());
+                none += u64::from(due == Err(Refusal::plain(NO_MAP)));
             }
         }
     }
-    assert!(mapped > times(300), "{mapped}");
+    assert!(mapped > times(300) && none > times(300), "{mapped} {none}");
 }
 
 #[test]

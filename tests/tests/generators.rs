@@ -4,15 +4,17 @@ use oracle::file::encode;
 use oracle::gen::budget::{fits, rounds_ceiling, ROUNDS};
 use oracle::gen::entries::{self, wide_passes_after_narrow};
 use oracle::gen::plans;
+use oracle::gen::sessions::{LONG, MANY};
 use oracle::map::map_entries;
-use oracle::model::{Entry, Node, Plan, MAX_TICKS};
+use oracle::model::{Entry, Node, Plan, MAX_R, MAX_TICKS, SECTION};
 use oracle::options::{rng, times};
 use oracle::rng::Rng;
 use oracle::timing::completion;
+use std::io::Write;
 
 type Draw = fn(&mut Rng) -> Plan;
 
-const ALL: [(&str, Draw); 8] = [
+const ALL: [(&str, Draw); 10] = [
     ("small", plans::small),
     ("wide", plans::wide),
     ("tight", plans::tight),
@@ -21,6 +23,8 @@ const ALL: [(&str, Draw); 8] = [
     ("many nodes", plans::many_nodes),
     ("longest", plans::longest),
     ("at limits", plans::at_limits),
+    ("13 to 64 entries", plans::many_entries),
+    ("long periods", plans::long_periods),
 ];
 
 fn drawn(part: u64, count: u64, draw: Draw) -> Vec<Plan> {
@@ -154,4 +158,48 @@ fn counts_and_numbers_reach_their_ends() {
     ] {
         assert!(nodes(&plans).any(what));
     }
+}
+
+/// Sessions hold long lists with blocking and remote sections, and long
+/// periods.
+#[test]
+fn sessions_hold_what_plans_do() {
+    let mut rng = rng(126);
+    let nodes: Vec<Node> = (0..times(50)).map(|_| MANY.node(&mut rng)).collect();
+    assert!(nodes.iter().all(|n| (13..=64).contains(&n.entries.len())));
+    let many: Vec<Entry> = nodes.into_iter().flat_map(|n| n.entries).collect();
+    let long: Vec<Entry> = (0..times(50))
+        .flat_map(|_| LONG.node(&mut rng).entries)
+        .collect();
+    let met = |all: &[Entry], what: fn(&Entry) -> bool| all.iter().filter(|e| what(e)).count();
+    for count in [
+        met(&many, |e| e.b > 0 && e.r > 0),
+        met(&many, |e| e.b > 0 && e.r == MAX_R),
+        met(&many, |e| e.kind == SECTION),
+        met(&long, |e| e.t > 1 << 20 && e.r == MAX_R),
+        met(&long, |e| e.t > 1 << 20 && e.b > 1 << 20),
+        met(&long, |e| e.t == MAX_TICKS),
+    ] {
+        assert!(count as u64 >= times(5), "{count}");
+    }
+}
+
+/// Of the draws at the limits, fewer than three in five are dropped for their
+/// cost.
+#[test]
+fn few_draws_are_dropped() {
+    let mut rng = rng(127);
+    let (drawn, mut dropped) = (times(1_000), 0);
+    for _ in 0..drawn {
+        let count = rng.count(1, 6);
+        dropped += entries::at_limits_counted(&mut rng, count).1;
+    }
+    // Written past the harness, which keeps what passing tests print.
+    let all = drawn + dropped;
+    writeln!(
+        std::io::stdout(),
+        "\n{dropped} of {all} draws at the limits dropped"
+    )
+    .unwrap();
+    assert!(dropped * 5 < all * 3, "{dropped} of {all}");
 }

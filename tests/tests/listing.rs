@@ -1,14 +1,16 @@
 //! The listing, byte for byte.
 
 use oracle::cases::{self, P_LISTING};
+use oracle::ffi;
 use oracle::file::{encode, LONGEST};
 use oracle::gen::damage::{damage, AIMS};
 use oracle::gen::plans;
+use oracle::lent::words_of;
 use oracle::listing::{list, MAX_INPUT};
-use oracle::map::map_node;
 use oracle::model::{Entry, Node, Plan};
 use oracle::options::{rng, times};
-use oracle::timing::{completion_in_group, Timing};
+use oracle::session::Session;
+use oracle::timing::Timing;
 
 fn numbered(number: u16, node: Node) -> Node {
     Node { number, ..node }
@@ -100,19 +102,20 @@ fn longest_input_and_one_byte_more() {
     assert_eq!(LONGEST, 41_224);
 }
 
-/// A node's lines, put together from the other calls.
+/// A node's lines, put together from other calls of the proved library.
 fn node_lines(file: &[u8], node: &Node) -> Vec<String> {
     let (number, available) = (node.number, node.levels);
     let mut levels = vec![0; node.entries.len()];
-    let Ok(used) = map_node(file, u64::from(number), &mut levels) else {
+    let Ok(used) = ffi::map(file, number, &mut levels) else {
         return vec![format!("node {number} no map")];
     };
+    let held = Session::holding(usize::from(available), &node.entries).expect("a good node");
+    let session = ffi::session::Session::of(&words_of(&held));
     let mut lines = vec![format!("node {number} levels {used} of {available}")];
     for (i, (entry, level)) in node.entries.iter().zip(&levels).enumerate() {
         let first = levels.iter().position(|other| other == level).unwrap();
         let last = levels.iter().rposition(|other| other == level).unwrap();
-        let timing = completion_in_group(&node.entries, first, last, i);
-        let Timing::OnTime { time, rounds } = timing else {
+        let Ok(Timing::OnTime { time, rounds }) = session.time(first, last, i) else {
             panic!("an entry of a map is late");
         };
         let number = entry.number;
@@ -126,6 +129,7 @@ fn node_lines(file: &[u8], node: &Node) -> Vec<String> {
 #[test]
 fn listings_say_what_the_other_calls_say() {
     let mut rng = rng(140);
+    let (mut mapped, mut none) = (0, 0);
     for round in 0..times(400) {
         let plan = match round % 20 {
             0 => plans::station(&mut rng),
@@ -138,7 +142,10 @@ fn listings_say_what_the_other_calls_say() {
         let mut lines = vec![format!("plan {}", plan.nodes.len())];
         lines.extend(plan.nodes.iter().flat_map(|node| node_lines(&file, node)));
         assert_eq!(list(&file), lines.join("\n") + "\n");
+        mapped += lines.iter().filter(|line| line.contains(" of ")).count() as u64;
+        none += lines.iter().filter(|line| line.ends_with("no map")).count() as u64;
     }
+    assert!(mapped > times(300) && none > times(200), "{mapped} {none}");
 }
 
 #[test]

@@ -105,6 +105,8 @@ fn one_byte_changed_at_every_place_to_every_value() {
         }
     }
     say("one byte changed", &tally);
+    tally.assert_maps(60_000, 8_000);
+    tally.assert_few_left_out(1_000);
 }
 
 #[test]
@@ -119,6 +121,8 @@ fn random_bytes_behind_a_good_head() {
         compare::file(&mut tally, &file);
     }
     say("random bytes", &tally);
+    tally.assert_maps(times(2_500), times(4_000));
+    tally.assert_few_left_out(100);
 }
 
 #[test]

@@ -22,48 +22,69 @@ fn compare_plans(part: u64, name: &str, count: u64, draw: fn(&mut Rng) -> Plan) 
     // Written past the harness, which keeps what passing tests print.
     let plans = times(count);
     writeln!(std::io::stdout(), "\n{plans} plans, {name}: {tally}").expect("output is open");
+    // The generators keep to the budget.
+    tally.assert_none_left_out();
     tally
 }
 
 #[test]
 fn small() {
     let tally = compare_plans(200, "small", 10_000, plans::small);
-    assert!(tally.met(11) > times(100));
+    tally.assert_maps(times(20_000), times(20_000));
 }
 
 #[test]
 fn wide() {
-    compare_plans(201, "wide after narrow", 2_000, plans::wide);
+    let tally = compare_plans(201, "wide after narrow", 2_000, plans::wide);
+    tally.assert_maps(times(3_000), times(2_400));
 }
 
 #[test]
 fn tight() {
-    compare_plans(202, "tight deadlines", 3_000, plans::tight);
+    let tally = compare_plans(202, "tight deadlines", 3_000, plans::tight);
+    tally.assert_maps(times(3_000), times(5_000));
 }
 
 #[test]
 fn stations() {
-    compare_plans(203, "stations", 300, plans::station);
+    let tally = compare_plans(203, "stations", 300, plans::station);
+    tally.assert_maps(times(3_500), times(3_500));
 }
 
 #[test]
 fn full_nodes() {
-    compare_plans(204, "64 entries", 300, plans::full_node);
+    let tally = compare_plans(204, "64 entries", 300, plans::full_node);
+    tally.assert_maps(times(90), times(280));
 }
 
 #[test]
 fn many_nodes() {
-    compare_plans(205, "32 nodes", 600, plans::many_nodes);
+    let tally = compare_plans(205, "32 nodes", 600, plans::many_nodes);
+    tally.assert_maps(times(16_000), times(18_000));
 }
 
 #[test]
 fn longest() {
-    compare_plans(206, "32 nodes of 64 entries", 5, plans::longest);
+    let tally = compare_plans(206, "32 nodes of 64 entries", 5, plans::longest);
+    tally.assert_maps(times(80), times(80));
 }
 
 #[test]
 fn at_limits() {
-    compare_plans(207, "at the limits", 3_000, plans::at_limits);
+    let tally = compare_plans(207, "at the limits", 3_000, plans::at_limits);
+    tally.assert_maps(times(2_400), times(11_000));
+}
+
+#[test]
+fn long_periods() {
+    let tally = compare_plans(209, "long periods", 500, plans::long_periods);
+    tally.assert_maps(times(700), times(650));
+}
+
+#[test]
+fn many_entries() {
+    let tally = compare_plans(317, "13 to 64 entries", 200, plans::many_entries);
+    tally.assert_maps(times(100), times(130));
 }
 
 #[test]

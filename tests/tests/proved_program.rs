@@ -5,11 +5,13 @@
 use oracle::cases;
 use oracle::file::encode;
 use oracle::gen::damage::{damage, AIMS};
+use oracle::gen::listings::long_listing;
 use oracle::gen::plans;
 use oracle::listing::list;
 use oracle::options::{rng, times};
 use oracle::programs::{root, run};
 use oracle::rng::Rng;
+use std::path::PathBuf;
 use std::time::Duration;
 
 /// The file in pieces of up to `most` bytes.
@@ -23,8 +25,12 @@ fn pieces<'a>(rng: &mut Rng, mut file: &'a [u8], most: usize) -> Vec<&'a [u8]> {
     pieces
 }
 
+fn program() -> PathBuf {
+    root().join("target/bin/list_plan")
+}
+
 fn assert_listed(pieces: &[&[u8]], pause: Duration) {
-    let (text, ended) = run(&root().join("target/bin/list_plan"), pieces, pause);
+    let (text, ended) = run(&program(), pieces, pause);
     assert!(ended);
     let due = list(&pieces.concat());
     assert_eq!(String::from_utf8_lossy(&text), due);
@@ -42,11 +48,7 @@ fn samples() {
         }
         let file = std::fs::read(&plan).unwrap();
         let due = std::fs::read(plan.with_extension("txt")).unwrap();
-        let (text, ended) = run(
-            &root().join("target/bin/list_plan"),
-            &[&file],
-            Duration::ZERO,
-        );
+        let (text, ended) = run(&program(), &[&file], Duration::ZERO);
         assert!(ended, "{}", plan.display());
         assert!(text == due, "{}", plan.display());
         seen += 1;
@@ -81,6 +83,23 @@ fn the_longest_plan() {
     assert_listed(&pieces(&mut rng, &file, 5_000), Duration::ZERO);
 }
 
+/// Listings of 3,000 to 97,000 bytes, longer than a pipe takes at once, each
+/// written whole.
+#[test]
+fn long_listings() {
+    let mut longest = 0;
+    for nodes in 1..=32 {
+        let file = encode(&long_listing(nodes)).unwrap();
+        let due = list(&file);
+        let (text, ended) = run(&program(), &[&file], Duration::ZERO);
+        assert!(ended, "{nodes} nodes");
+        assert_eq!(text.len(), due.len(), "{nodes} nodes");
+        assert!(text == due.as_bytes(), "{nodes} nodes");
+        longest = longest.max(text.len());
+    }
+    assert!(longest > 96_000, "{longest} bytes");
+}
+
 #[test]
 fn damaged_files() {
     let mut rng = rng(232);
@@ -106,7 +125,9 @@ fn a_byte_at_a_time() {
 #[test]
 fn long_input() {
     let mut rng = rng(233);
-    for length in [41_224, 41_225, 65_535, 65_536, 65_537, 65_538, 500_000] {
+    for length in [
+        41_224, 41_225, 65_535, 65_536, 65_537, 65_538, 65_612, 500_000,
+    ] {
         let p = cases::file(cases::p());
         let mut opening = p.clone();
         opening[0] = 0;
@@ -114,7 +135,10 @@ fn long_input() {
         offset[12] = 17;
         let mut kind = p.clone();
         kind[18] = 3;
-        for mut file in [p, opening, offset, kind] {
+        let full = encode(&long_listing(32)).unwrap();
+        let mut last_offset = full.clone();
+        last_offset[8 + 31 * 8 + 6] ^= 1;
+        for mut file in [p, opening, offset, kind, full, last_offset] {
             file.resize(length, 0);
             assert_listed(&pieces(&mut rng, &file, 9_000), Duration::ZERO);
         }

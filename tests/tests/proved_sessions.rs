@@ -56,6 +56,7 @@ fn short_sessions() {
         assert!(tally.met(number) > times(100), "{number}: {tally}");
     }
     assert!(tally.accepted() > times(10_000), "{tally}");
+    tally.assert_maps(times(12_000), times(2_500));
 }
 
 #[test]
@@ -70,6 +71,7 @@ fn full_sessions() {
     for number in [7, 8, 10, 11, 12, 13] {
         assert!(tally.met(number) > times(20), "{number}: {tally}");
     }
+    tally.assert_maps(times(200), times(150));
 }
 
 /// From opening until the list is full, without the map of each step.
@@ -86,6 +88,7 @@ fn sessions_that_fill_up() {
         }
     }
     say("sessions that fill up", &tally);
+    tally.assert_maps(times(250), 0);
 }
 
 /// Memory that no operation has made is checked first, and only opening mends
@@ -103,6 +106,7 @@ fn memory_from_elsewhere() {
         walk(&mut rng, &mut tally, &mut both, Course::Short, 3);
     }
     say("memory from elsewhere", &tally);
+    tally.assert_maps(times(2_800), times(700));
     for number in [4, 7, 8] {
         assert!(tally.met(number) > times(1_000), "{number}: {tally}");
     }

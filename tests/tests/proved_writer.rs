@@ -24,7 +24,8 @@ fn assert_due(rng: &mut Rng, tally: &mut Tally, aims: &[PartAim]) {
     let answer = ffi::write(&rows, &entries, &mut buffer);
     assert_eq!(answer, Err(parts.due), "{aims:?} in {plan:?}");
     assert_eq!(buffer, known(parts.room));
-    compare::write(tally, &parts.rows, &parts.entries, parts.room);
+    let due = compare::write(tally, &parts.rows, &parts.entries, parts.room);
+    assert_eq!(due, Err(parts.due));
 }
 
 #[test]

@@ -1,11 +1,10 @@
 //! Rows of session operations against a plain list of changes.
 
 use oracle::cases;
-use oracle::file::encode;
+use oracle::ffi;
 use oracle::gen::buffers::{known, room};
 use oracle::gen::ops::{levels, next_op, Course};
-use oracle::map::map_node;
-use oracle::model::{Entry, Node, Plan};
+use oracle::model::Entry;
 use oracle::options::{rng, times};
 use oracle::refusal::Refusal;
 use oracle::rng::Rng;
@@ -24,15 +23,10 @@ fn changed(entries: &[Entry], op: &Op) -> Vec<Entry> {
     }
 }
 
-/// The same node in a file, mapped from there.
+/// The same node in a file, mapped from there by the proved library.
 fn mapped_from_file(session: &Session, buffer: &mut [u8]) -> Result<u8, Refusal> {
-    let node = Node {
-        number: 7,
-        levels: session.levels(),
-        entries: session.entries().to_vec(),
-    };
-    let file = encode(&Plan { nodes: vec![node] }).expect("a session holds a good node");
-    map_node(&file, 7, buffer)
+    let file = cases::file(cases::node(session.levels(), session.entries()));
+    ffi::map(&file, 7, buffer).map(|used| used as u8)
 }
 
 fn step(rng: &mut Rng, session: &mut Session, course: Course, tally: &mut Tally) {
@@ -40,10 +34,18 @@ fn step(rng: &mut Rng, session: &mut Session, course: Course, tally: &mut Tally)
     let before = session.clone();
     let lent = known(room(rng, before.entries().len()));
     let mut buffer = lent.clone();
-    let answer = tally.note(session.apply(&op, &mut buffer));
+    let answer = session.apply(&op, &mut buffer);
+    let answer = match op {
+        Op::Map => tally.note_map(answer),
+        _ => tally.note(answer),
+    };
     let Ok(reply) = answer else {
         assert_eq!(*session, before, "{op:?}");
         assert_eq!(buffer, lent, "{op:?}");
+        if op == Op::Map {
+            let from_file = mapped_from_file(session, &mut buffer);
+            assert_eq!(from_file.err(), answer.err());
+        }
         return;
     };
     assert_eq!(session.entries(), changed(before.entries(), &op));
@@ -90,6 +92,7 @@ fn short_sessions() {
         assert!(tally.met(number) > times(50), "{tally}");
     }
     assert!(tally.accepted() > times(5_000), "{tally}");
+    tally.assert_maps(times(100), times(100));
 }
 
 #[test]

@@ -1,6 +1,6 @@
 //! Keeps generated tests short: the rounds of a test may grow with D.
 
-use crate::model::Entry;
+use crate::model::{Entry, Plan};
 
 /// Most rounds that a generated test may take.
 pub const ROUNDS: u64 = 4_000;
@@ -18,13 +18,21 @@ pub fn fits(entries: &[Entry]) -> bool {
     rounds_ceiling(entries) <= ROUNDS
 }
 
-/// Draws until the entries keep within the budget.
-pub fn draw_fitting(mut draw: impl FnMut() -> Vec<Entry>) -> Vec<Entry> {
+/// Whether this holds of each node of the plan.
+pub fn plan_fits(plan: &Plan) -> bool {
+    plan.nodes.iter().all(|node| fits(&node.entries))
+}
+
+/// Draws until the entries keep within the budget; the number says how many
+/// draws did not.
+pub fn draw_fitting(mut draw: impl FnMut() -> Vec<Entry>) -> (Vec<Entry>, u64) {
+    let mut dropped = 0;
     loop {
         let entries = draw();
         if fits(&entries) {
-            return entries;
+            return (entries, dropped);
         }
+        dropped += 1;
     }
 }
 

@@ -52,6 +52,12 @@ pub fn realistic(rng: &mut Rng, count: usize) -> Vec<Entry> {
     loaded(rng, count, base, &PERIODS)
 }
 
+/// The same with periods of up to 1,000,000,000.
+pub fn long_periods(rng: &mut Rng, count: usize) -> Vec<Entry> {
+    let base = rng.pick(&[100_000, 1_000_000, 10_000_000]);
+    loaded(rng, count, base, &PERIODS)
+}
+
 /// Many entries, with periods close enough for short tests.
 pub fn many(rng: &mut Rng, count: usize) -> Vec<Entry> {
     loaded(rng, count, 10_000, &PERIODS[..7])
@@ -91,6 +97,11 @@ pub fn light(rng: &mut Rng, count: usize) -> Vec<Entry> {
 
 /// Numbers at both ends of the limits.
 pub fn at_limits(rng: &mut Rng, count: usize) -> Vec<Entry> {
+    at_limits_counted(rng, count).0
+}
+
+/// The same, with the number of draws that were dropped for their cost.
+pub fn at_limits_counted(rng: &mut Rng, count: usize) -> (Vec<Entry>, u64) {
     let periods: &[u64] = rng.pick(&[
         &[1, 2, 3][..],
         &[MAX_TICKS, MAX_TICKS - 1],

@@ -3,6 +3,7 @@
 use super::entries;
 use super::faults::{break_kind, break_ticks};
 use super::lent::{damaged, sound};
+use super::sessions::FAMILIES;
 use crate::lent::{apply, session_in};
 use crate::model::{Entry, MAX_LEVELS};
 use crate::rng::Rng;
@@ -39,8 +40,13 @@ pub fn next_op(rng: &mut Rng, session: &Session, course: Course) -> Op {
     }
 }
 
-/// A row of operations on a blank, short, full or damaged session.
+/// A row of operations on a blank, short, full or damaged session, or on one
+/// that holds a node of a plan.
 pub fn row(rng: &mut Rng) -> Row {
+    if rng.chance(1, 3) {
+        let family = rng.pick(&FAMILIES);
+        return family.row(rng);
+    }
     let (start, course) = match rng.below(4) {
         0 => ([0; 322], Course::Short),
         1 => (sound(rng, 4), Course::Short),

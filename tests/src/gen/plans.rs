@@ -1,6 +1,6 @@
 //! Whole plans.
 
-use super::entries;
+use super::{entries, odd};
 use crate::model::{Entry, Node, Plan, MAX_ENTRIES, MAX_NODES};
 use crate::rng::Rng;
 
@@ -72,6 +72,35 @@ pub fn full_node(rng: &mut Rng) -> Plan {
             entries
         }
     })
+}
+
+/// One node of 13 to 64 entries with blocking and remote sections, some with
+/// deadlines at completion times.
+pub fn many_entries(rng: &mut Rng) -> Plan {
+    plan(rng, 1, |rng| {
+        let count = rng.count(13, MAX_ENTRIES);
+        let entries = entries::many(rng, count);
+        if rng.chance(1, 2) {
+            entries::tighten(rng, entries)
+        } else {
+            entries
+        }
+    })
+}
+
+/// A few nodes with usual periods of up to 1,000,000,000.
+pub fn long_periods(rng: &mut Rng) -> Plan {
+    let nodes = rng.count(1, 3);
+    plan(rng, nodes, |rng| {
+        let count = rng.count(3, 20);
+        entries::long_periods(rng, count)
+    })
+}
+
+/// One node with a load just below, at or just above 1; its tests may take
+/// more rounds than the others' plans.
+pub fn near_one(rng: &mut Rng) -> Plan {
+    plan(rng, 1, odd::near_one)
 }
 
 /// 32 nodes, each with few entries, or none.

@@ -1,0 +1,162 @@
+//! Random files and rows of session operations, one after the other, held
+//! against the second implementation.
+//!
+//! Files that get an answer of a new kind are changed further.
+
+use crate::compare;
+use crate::corpus;
+use crate::file::{check, decode, encode};
+use crate::gen::budget;
+use crate::gen::ops::row;
+use crate::gen::plans;
+use crate::listing::list;
+use crate::mutate::mutate;
+use crate::rng::Rng;
+use crate::tally::Tally;
+use std::collections::HashSet;
+use std::fmt;
+use std::panic::{self, AssertUnwindSafe};
+
+/// Most files that are kept for further changes.
+const MOST: usize = 300;
+
+/// A run, with what it has met.
+#[derive(Clone, Debug)]
+pub struct Fuzz {
+    rng: Rng,
+    pool: Vec<Vec<u8>>,
+    kinds: HashSet<String>,
+    files: u64,
+    rows: u64,
+    tally: Tally,
+    sessions: Tally,
+}
+
+/// On what the implementations differ: how the name of such a file ends, and
+/// its contents.
+#[derive(Clone, Debug)]
+pub struct Difference {
+    /// `plan` or `session`.
+    pub end: &'static str,
+    /// A plan file, or a row of session operations as text.
+    pub contents: Vec<u8>,
+}
+
+impl Fuzz {
+    /// A run that starts with the kept files and a few of some generators.
+    pub fn new(mut rng: Rng) -> Fuzz {
+        let mut pool = corpus::kept();
+        for draw in [plans::small, plans::wide, plans::tight, plans::at_limits] {
+            for _ in 0..5 {
+                pool.push(encode(&draw(&mut rng)).expect("a good plan"));
+            }
+        }
+        Fuzz {
+            rng,
+            pool,
+            kinds: HashSet::new(),
+            files: 0,
+            rows: 0,
+            tally: Tally::default(),
+            sessions: Tally::default(),
+        }
+    }
+
+    /// One file, and now and then a row of session operations before it.
+    pub fn step(&mut self) -> Result<(), Difference> {
+        if self.rng.chance(1, 10) {
+            self.row()?;
+        }
+        self.file()
+    }
+
+    /// Files so far.
+    pub fn files(&self) -> u64 {
+        self.files
+    }
+
+    /// Rows of session operations so far.
+    pub fn rows(&self) -> u64 {
+        self.rows
+    }
+
+    /// Different kinds of answers so far.
+    pub fn kinds(&self) -> usize {
+        self.kinds.len()
+    }
+
+    /// What the files met.
+    pub fn tally(&self) -> &Tally {
+        &self.tally
+    }
+
+    /// What the rows met.
+    pub fn sessions(&self) -> &Tally {
+        &self.sessions
+    }
+
+    fn row(&mut self) -> Result<(), Difference> {
+        let row = row(&mut self.rng);
+        self.rows += 1;
+        let tally = &mut self.sessions;
+        let compared = panic::catch_unwind(AssertUnwindSafe(|| compare::session::row(tally, &row)));
+        compared.map_err(|_| Difference {
+            end: "session",
+            contents: row.to_text().into_bytes(),
+        })
+    }
+
+    fn file(&mut self) -> Result<(), Difference> {
+        let (one, other) = (
+            self.rng.index(self.pool.len()),
+            self.rng.index(self.pool.len()),
+        );
+        let file = mutate(&mut self.rng, &self.pool[one], &self.pool[other]);
+        self.files += 1;
+        let tally = &mut self.tally;
+        let compared = panic::catch_unwind(AssertUnwindSafe(|| compare::file(tally, &file)));
+        if compared.is_err() {
+            return Err(Difference {
+                end: "plan",
+                contents: file,
+            });
+        }
+        if self.kinds.insert(kind(&file)) {
+            self.keep(file);
+        }
+        Ok(())
+    }
+
+    /// A full pool forgets any other file.
+    fn keep(&mut self, file: Vec<u8>) {
+        if self.pool.len() < MOST {
+            self.pool.push(file);
+        } else {
+            let at = self.rng.index(self.pool.len());
+            self.pool[at] = file;
+        }
+    }
+}
+
+impl fmt::Display for Fuzz {
+    fn fmt(&self, f: &mut fmt::Formatter<'_>) -> fmt::Result {
+        let (files, kinds, rows) = (self.files, self.kinds.len(), self.rows);
+        writeln!(f, "{files} files, {kinds} kinds of answers: {}", self.tally)?;
+        write!(f, "{rows} rows of session operations: {}", self.sessions)
+    }
+}
+
+/// What tells two answers apart for the pool: the refusal with its places, or
+/// of each node the levels used.
+fn kind(file: &[u8]) -> String {
+    if let Err(refusal) = check(file) {
+        return refusal.to_string();
+    }
+    if !budget::plan_fits(&decode(file).expect("the file was accepted")) {
+        return "long".to_string();
+    }
+    let text = list(file);
+    let nodes = text.lines().filter(|line| line.starts_with("node"));
+    let used = nodes.map(|line| line.split(' ').nth(3).unwrap_or(""));
+    used.collect::<Vec<&str>>().join(" ")
+}

@@ -1,0 +1,40 @@
+//! Plans with long listings.
+
+use crate::model::{Entry, Node, Plan, MAX_ENTRIES, MAX_TICKS};
+use crate::timing::{completion_in_group, Timing};
+
+/// So many nodes of 64 entries, each on a level of its own: numbers of five
+/// digits, times of nine, and mostly levels of two and rounds of three.
+pub fn long_listing(nodes: u16) -> Plan {
+    let entries = one_a_level();
+    let nodes = (0..nodes)
+        .map(|row| Node {
+            number: 65_000 + row,
+            levels: 64,
+            entries: entries.clone(),
+        })
+        .collect();
+    Plan { nodes }
+}
+
+/// The first entry takes nine tenths of the time, so that each further test
+/// takes many rounds. Each deadline is the completion time on a level of its
+/// own, so that no two entries can share one.
+fn one_a_level() -> Vec<Entry> {
+    let mut entries = vec![Entry::task(65_001, 9, 10, 10)];
+    for number in 65_002..65_001 + MAX_ENTRIES as u16 {
+        let run = if entries.len() == 1 {
+            10_000_000
+        } else {
+            1_400_000
+        };
+        entries.push(Entry::task(number, run, MAX_TICKS, MAX_TICKS));
+    }
+    for i in 1..MAX_ENTRIES {
+        let Timing::OnTime { time, .. } = completion_in_group(&entries, i, i, i) else {
+            unreachable!("ten times the runs are less than a period");
+        };
+        entries[i].d = time;
+    }
+    entries
+}

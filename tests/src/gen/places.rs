@@ -1,0 +1,107 @@
+//! Single faults at a named place of a full plan or a full session.
+
+use super::entries;
+use crate::file::{contents_end, encode, entry_bytes, ENTRY_BYTES};
+use crate::lent::Words;
+use crate::model::{Entry, Node, Plan, Row, MAX_ENTRIES, MAX_NODES, MAX_R, MAX_TICKS, SECTION};
+use crate::refusal::{KIND, TICKS};
+use crate::rng::Rng;
+use crate::words::{entry_words, ENTRY_WORDS};
+
+/// 32 nodes of 64 entries, whose numbers pass from one byte to two and whose
+/// low bytes fall now and then.
+pub fn full_plan(rng: &mut Rng) -> Plan {
+    let nodes = (0..MAX_NODES as u16)
+        .map(|row| Node {
+            number: 100 + 83 * row,
+            levels: rng.byte(1, 64),
+            entries: entries::light(rng, MAX_ENTRIES),
+        })
+        .collect();
+    Plan { nodes }
+}
+
+/// A row with each fault that 4 is for; `last` is the number before it.
+pub fn row_faults(row: Row, last: Option<u16>) -> Vec<Row> {
+    let levels = [0, 65, 66, 128, 255].map(|levels| Row { levels, ..row });
+    let counts = [65, 66, 128, 192, 255].map(|entries| Row { entries, ..row });
+    let numbers = last.into_iter().flat_map(|last| {
+        // The last of these has a low byte of 255, so one not below `last`'s.
+        let high = last & 0xFF00;
+        [0, last - 1, last, high, high.wrapping_sub(1)]
+            .into_iter()
+            .filter(move |&number| number <= last)
+            .map(|number| Row { number, ..row })
+    });
+    levels.into_iter().chain(counts).chain(numbers).collect()
+}
+
+/// Wrong offsets: every bit changed, a neighbour, an entry and a node further.
+pub fn offset_faults(required: u32) -> Vec<u32> {
+    let bits = (0..32).map(|bit| required ^ 1 << bit);
+    let near = [required - 1, required + 1, required + 20, required + 1_280];
+    bits.chain(near).chain([0, u32::MAX]).collect()
+}
+
+/// An entry with each fault that 7 or 8 is for, and the number.
+pub fn entry_faults(entry: Entry) -> Vec<(Entry, u8)> {
+    let top = MAX_TICKS + 1;
+    let kinds = [0, 3, 255].map(|kind| Entry { kind, ..entry });
+    let calls = [MAX_R + 1, 255].map(|r| Entry { r, ..entry });
+    let section = Entry {
+        r: 1,
+        kind: SECTION,
+        ..entry
+    };
+    let ticks = [
+        Entry { c: 0, ..entry },
+        Entry {
+            c: entry.d + 1,
+            ..entry
+        },
+        Entry {
+            d: entry.t + 1,
+            ..entry
+        },
+        Entry { t: top, ..entry },
+        Entry {
+            t: top,
+            d: top,
+            ..entry
+        },
+        Entry { b: top, ..entry },
+    ];
+    let kinds = kinds.into_iter().chain(calls).chain([section]);
+    let kinds = kinds.map(|entry| (entry, KIND));
+    kinds.chain(ticks.map(|entry| (entry, TICKS))).collect()
+}
+
+/// The plan's file with another row at an index; its offset stays.
+pub fn with_row(plan: &Plan, index: usize, row: &Row) -> Vec<u8> {
+    let mut file = encode(plan).expect("only good plans are changed");
+    let at = contents_end(index);
+    file[at..at + 2].copy_from_slice(&row.number.to_le_bytes());
+    file[at + 2] = row.levels;
+    file[at + 3] = row.entries;
+    file
+}
+
+/// The plan's file with another offset in the row at an index.
+pub fn with_offset(plan: &Plan, index: usize, offset: u32) -> Vec<u8> {
+    let mut file = encode(plan).expect("only good plans are changed");
+    let at = contents_end(index) + 4;
+    file[at..at + 4].copy_from_slice(&offset.to_le_bytes());
+    file
+}
+
+/// Puts an entry into the file of a full plan.
+pub fn put_entry(file: &mut [u8], row: usize, position: usize, entry: &Entry) {
+    let at = contents_end(MAX_NODES) + (row * MAX_ENTRIES + position) * ENTRY_BYTES;
+    file[at..at + ENTRY_BYTES].copy_from_slice(&entry_bytes(entry));
+}
+
+/// Puts an entry into the words of a session.
+pub fn put_words(words: &mut Words, position: usize, entry: &Entry) {
+    let at = 2 + position * ENTRY_WORDS;
+    words[at..at + ENTRY_WORDS].copy_from_slice(&entry_words(entry));
+}

@@ -1,0 +1,28 @@
+//! A short fuzz run of a fixed length, from the fixed seed.
+
+use oracle::fuzz::Fuzz;
+use oracle::options::{rng, times};
+use std::io::Write;
+
+#[test]
+fn a_short_run() {
+    let mut fuzz = Fuzz::new(rng(251));
+    while fuzz.files() < times(12_000) {
+        if let Err(difference) = fuzz.step() {
+            panic!("after {} files: {difference:?}", fuzz.files());
+        }
+    }
+    // Written past the harness, which keeps what passing tests print.
+    writeln!(std::io::stdout(), "\n{fuzz}").expect("output is open");
+    let (files, sessions) = (fuzz.tally(), fuzz.sessions());
+    assert!(fuzz.kinds() > 400, "{}", fuzz.kinds());
+    files.assert_maps(times(3_000), times(8_000));
+    files.assert_few_left_out(25);
+    sessions.assert_maps(times(6_000), times(4_000));
+    for number in 1..=11 {
+        assert!(files.met(number) >= times(500), "{number}: {files}");
+    }
+    for number in [4, 7, 8, 10, 11, 12, 13] {
+        assert!(sessions.met(number) >= times(250), "{number}: {sessions}");
+    }
+}

@@ -1,0 +1,136 @@
+//! The proved library's sessions with the nodes of the plans' generators: after
+//! each change the map and some timings, against the second implementation.
+
+use oracle::compare::session::Both;
+use oracle::gen::sessions::{Family, LIMITS, LONG, MANY, NEAR_ONE, STATION, TIGHT, WIDE};
+use oracle::lent::words_of;
+use oracle::options::{rng, times};
+use oracle::rng::Rng;
+use oracle::session::{Op, Reply};
+use oracle::tally::Tally;
+use oracle::timing::Timing;
+use std::io::Write;
+
+/// What a run has met.
+#[derive(Default)]
+struct Run {
+    tally: Tally,
+    on_time: u64,
+    late: u64,
+    most_rounds: u64,
+}
+
+impl Run {
+    /// The map, and some entries timed in some groups.
+    fn look(&mut self, rng: &mut Rng, both: &mut Both) {
+        both.map(&mut self.tally, rng);
+        let len = both.session().expect("it is held").entries().len();
+        for _ in 0..4 {
+            let mut places = [rng.index(len), rng.index(len), rng.index(len)];
+            places.sort();
+            let op = Op::Time(places[0], places[2], places[1]);
+            let reply = both.step(&mut self.tally, &op, 0);
+            let Ok(Reply::Timed(timing)) = reply else {
+                panic!("{op:?} answered {reply:?}");
+            };
+            self.most_rounds = self.most_rounds.max(timing.rounds());
+            match timing {
+                Timing::OnTime { .. } => self.on_time += 1,
+                Timing::Late { .. } => self.late += 1,
+            }
+        }
+    }
+
+    /// One change, left out where the tests of what it leaves would take long.
+    fn change(&mut self, rng: &mut Rng, both: &mut Both, family: &Family) {
+        let mut held = both.session().expect("it is held");
+        let op = family.change(rng, &held);
+        held.apply(&op, &mut []).expect("the change is good");
+        let fits = family.fits(held.entries());
+        self.tally.node(fits);
+        if fits {
+            both.step(&mut self.tally, &op, 0)
+                .expect("the change is good");
+            self.look(rng, both);
+        }
+    }
+}
+
+/// So many sessions of a family, each changed so many times.
+fn compare_sessions(part: u64, count: u64, changes: u64, family: Family) -> Run {
+    let mut rng = rng(part);
+    let mut run = Run::default();
+    for _ in 0..times(count) {
+        let mut both = Both::of(&words_of(&family.session(&mut rng)));
+        run.look(&mut rng, &mut both);
+        for _ in 0..changes {
+            run.change(&mut rng, &mut both, &family);
+        }
+    }
+    // Written past the harness, which keeps what passing tests print.
+    let Run {
+        tally,
+        on_time,
+        late,
+        most_rounds,
+    } = &run;
+    let name = family.name;
+    let timed = format!("{on_time} on time, {late} late, at most {most_rounds} rounds");
+    writeln!(std::io::stdout(), "\nsessions, {name}: {timed}; {tally}").expect("output is open");
+    run
+}
+
+impl Run {
+    /// At least so many maps and calls without one, and so many entries on
+    /// time and late; at most one change in `whole` was left out.
+    fn assert_least(&self, maps: [u64; 2], timed: [u64; 2], whole: u64) {
+        self.tally.assert_maps(times(maps[0]), times(maps[1]));
+        assert!(self.on_time >= times(timed[0]), "{}", self.on_time);
+        assert!(self.late >= times(timed[1]), "{}", self.late);
+        self.tally.assert_few_left_out(whole);
+    }
+}
+
+#[test]
+fn wide() {
+    let run = compare_sessions(310, 200, 6, WIDE);
+    run.assert_least([700, 1_200], [2_500, 1_200], 100);
+}
+
+#[test]
+fn tight() {
+    let run = compare_sessions(311, 200, 6, TIGHT);
+    run.assert_least([400, 1_300], [1_400, 2_000], 10);
+}
+
+#[test]
+fn stations() {
+    let run = compare_sessions(312, 200, 6, STATION);
+    run.assert_least([500, 800], [2_200, 1_300], 20);
+}
+
+#[test]
+fn long_periods() {
+    let run = compare_sessions(313, 200, 6, LONG);
+    run.assert_least([450, 900], [2_200, 1_300], 20);
+}
+
+#[test]
+fn at_limits() {
+    let run = compare_sessions(314, 300, 6, LIMITS);
+    run.assert_least([400, 2_000], [1_400, 3_500], 6);
+    assert!(run.most_rounds > 100, "{}", run.most_rounds);
+}
+
+#[test]
+fn many_entries() {
+    let run = compare_sessions(315, 100, 6, MANY);
+    run.assert_least([120, 300], [900, 900], 50);
+}
+
+#[test]
+fn near_one() {
+    let run = compare_sessions(316, 600, 6, NEAR_ONE);
+    run.assert_least([1_400, 3_600], [6_000, 4_000], 8);
+    assert!(run.most_rounds > 100, "{}", run.most_rounds);
+}

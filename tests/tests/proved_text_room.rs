@@ -1,0 +1,70 @@
+//! The listing in buffers of about 115,625 bytes, from which on the library
+//! writes straight into them: the text stands at the start, and the bytes
+//! beyond it are kept.
+
+use oracle::cases;
+use oracle::compare;
+use oracle::file::encode;
+use oracle::gen::listings::long_listing;
+use oracle::gen::plans;
+use oracle::listing::list;
+use oracle::options::{rng, times};
+use oracle::tally::Tally;
+
+/// Bytes that suffice for every listing.
+const MOST_TEXT: usize = 115_625;
+
+/// Into a buffer a byte too short, an exact one, and long ones.
+fn assert_kept(tally: &mut Tally, file: &[u8]) {
+    let text = list(file).into_bytes();
+    let rooms = [
+        text.len() - 1,
+        text.len(),
+        MOST_TEXT - 1,
+        MOST_TEXT,
+        MOST_TEXT + 1,
+        2 * MOST_TEXT,
+    ];
+    for room in rooms {
+        compare::list_into(tally, file, &text, room);
+    }
+}
+
+#[test]
+fn short_texts() {
+    let mut tally = Tally::default();
+    for node in [cases::p(), cases::f(), cases::e()] {
+        assert_kept(&mut tally, &cases::file(node));
+    }
+    let mut refused = cases::file(cases::p());
+    refused[18] = 3;
+    assert_kept(&mut tally, &refused);
+    assert_kept(&mut tally, &[]);
+    refused.resize(70_000, 0);
+    assert_kept(&mut tally, &refused);
+}
+
+#[test]
+fn long_texts() {
+    let mut tally = Tally::default();
+    for nodes in [1, 16, 31, 32] {
+        assert_kept(&mut tally, &encode(&long_listing(nodes)).unwrap());
+    }
+    let longest = list(&encode(&long_listing(32)).unwrap());
+    assert!(
+        (96_000..MOST_TEXT).contains(&longest.len()),
+        "{}",
+        longest.len()
+    );
+}
+
+#[test]
+fn generated_plans() {
+    let (mut rng, mut tally) = (rng(330), Tally::default());
+    for draw in [plans::small, plans::wide, plans::station, plans::many_nodes] {
+        for _ in 0..times(20) {
+            assert_kept(&mut tally, &encode(&draw(&mut rng)).unwrap());
+        }
+    }
+    assert_eq!(tally.met(10), times(80));
+}
