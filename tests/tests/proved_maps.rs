@@ -11,6 +11,7 @@ use oracle::model::{Entry, MAX_TICKS};
 use oracle::options::{rng, times};
 use oracle::rng::Rng;
 use oracle::tally::Tally;
+use oracle::timing::{completion, Timing};
 use std::io::Write;
 
 /// What was met of some nodes.
@@ -134,6 +135,27 @@ fn a_group_of_64() {
         }
     }
     assert_eq!(tally.accepted(), 3 * times(10));
+}
+
+/// In a group of 64 the last entry alone is late, by one tick.
+#[test]
+fn late_by_the_64th_entry() {
+    let (mut rng, mut tally) = (rng(316), Tally::default());
+    for _ in 0..times(10) {
+        let mut entries = blocks(&mut rng, 64, 1);
+        let time = match completion(&entries, &[1; 64], 63) {
+            Timing::OnTime { time, .. } => time,
+            late => panic!("the block is a map: {late:?}"),
+        };
+        entries[63].d = time - 1;
+        assert!((0..63).all(|i| completion(&entries, &[1; 64], i).is_on_time()));
+        for levels in [1, 2, 64] {
+            let file = cases::file(cases::node(levels, &entries));
+            compare::map(&mut tally, &file, 7, 64);
+            compare::list(&mut tally, &file);
+        }
+    }
+    assert!(tally.met(11) >= times(10), "{tally}");
 }
 
 /// 64 entries with the longest run, and with the longest runs that still leave

@@ -11,7 +11,7 @@ use crate::timing::{completion_in_group, Timing};
 pub fn just_late(rng: &mut Rng, early: u64) -> Vec<Entry> {
     let long = rng.range(6, 9);
     let mut periods = vec![2, 3, 7, 43];
-    let mut next = 1_806 * long + long * rng.range(50, 250);
+    let mut next = 1_806 * long + long * rng.range(50, 180);
     for _ in 0..long {
         periods.push(next);
         next += rng.range(1, 90);

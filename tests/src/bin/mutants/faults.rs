@@ -66,8 +66,9 @@ impl Lines for [&str] {
     }
 }
 
-/// Every kept fault whose name has this part, list by list.
-pub fn kept(part: &str) -> Vec<Fault> {
+/// Every kept fault, or those whose names have one of these parts, list by
+/// list.
+pub fn kept(parts: &[String]) -> Vec<Fault> {
     let folder = root().join("tests/mutants");
     let mut lists: Vec<PathBuf> = fs::read_dir(&folder)
         .expect("tests/mutants can be read")
@@ -84,7 +85,8 @@ pub fn kept(part: &str) -> Vec<Fault> {
             fault.name
         );
     }
-    faults.retain(|fault| fault.name.contains(part));
+    let any = parts.is_empty();
+    faults.retain(|fault| any || parts.iter().any(|part| fault.name.contains(part)));
     faults
 }
 

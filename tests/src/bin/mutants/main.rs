@@ -2,7 +2,7 @@
 //! tests that notice them.
 //!
 //! A fault that no test notices is a place that the tests do not reach. The
-//! faults are kept in tests/mutants; the argument, if there is one, is a part
+//! faults are kept in tests/mutants; the arguments, if there are any, are parts
 //! of the names of those to try. Each is made in a copy under tests/target,
 //! which links the library and runs the program that are proved already. The
 //! exit status is 0 exactly if each is noticed, but for those that are marked
@@ -18,10 +18,10 @@ use run::{Suite, Verdict};
 use std::process::ExitCode;
 
 fn main() -> ExitCode {
-    let only = std::env::args().nth(1).unwrap_or_default();
+    let only: Vec<String> = std::env::args().skip(1).collect();
     let faults = faults::kept(&only);
     if faults.is_empty() {
-        println!("no fault has '{only}' in its name");
+        println!("no fault has '{}' in its name", only.join(" "));
         return ExitCode::FAILURE;
     }
     let copy = Copy::new();
@@ -38,6 +38,7 @@ fn main() -> ExitCode {
             return ExitCode::FAILURE;
         }
     };
+    println!("{} faults; without a fault every test passes", faults.len());
     try_all(&copy, &suite, &faults)
 }
 

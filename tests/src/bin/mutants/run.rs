@@ -29,39 +29,36 @@ impl Verdict {
     }
 }
 
-/// The names of all tests but those inside the second implementation, and how
-/// long a run may take.
+/// The tests of one file, and how long they take.
+struct Part {
+    names: Vec<String>,
+    comparing: bool,
+    time: Duration,
+}
+
+/// All tests but those inside the second implementation.
 pub struct Suite {
-    comparing: Vec<String>,
-    others: Vec<String>,
-    limit: Duration,
+    parts: Vec<Part>,
 }
 
 impl Suite {
-    /// The tests of the copy, which must pass before a fault is made.
+    /// The tests of the copy, which must pass before a fault is made. Those
+    /// that ask the proved library or program come first, and of these the
+    /// ones that take the least time.
     pub fn without_a_fault(copy: &Copy) -> Result<Suite, String> {
         let program = build(copy, &["--test", "all"])?;
-        let listed = Command::new(&program)
-            .arg("--list")
-            .output()
-            .expect("the tests can be listed");
-        let text = String::from_utf8_lossy(&listed.stdout).into_owned();
-        let names = text.lines().filter_map(|line| line.strip_suffix(": test"));
-        let (comparing, others) = names.map(str::to_string).partition(|name| {
-            let file = name.split("::").next().unwrap_or("");
-            copy.comparing.iter().any(|known| known == file)
-        });
-        let mut suite = Suite {
-            comparing,
-            others,
-            limit: Duration::from_secs(3_600),
-        };
-        let begun = Instant::now();
-        match suite.verdict(copy) {
-            Verdict::Unnoticed => {
-                suite.limit = 4 * begun.elapsed() + Duration::from_secs(60);
-                Ok(suite)
+        let mut parts = parts(copy, &program);
+        for part in &mut parts {
+            let begun = Instant::now();
+            if let Some(test) = first_failing(copy, &program, part) {
+                return Err(format!("{test} fails"));
             }
+            part.time = begun.elapsed();
+        }
+        parts.sort_by_key(|part| (!part.comparing, part.time));
+        let suite = Suite { parts };
+        match suite.inside(copy) {
+            Verdict::Unnoticed => Ok(suite),
             verdict => Err(verdict.failing()),
         }
     }
@@ -73,45 +70,84 @@ impl Suite {
             Ok(program) => program,
             Err(why) => return Verdict::Unbuilt(why),
         };
-        if let Some(test) = self.first_failing(copy, &program, &self.comparing) {
-            return Verdict::Noticed(test);
+        for part in &self.parts {
+            if let Some(test) = first_failing(copy, &program, part) {
+                return match part.comparing {
+                    true => Verdict::Noticed(test),
+                    false => alone(&test),
+                };
+            }
         }
-        let alone = |test| Verdict::Noticed(format!("{test}, without the proved library"));
-        if let Some(test) = self.first_failing(copy, &program, &self.others) {
-            return alone(test);
-        }
+        self.inside(copy)
+    }
+
+    /// What the tests inside the second implementation say.
+    fn inside(&self, copy: &Copy) -> Verdict {
+        let all = Part {
+            names: Vec::new(),
+            comparing: false,
+            time: Duration::ZERO,
+        };
         match build(copy, &["--lib"]) {
-            Ok(inside) => match self.first_failing(copy, &inside, &[]) {
-                Some(test) => alone(test),
+            Ok(program) => match first_failing(copy, &program, &all) {
+                Some(test) => alone(&test),
                 None => Verdict::Unnoticed,
             },
             Err(why) => Verdict::Unbuilt(why),
         }
     }
+}
 
-    /// Runs these tests, or all if none is named, and ends the program as soon
-    /// as one fails or the time is over.
-    fn first_failing(&self, copy: &Copy, program: &Path, names: &[String]) -> Option<String> {
-        let mut child = Command::new(program)
-            .args(["--exact", "--test-threads", "2"])
-            .args(names)
-            .current_dir(&copy.tests)
-            .env_remove("MAIPLUR_SEED")
-            .env_remove("MAIPLUR_SCALE")
-            .stdin(Stdio::null())
-            .stdout(Stdio::piped())
-            .stderr(Stdio::null())
-            .spawn()
-            .expect("the tests start");
-        let failing = watch(&lines_of(&mut child), Instant::now() + self.limit);
-        if failing.is_some() {
-            // It may have ended by itself.
-            let _ = child.kill();
-        }
-        let status = child.wait().expect("the tests end");
-        let ended = (!status.success()).then(|| format!("a test that ended the run: {status}"));
-        failing.or(ended)
+fn alone(test: &str) -> Verdict {
+    Verdict::Noticed(format!("{test}, without what is proved"))
+}
+
+/// The tests of the program, file by file.
+fn parts(copy: &Copy, program: &Path) -> Vec<Part> {
+    let listed = Command::new(program)
+        .arg("--list")
+        .output()
+        .expect("the tests can be listed");
+    let text = String::from_utf8_lossy(&listed.stdout).into_owned();
+    let names: Vec<String> = text
+        .lines()
+        .filter_map(|line| line.strip_suffix(": test"))
+        .map(str::to_string)
+        .collect();
+    let file = |name: &String| name.split("::").next().unwrap_or("").to_string();
+    names
+        .chunk_by(|a, b| file(a) == file(b))
+        .map(|names| Part {
+            names: names.to_vec(),
+            comparing: copy.comparing.contains(&file(&names[0])),
+            time: Duration::from_secs(600),
+        })
+        .collect()
+}
+
+/// Runs the tests of a part, or all if it names none, and ends them as soon as
+/// one fails or all take far too long.
+fn first_failing(copy: &Copy, program: &Path, part: &Part) -> Option<String> {
+    let mut child = Command::new(program)
+        .args(["--exact", "--test-threads", "2"])
+        .args(&part.names)
+        .current_dir(&copy.tests)
+        .env_remove("MAIPLUR_SEED")
+        .env_remove("MAIPLUR_SCALE")
+        .stdin(Stdio::null())
+        .stdout(Stdio::piped())
+        .stderr(Stdio::null())
+        .spawn()
+        .expect("the tests start");
+    let until = Instant::now() + 5 * part.time + Duration::from_secs(60);
+    let failing = watch(&lines_of(&mut child), until);
+    if failing.is_some() {
+        // It may have ended by itself.
+        let _ = child.kill();
     }
+    let status = child.wait().expect("the tests end");
+    let ended = || part.names.first().map_or("", |name| name).to_string();
+    failing.or((!status.success()).then(|| format!("{} or a test behind it: {status}", ended())))
 }
 
 /// The lines that the tests write, as they come.
@@ -138,7 +174,7 @@ fn watch(lines: &Receiver<String>, until: Instant) -> Option<String> {
         let left = until.saturating_duration_since(Instant::now());
         let line = match lines.recv_timeout(left) {
             Ok(line) => line,
-            Err(RecvTimeoutError::Timeout) => return Some("a test that does not end".to_string()),
+            Err(RecvTimeoutError::Timeout) => return Some("a test without an end".to_string()),
             Err(RecvTimeoutError::Disconnected) => return None,
         };
         let said = line
