@@ -156,24 +156,29 @@ fn demands_above_2_to_the_34th() {
     );
 }
 
-/// More than 2^23 releases of one entry before the end of another.
+/// More than 2^23 releases of one entry before the end of another, with runs
+/// of more than 2^29 ticks in all.
 #[test]
 fn releases_above_2_to_the_23rd() {
     let (mut rng, mut tally) = (rng(304), Tally::default());
-    let (mut most, mut on_time) = (0, 0);
-    for _ in 0..times(100) {
+    let (mut most, mut longest, mut on_time) = (0, 0, 0);
+    for _ in 0..times(150) {
         let entries = many_releases(&mut rng);
         if let Timing::OnTime { time, .. } = time_last(&mut tally, &entries, entries.len() - 1) {
             let releases = time.div_ceil(entries[0].t);
             on_time += u64::from(releases > 1 << 23);
             most = most.max(releases);
+            longest = longest.max(releases * entries[0].c);
         }
         let file = cases::file(cases::node(64, &entries));
         compare::map(&mut tally, &file, 7, entries.len());
         compare::list(&mut tally, &file);
     }
-    say(format!("most releases {most}; {tally}"));
-    assert!(on_time > times(30) && most > 1 << 25, "{on_time} {most}");
+    say(format!(
+        "most releases {most}, longest runs in all {longest}; {tally}"
+    ));
+    assert!(on_time > times(50) && most > 1 << 25, "{on_time} {most}");
+    assert!(longest > 1 << 29, "{longest}");
 }
 
 /// Five entries with 800,001 releases each, and a demand above 2^32.

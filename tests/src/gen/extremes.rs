@@ -94,17 +94,21 @@ pub fn high_demand(rng: &mut Rng) -> Vec<Entry> {
     entries
 }
 
-/// Two or three entries with short periods and a last one that waits for
-/// millions of their runs, and ends in time.
+/// One or two entries with short periods that take up to two thirds of the
+/// time, one that hardly counts, and a last one that waits for millions of
+/// their runs and mostly ends in time.
 pub fn many_releases(rng: &mut Rng) -> Vec<Entry> {
-    let mut entries: Vec<Entry> = (1..=rng.range(1, 2) as u16)
+    let short = rng.range(1, 2);
+    let mut entries: Vec<Entry> = (1..=short as u16)
         .map(|number| {
             let t = rng.range(20, 119);
-            Entry::task(number, 1, t, t)
+            Entry::task(number, rng.range(1, t * 2 / (3 * short)), t, t)
         })
         .collect();
     entries.push(Entry::task(7, 3, 3_000, 3_000));
-    let b = rng.range(830_000_000, 870_000_000);
+    // In millionths of the time, which the blocking leaves to the others.
+    let load: u64 = entries.iter().map(|e| e.c * 1_000_000 / e.t + 1).sum();
+    let b = rng.range(900, 990) * (1_000_000 - load);
     entries.push(Entry::task(8, 5, MAX_TICKS, MAX_TICKS).blocked(b));
     entries
 }

@@ -8,6 +8,9 @@ use std::path::{Path, PathBuf};
 /// library or program.
 const COMPARING: [&str; 4] = ["::compare", "::ffi", "list_plan", "libplanner_c"];
 
+/// What is not copied, or not as it is.
+const APART: [&str; 4] = [".git", "crates", "target", "tests"];
+
 /// What stands in place of the build script, which would prove everything
 /// again: the library is linked as it is.
 const BUILD: &str = r#"fn main() {
@@ -30,28 +33,27 @@ impl Copy {
     /// A fresh copy under tests/target; only what was built there is kept.
     pub fn new() -> Copy {
         let (from, to) = (root(), root().join("tests/target/mutants"));
-        for part in ["include", "examples", "samples", "tests", "target"] {
-            clear(&to.join(part));
+        if to.exists() {
+            let old = items(&to)
+                .into_iter()
+                .filter(|item| !item.ends_with("built"));
+            old.for_each(|item| clear(&item));
         }
-        for part in [
-            "include",
-            "examples",
-            "samples",
-            "tests/src",
-            "tests/corpus",
-        ] {
-            copy_folder(&from.join(part), &to.join(part));
+        let beside = |item: &PathBuf| !APART.iter().any(|name| item.ends_with(name));
+        for item in items(&from).into_iter().filter(beside) {
+            copy_item(&item, &to);
+        }
+        for folder in ["target/bin", "target/staticlib"] {
+            copy_item(&from.join(folder), &to.join("target"));
         }
         let tests = to.join("tests");
-        clear(&tests.join("src/bin"));
-        for file in ["Cargo.toml", "Cargo.lock"] {
-            copy_file(&from.join("tests").join(file), &tests.join(file));
+        for item in ["src", "corpus", "Cargo.toml", "Cargo.lock"] {
+            copy_item(&from.join("tests").join(item), &tests);
         }
-        copy_folder(&from.join("target/bin"), &to.join("target/bin"));
-        copy_folder(&from.join("target/staticlib"), &to.join("target/staticlib"));
+        clear(&tests.join("src/bin"));
         let library = format!("{:?}", to.join("target/staticlib"));
         write(&tests.join("build.rs"), &BUILD.replace("LIBRARY", &library));
-        let comparing = join_tests(&from.join("tests/tests"), &tests.join("tests/all"));
+        let comparing = join_tests(&from.join("tests/tests"), &tests.join("tests"));
         Copy { tests, comparing }
     }
 
@@ -70,23 +72,22 @@ impl Copy {
 /// Makes all test files parts of one program, which is built and linked once,
 /// and gives the names of those that compare with what is proved.
 fn join_tests(from: &Path, to: &Path) -> Vec<String> {
-    copy_folder(from, to);
+    let all = to.join("all");
     let (mut parts, mut comparing) = (String::new(), Vec::new());
     for path in items(from) {
+        copy_item(&path, &all);
         if path.extension().is_none_or(|end| end != "rs") {
             continue;
         }
-        let name = path
-            .file_stem()
-            .expect("a file has a name")
-            .to_string_lossy();
+        let stem = path.file_stem().expect("a file has a name");
+        let name = stem.to_string_lossy();
         parts += &format!("mod {name};\n");
         let text = fs::read_to_string(&path).expect("a test file can be read");
         if COMPARING.iter().any(|word| text.contains(word)) {
             comparing.push(name.to_string());
         }
     }
-    write(&to.join("main.rs"), &parts);
+    write(&all.join("main.rs"), &parts);
     comparing
 }
 
@@ -99,25 +100,26 @@ fn items(folder: &Path) -> Vec<PathBuf> {
     items
 }
 
-fn copy_folder(from: &Path, to: &Path) {
-    for item in items(from) {
-        let target = to.join(item.file_name().expect("an item has a name"));
-        match item.is_dir() {
-            true => copy_folder(&item, &target),
-            false => copy_file(&item, &target),
-        }
+/// Copies a file or a folder into a folder.
+fn copy_item(from: &Path, folder: &Path) {
+    let to = folder.join(from.file_name().expect("an item has a name"));
+    if from.is_dir() {
+        fs::create_dir_all(&to).expect("a folder can be made");
+        items(from).iter().for_each(|item| copy_item(item, &to));
+    } else {
+        fs::create_dir_all(folder).expect("a folder can be made");
+        fs::copy(from, &to).unwrap_or_else(|error| panic!("{}: {error}", from.display()));
     }
 }
 
-fn copy_file(from: &Path, to: &Path) {
-    fs::create_dir_all(to.parent().expect("a file has a folder")).expect("a folder can be made");
-    fs::copy(from, to).unwrap_or_else(|error| panic!("{}: {error}", from.display()));
-}
-
-fn clear(folder: &Path) {
-    if folder.exists() {
-        fs::remove_dir_all(folder).expect("an old copy can be removed");
-    }
+/// Removes a file or a folder, if it is there.
+fn clear(item: &Path) {
+    let done = match item.is_dir() {
+        true => fs::remove_dir_all(item),
+        false if item.exists() => fs::remove_file(item),
+        false => Ok(()),
+    };
+    done.unwrap_or_else(|error| panic!("{}: {error}", item.display()));
 }
 
 fn write(path: &Path, text: &str) {
