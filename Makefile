@@ -2,7 +2,7 @@ PLAN ?= samples/p.plan
 # Through the environment, so that the shell takes any name as one word.
 export PLAN
 
-.PHONY: list test bench fuzz samples fmt
+.PHONY: list test bench fuzz mutants samples fmt
 
 # Proves and builds the listing program, if that was not done yet, and lists a plan file.
 list:
@@ -29,6 +29,11 @@ bench:
 # finds goes to tests/corpus.
 fuzz:
 	@cargo run --release --offline --quiet --manifest-path tests/Cargo.toml --bin fuzz
+
+# Small faults in the second implementation, one at a time, and the test that notices each (tests/mutants). All of them take
+# an hour or less; `make mutants ONLY='timing/ map/'` tries those with one of these in their name.
+mutants:
+	@cargo run --release --offline --quiet --manifest-path tests/Cargo.toml --bin mutants -- $(ONLY)
 
 # Writes samples/ anew.
 samples:

@@ -58,6 +58,8 @@ mod tests {
         let all = all_assignments(3, 2);
         assert_eq!(all, [[1, 1, 1], [1, 1, 2], [1, 2, 2], [2, 2, 2]]);
         assert!(all.iter().all(|one| is_assignment(one, 2)));
+        assert!(!is_assignment(&[0, 1], 2));
+        assert!(!is_assignment(&[1, 3], 2));
     }
 
     #[test]

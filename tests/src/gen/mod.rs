@@ -1,10 +1,13 @@
 //! Generated nodes, plans, damaged files and rows of session operations.
 
+pub mod blocks;
 pub mod budget;
 pub mod buffers;
 pub mod damage;
 pub mod entries;
+pub mod extremes;
 pub mod faults;
+pub mod just_late;
 pub mod lent;
 pub mod listings;
 pub mod odd;

@@ -1,0 +1,127 @@
+//! The copy of the tests in which the faults are made.
+
+use oracle::programs::root;
+use std::fs;
+use std::path::{Path, PathBuf};
+
+/// Test files that say so hold the second implementation against the proved
+/// library or program.
+const COMPARING: [&str; 4] = ["::compare", "::ffi", "list_plan", "libplanner_c"];
+
+/// What is not copied, or not as it is.
+const APART: [&str; 4] = [".git", "crates", "target", "tests"];
+
+/// What stands in place of the build script, which would prove everything
+/// again: the library is linked as it is.
+const BUILD: &str = r#"fn main() {
+    println!("cargo:rustc-check-cfg=cfg(list_plan)");
+    println!("cargo:rustc-cfg=list_plan");
+    println!("cargo:rustc-link-search=native={}", LIBRARY);
+    println!("cargo:rustc-link-lib=static=planner_c");
+}
+"#;
+
+/// A repository with the tests alone, all of them in one test program.
+pub struct Copy {
+    /// Its folder of tests.
+    pub tests: PathBuf,
+    /// Names of the test files that ask the proved library or program.
+    pub comparing: Vec<String>,
+}
+
+impl Copy {
+    /// A fresh copy under tests/target; only what was built there is kept.
+    pub fn new() -> Copy {
+        let (from, to) = (root(), root().join("tests/target/mutants"));
+        if to.exists() {
+            let old = items(&to)
+                .into_iter()
+                .filter(|item| !item.ends_with("built"));
+            old.for_each(|item| clear(&item));
+        }
+        let beside = |item: &PathBuf| !APART.iter().any(|name| item.ends_with(name));
+        for item in items(&from).into_iter().filter(beside) {
+            copy_item(&item, &to);
+        }
+        for folder in ["target/bin", "target/staticlib"] {
+            copy_item(&from.join(folder), &to.join("target"));
+        }
+        let tests = to.join("tests");
+        for item in ["src", "corpus", "Cargo.toml", "Cargo.lock"] {
+            copy_item(&from.join("tests").join(item), &tests);
+        }
+        clear(&tests.join("src/bin"));
+        let library = format!("{:?}", to.join("target/staticlib"));
+        write(&tests.join("build.rs"), &BUILD.replace("LIBRARY", &library));
+        let comparing = join_tests(&from.join("tests/tests"), &tests.join("tests"));
+        Copy { tests, comparing }
+    }
+
+    /// The text of a file, named from tests/ on.
+    pub fn text(&self, file: &str) -> String {
+        let path = self.tests.join(file);
+        fs::read_to_string(&path).unwrap_or_else(|error| panic!("{}: {error}", path.display()))
+    }
+
+    /// Writes a file, named from tests/ on.
+    pub fn put(&self, file: &str, text: &str) {
+        write(&self.tests.join(file), text);
+    }
+}
+
+/// Makes all test files parts of one program, which is built and linked once,
+/// and gives the names of those that compare with what is proved.
+fn join_tests(from: &Path, to: &Path) -> Vec<String> {
+    let all = to.join("all");
+    let (mut parts, mut comparing) = (String::new(), Vec::new());
+    for path in items(from) {
+        copy_item(&path, &all);
+        if path.extension().is_none_or(|end| end != "rs") {
+            continue;
+        }
+        let stem = path.file_stem().expect("a file has a name");
+        let name = stem.to_string_lossy();
+        parts += &format!("mod {name};\n");
+        let text = fs::read_to_string(&path).expect("a test file can be read");
+        if COMPARING.iter().any(|word| text.contains(word)) {
+            comparing.push(name.to_string());
+        }
+    }
+    write(&all.join("main.rs"), &parts);
+    comparing
+}
+
+fn items(folder: &Path) -> Vec<PathBuf> {
+    let mut items: Vec<PathBuf> = fs::read_dir(folder)
+        .unwrap_or_else(|error| panic!("{}: {error}", folder.display()))
+        .map(|item| item.expect("a folder can be read").path())
+        .collect();
+    items.sort();
+    items
+}
+
+/// Copies a file or a folder into a folder.
+fn copy_item(from: &Path, folder: &Path) {
+    let to = folder.join(from.file_name().expect("an item has a name"));
+    if from.is_dir() {
+        fs::create_dir_all(&to).expect("a folder can be made");
+        items(from).iter().for_each(|item| copy_item(item, &to));
+    } else {
+        fs::create_dir_all(folder).expect("a folder can be made");
+        fs::copy(from, &to).unwrap_or_else(|error| panic!("{}: {error}", from.display()));
+    }
+}
+
+/// Removes a file or a folder, if it is there.
+fn clear(item: &Path) {
+    let done = match item.is_dir() {
+        true => fs::remove_dir_all(item),
+        false if item.exists() => fs::remove_file(item),
+        false => Ok(()),
+    };
+    done.unwrap_or_else(|error| panic!("{}: {error}", item.display()));
+}
+
+fn write(path: &Path, text: &str) {
+    fs::write(path, text).unwrap_or_else(|error| panic!("{}: {error}", path.display()));
+}

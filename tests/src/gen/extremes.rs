@@ -1,0 +1,122 @@
+//! Nodes whose tests come to the ends of what the numbers allow: very many
+//! rounds, and starts, demands and releases that no 32 bits hold.
+
+use crate::model::{Entry, MAX_ENTRIES, MAX_R, MAX_TICKS};
+use crate::rng::Rng;
+use crate::timing::{completion_in_group, Timing};
+
+/// Position of the last entry of [`slow`].
+pub const SLOW: usize = 5;
+
+/// 1/2/2, 1/3/3, 1/7/7, 1/43/43 and 1/`fifth`/`fifth`, with a load of
+/// 1 - 1/1,806 + 1/`fifth`, and a last entry with C 1 behind them.
+pub fn slow(fifth: u64, blocking: u64) -> Vec<Entry> {
+    let mut entries: Vec<Entry> = (1..)
+        .zip([2, 3, 7, 43, fifth])
+        .map(|(number, t)| Entry::task(number, 1, t, t))
+        .collect();
+    entries.push(Entry::task(6, 1, MAX_TICKS, MAX_TICKS).blocked(blocking));
+    entries
+}
+
+/// The same with the last deadline so many ticks before the completion time.
+pub fn slow_until(fifth: u64, blocking: u64, early: u64) -> Vec<Entry> {
+    let mut entries = slow(fifth, blocking);
+    let Timing::OnTime { time, .. } = completion_in_group(&entries, SLOW, SLOW, SLOW) else {
+        panic!("{fifth}, {blocking}: the last entry ends by 10^9");
+    };
+    entries[SLOW].d = time - early;
+    entries
+}
+
+/// A group in which the last entry waits for nearly 16 runs of each other one,
+/// and a round brings mostly one of them.
+///
+/// With S the runs of the others, each period is S and a little more, and the
+/// little grows from one to the next: so the releases fall one by one behind
+/// what was demanded so far.
+pub fn first_group(rng: &mut Rng) -> Vec<Entry> {
+    let others = rng.range(2, 4);
+    let run = rng.range(300, 2_000);
+    let waits = rng.range(12, 18);
+    let mut entries: Vec<Entry> = (0..others)
+        .map(|j| {
+            let t = others * run + 1 + j * rng.range(waits, waits + 4);
+            Entry::task(j as u16 + 1, run, t, t)
+        })
+        .collect();
+    let t = 50 * others * run;
+    let last = Entry::task(9, 1, t, t).blocked(waits - 1);
+    entries.push(last.calling(MAX_R - rng.byte(0, 1)));
+    entries
+}
+
+/// One group whose tests start at 2^`bits` and a little more, which is less
+/// than the last deadline.
+pub fn high_start(rng: &mut Rng, bits: u32) -> Vec<Entry> {
+    let start = (1 << bits) + rng.range(1, MAX_TICKS);
+    let least = start.div_ceil(MAX_TICKS) as usize;
+    let count = rng.count(least, MAX_ENTRIES);
+    let mut left = start;
+    let mut entries: Vec<Entry> = (1..=count)
+        .map(|number| {
+            // The entries behind can still take what this one leaves.
+            let behind = (count - number) as u64;
+            let most = (left - behind).min(MAX_TICKS);
+            let low = left.saturating_sub(behind * MAX_TICKS).max(1);
+            let c = rng.range(low.max(most / 2).min(most), most);
+            left -= c;
+            Entry::task(number as u16, c, MAX_TICKS, MAX_TICKS)
+        })
+        .collect();
+    let last = &mut entries[count - 1];
+    if rng.chance(1, 2) && last.c > 1 {
+        last.b = last.c - 1;
+        last.c = 1;
+    }
+    entries
+}
+
+/// Entries that run all their period, and a last one behind them with a start
+/// below its deadline: its demand is as many times its start, and one more.
+pub fn high_demand(rng: &mut Rng) -> Vec<Entry> {
+    let count = rng.count(5, MAX_ENTRIES - 1);
+    let run = rng.pick(&[1, 10, 1_000, 50_000]);
+    let mut entries: Vec<Entry> = (1..=count as u16)
+        .map(|number| {
+            let t = run * rng.range(1, 4);
+            Entry::task(number, t - rng.below(2).min(t - 1), t, t)
+        })
+        .collect();
+    let b = rng.range(500_000_000, 980_000_000);
+    let last = Entry::task(99, 1, MAX_TICKS, MAX_TICKS).blocked(b);
+    entries.push(last.calling(rng.pick(&[0, MAX_R])));
+    entries
+}
+
+/// One or two entries with short periods that take up to two thirds of the
+/// time, one that hardly counts, and a last one that waits for millions of
+/// their runs and mostly ends in time.
+pub fn many_releases(rng: &mut Rng) -> Vec<Entry> {
+    let short = rng.range(1, 2);
+    let mut entries: Vec<Entry> = (1..=short as u16)
+        .map(|number| {
+            let t = rng.range(20, 119);
+            Entry::task(number, rng.range(1, t * 2 / (3 * short)), t, t)
+        })
+        .collect();
+    entries.push(Entry::task(7, 3, 3_000, 3_000));
+    // In millionths of the time, which the blocking leaves to the others.
+    let load: u64 = entries.iter().map(|e| e.c * 1_000_000 / e.t + 1).sum();
+    let b = rng.range(900, 990) * (1_000_000 - load);
+    entries.push(Entry::task(8, 5, MAX_TICKS, MAX_TICKS).blocked(b));
+    entries
+}
+
+/// Five of 1000/1000/1000, then 1/10^9/10^9 with a blocking that lets its test
+/// start at 800,000,001.
+pub fn five_full() -> Vec<Entry> {
+    let mut entries = vec![Entry::task(1, 1_000, 1_000, 1_000); 5];
+    entries.push(Entry::task(6, 1, MAX_TICKS, MAX_TICKS).blocked(799_995_000));
+    entries
+}

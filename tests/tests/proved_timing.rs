@@ -1,0 +1,198 @@
+//! The proved timing at the ends of what the numbers allow, against the second
+//! implementation: very many rounds, and starts, demands and releases that no
+//! 32 bits hold. Each test says how far it came.
+
+use oracle::cases;
+use oracle::compare;
+use oracle::compare::session::Both;
+use oracle::gen::extremes::{
+    first_group, five_full, high_demand, high_start, many_releases, slow, slow_until, SLOW,
+};
+use oracle::lent::words_of;
+use oracle::model::{Entry, MAX_TICKS};
+use oracle::options::{rng, times};
+use oracle::session::{Op, Reply, Session};
+use oracle::tally::Tally;
+use oracle::timing::{demand, group_levels, start, Timing};
+use std::io::Write;
+
+fn say(what: String) {
+    // Written past the harness, which keeps what passing tests print.
+    writeln!(std::io::stdout(), "\n{what}").expect("output is open");
+}
+
+/// The last entry in the group that starts at `first`, timed by both.
+fn time_last(tally: &mut Tally, entries: &[Entry], first: usize) -> Timing {
+    let last = entries.len() - 1;
+    let session = Session::holding(64, entries).expect("generators give good entries");
+    let op = Op::Time(first, last, last);
+    match Both::of(&words_of(&session)).step(tally, &op, 0) {
+        Ok(Reply::Timed(timing)) => timing,
+        other => panic!("{other:?}"),
+    }
+}
+
+/// The levels that set the last entry apart, and its position.
+fn behind_all(entries: &[Entry]) -> (Vec<u8>, usize) {
+    let last = entries.len() - 1;
+    (group_levels(entries.len(), last, last), last)
+}
+
+/// Deadlines at completion times that take up to half a million rounds to
+/// find, and a tick before them.
+#[test]
+fn rounds_above_65_535() {
+    let (mut rng, mut tally) = (rng(300), Tally::default());
+    let (mut late, mut met, mut above_12) = (0, 0, 0);
+    for _ in 0..times(120) {
+        let fifth = rng.pick(&[1_835, 1_850, 1_900, 2_100, 4_000, 50_000]) + rng.below(9);
+        let entries = slow_until(fifth, rng.below(40), rng.below(2));
+        match time_last(&mut tally, &entries, SLOW) {
+            Timing::Late { rounds } => {
+                late = late.max(rounds);
+                above_12 += u64::from(rounds > 12);
+            }
+            Timing::OnTime { rounds, .. } => met = met.max(rounds),
+        }
+        time_last(&mut tally, &entries, SLOW - 1);
+        let levels = rng.pick(&[3, 5, 64]);
+        let file = cases::file(cases::node(levels, &entries));
+        compare::map(&mut tally, &file, 7, entries.len());
+        compare::list(&mut tally, &file);
+    }
+    say(format!(
+        "most rounds of an entry on time {met}, late {late}; {tally}"
+    ));
+    assert!(late > 65_535 && met > 65_535, "{late} {met}");
+    assert!(above_12 > times(30), "{above_12}");
+    assert!(tally.met(11) > times(30), "{tally}");
+}
+
+/// More than 2^22 rounds, on time and late, in a session and in a listing.
+#[test]
+fn rounds_above_2_to_the_22nd() {
+    let mut tally = Tally::default();
+    let mut rounds = Vec::new();
+    for early in [0, 1] {
+        let entries = slow_until(1_807, 6, early);
+        let timing = time_last(&mut tally, &entries, SLOW);
+        assert_eq!(timing.is_on_time(), early == 0);
+        rounds.push(timing.rounds());
+    }
+    let file = cases::file(cases::node(64, &slow(1_807, 6)));
+    compare::list(&mut tally, &file);
+    assert!(oracle::listing::list(&file).ends_with(&format!("rounds {}\n", rounds[0])));
+    say(format!("rounds on time and late: {rounds:?}"));
+    assert!(rounds.iter().all(|&count| count > 1 << 22), "{rounds:?}");
+}
+
+/// More than 20 rounds though nothing is more urgent.
+#[test]
+fn rounds_above_20_in_a_first_group() {
+    let (mut rng, mut tally) = (rng(301), Tally::default());
+    let (mut most, mut many) = (0, 0);
+    for _ in 0..times(300) {
+        let entries = first_group(&mut rng);
+        let timing = time_last(&mut tally, &entries, 0);
+        many += u64::from(timing.is_on_time() && timing.rounds() > 20);
+        most = most.max(timing.rounds());
+        let file = cases::file(cases::node(1, &entries));
+        compare::map(&mut tally, &file, 7, entries.len());
+        compare::list(&mut tally, &file);
+    }
+    say(format!("most rounds in a first group {most}; {tally}"));
+    assert!(most > 30 && many > times(100), "{most} {many}");
+    assert_eq!(tally.met(11), 0, "one level does");
+}
+
+/// Starts above 2^32 to 2^35 which, cut to as many bits, are below D.
+#[test]
+fn starts_above_2_to_the_34th() {
+    let (mut rng, mut tally) = (rng(302), Tally::default());
+    let mut highest = 0;
+    for bits in 32..=35 {
+        for _ in 0..times(50) {
+            let entries = high_start(&mut rng, bits);
+            let last = entries.len() - 1;
+            let at = start(&entries, &vec![1; entries.len()], last);
+            assert!(at > 1 << bits && at % (1 << bits) <= MAX_TICKS, "{at}");
+            highest = highest.max(at);
+            for first in [0, last / 2, last] {
+                let timing = time_last(&mut tally, &entries, first);
+                assert_eq!(timing, Timing::Late { rounds: 0 });
+            }
+            compare::list(&mut tally, &cases::file(cases::node(64, &entries)));
+        }
+    }
+    say(format!("highest start {highest}"));
+    assert!(highest > 1 << 35, "{highest}");
+}
+
+/// Demands above 2^32 to 2^35 in the only round of a late entry; cut to as
+/// many bits, some would be below D.
+#[test]
+fn demands_above_2_to_the_34th() {
+    let (mut rng, mut tally) = (rng(303), Tally::default());
+    let (mut highest, mut telling) = (0, [0; 4]);
+    for _ in 0..times(2_000) {
+        let entries = high_demand(&mut rng);
+        let (levels, last) = behind_all(&entries);
+        let most = demand(&entries, &levels, last, start(&entries, &levels, last));
+        highest = highest.max(most);
+        for (bits, count) in (32..).zip(&mut telling) {
+            let cut: u64 = most % (1 << bits);
+            *count += u64::from(most > cut && cut <= MAX_TICKS);
+        }
+        let timing = time_last(&mut tally, &entries, last);
+        assert_eq!(timing, Timing::Late { rounds: 1 });
+        time_last(&mut tally, &entries, last / 2);
+        time_last(&mut tally, &entries, 0);
+    }
+    say(format!("highest demand {highest}, telling {telling:?}"));
+    assert!(highest > 1 << 35, "{highest}");
+    assert!(
+        telling.iter().all(|&count| count > times(10)),
+        "{telling:?}"
+    );
+}
+
+/// More than 2^23 releases of one entry before the end of another, with runs
+/// of more than 2^29 ticks in all.
+#[test]
+fn releases_above_2_to_the_23rd() {
+    let (mut rng, mut tally) = (rng(304), Tally::default());
+    let (mut most, mut longest, mut on_time) = (0, 0, 0);
+    for _ in 0..times(150) {
+        let entries = many_releases(&mut rng);
+        if let Timing::OnTime { time, .. } = time_last(&mut tally, &entries, entries.len() - 1) {
+            let releases = time.div_ceil(entries[0].t);
+            on_time += u64::from(releases > 1 << 23);
+            most = most.max(releases);
+            longest = longest.max(releases * entries[0].c);
+        }
+        let file = cases::file(cases::node(64, &entries));
+        compare::map(&mut tally, &file, 7, entries.len());
+        compare::list(&mut tally, &file);
+    }
+    say(format!(
+        "most releases {most}, longest runs in all {longest}; {tally}"
+    ));
+    assert!(on_time > times(50) && most > 1 << 25, "{on_time} {most}");
+    assert!(longest > 1 << 29, "{longest}");
+}
+
+/// Five entries with 800,001 releases each, and a demand above 2^32.
+#[test]
+fn five_full_entries() {
+    let (entries, mut tally) = (five_full(), Tally::default());
+    let (levels, last) = behind_all(&entries);
+    assert_eq!(start(&entries, &levels, last), 800_000_001);
+    assert_eq!(demand(&entries, &levels, last, 800_000_001), 4_800_000_001);
+    for first in 0..entries.len() {
+        time_last(&mut tally, &entries, first);
+    }
+    let file = cases::file(cases::node(64, &entries));
+    compare::map(&mut tally, &file, 7, entries.len());
+    compare::list(&mut tally, &file);
+    assert_eq!(tally.met(11), 1, "{tally}");
+}
