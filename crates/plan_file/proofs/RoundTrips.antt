@@ -46,6 +46,15 @@ write-given rs ws room n e = given (wordsCheck rs ws) (leb (length (encoding (pl
 front : (new old : List ℕ) (n : ℕ) → n ≡ length new → take n (new ++ drop (length new) old) ≡ new
 front new old n e = rw e (take-append-seam new _)
 
+-- calls on equal parts
+write-same : {rs rs′ ws ws′ old : List ℕ} {a : Answer ℕ} {new : List ℕ} → rs ≡ rs′ → ws ≡ ws′
+    → WriteCall rs ws old a new → WriteCall rs′ ws′ old a new
+write-same er ew c = rw (er, ew) at c
+
+read-same : {f f′ rows words : List ℕ} {a : Answer Sizes} {rowsLeft wordsLeft : List ℕ} → f ≡ f′
+    → ReadCall f rows words a rowsLeft wordsLeft → ReadCall f′ rows words a rowsLeft wordsLeft
+read-same e c = rw e at c
+
 -- What was filled, and what was written, lies in the buffers: a caller takes those parts.
 pub filled-inside : {f rows words rowsLeft wordsLeft : List ℕ} {n : Sizes} → ReadCall f rows words (gives n) rowsLeft wordsLeft
     → (n .rows ≤ length rows) × (n .entries * 5 ≤ length words)
@@ -109,11 +118,10 @@ written-again f rows words (gives n) rowsLeft wordsLeft b c =
     let m = read-write-memory f b (g .0) in
     let en : n .rows ≡ length (map rowWord (rowsIn f)) = ap (λ (s : Sizes). s .rows) (g .2) ∙ sym (length-map (rowsIn f) rowWord) in
     let ek : n .entries * 5 ≡ length (wordsOf (entriesIn f)) = ap (λ (s : Sizes). s .entries * 5) (g .2) ∙ sym (length-words-of (entriesIn f)) in
-    let er = c .rowsThere in
-    let ew = c .wordsThere in
+    let er : take (n .rows) rowsLeft ≡ map rowWord (rowsIn f) = ap (take (n .rows)) (c .rowsThere) ∙ front _ rows (n .rows) en in
+    let ew : take (n .entries * 5) wordsLeft ≡ wordsOf (entriesIn f) = ap (take (n .entries * 5)) (c .wordsThere) ∙ front _ words (n .entries * 5) ek in
     λ old a new h w.
-    wrote (map rowWord (rowsIn f)) (wordsOf (entriesIn f)) f (m .0) (m .1) old a new h
-    (rw (er, front (map rowWord (rowsIn f)) rows (n .rows) en, ew, front (wordsOf (entriesIn f)) words (n .entries * 5) ek) at w)
+    wrote (map rowWord (rowsIn f)) (wordsOf (entriesIn f)) f (m .0) (m .1) old a new h (write-same er ew w)
 
 -- What a call of the writer leaves is read again as the same words. That words have 32 bits, the slices' types say.
 pub read-again : (rs ws file : List ℕ) (a : Answer ℕ) (fileLeft : List ℕ) → WordsFit rs → WordsFit ws
@@ -122,7 +130,6 @@ read-again rs ws file (refuses r) fileLeft hr hw c = tt
 read-again rs ws file (gives n) fileLeft hr hw c =
     let g = write-given rs ws _ n (c .answer) in
     let m = write-read-memory rs ws hr hw (g .0) in
-    let e = c .fileThere in
+    let e : take n fileLeft ≡ encoding (planOf rs ws) = ap (take n) (c .fileThere) ∙ front _ file n (g .2) in
     λ oldRows oldWords a newRows newWords lr lw t.
-    filled (encoding (planOf rs ws)) rs ws (m .0) (m .1) (m .2) oldRows oldWords a newRows newWords lr lw
-    (rw (e, front (encoding (planOf rs ws)) file n (g .2)) at t)
+    filled (encoding (planOf rs ws)) rs ws (m .0) (m .1) (m .2) oldRows oldWords a newRows newWords lr lw (read-same e t)

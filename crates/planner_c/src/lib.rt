@@ -46,11 +46,11 @@ fn give(first: usize, second: usize, values: &mut [usize; 2]) -> u32
     0
 }
 
-// Accepts a plan file, or refuses it. Accepts exactly the files of plans within the limits.
+// Accepts a plan file, or refuses it. Returns 0 exactly for the files of plans within the limits.
 #[no_mangle]
 pub extern "C" fn maiplur_check(file: &[u8], values: &mut [usize; 2]) -> u32
     ensures { λ a. ⌜ returned a (now (values .exit)) ≡ checked (fileCheck (now (file .entry))) ⌝ }
-    ensures { λ a. ⌜ (fileCheck (now (file .entry)) ≡ accepted) ↔ IsPlanFile (now (file .entry)) ⌝ }
+    ensures { λ a. ⌜ (returned a (now (values .exit)) ≡ given 0 0) ↔ IsPlanFile (now (file .entry)) ⌝ }
 {
     let found = plan_file::check_file(file);
     match found {

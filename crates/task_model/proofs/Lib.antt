@@ -2,3 +2,4 @@
 pub mod Outcomes
 pub mod Laws
 pub mod Theorems
+pub mod Refusals

@@ -1,6 +1,7 @@
 use mathlib.Core.Path.{_∙_, ap, sym}
 use Rattle.task_model.specs.Refusals.{outcome}
 use Rattle.planner_c.specs.Returned.{checked}
+use Rattle.planner_c.proofs.Checking.{zero-exactly}
 use borrow.Author.Needs.{needs}
 use Rattle.planner_c.proofs.maiplur_check.Statement.{statement}
 use Rattle.planner_c.proofs.maiplur_check.Tie as tie
@@ -22,17 +23,15 @@ refuse-requires c κs = search needs
 
 returns : tie.Need-returns
 returns c =
-    let e = c .before .before .before .before .check-file .ensures in (
-      c .give .ensures ∙ ap checked (sym (ap outcome (c .before .before .enum-told .given .1)) ∙ e .0),
-      rw (e .0) at (e .1),
-    )
+    let k = c .before .before .before .before .check-file in
+    let p = c .give .ensures ∙ ap checked (sym (ap outcome (c .before .before .enum-told .given .1))) in
+    (p ∙ ap checked (k .ensures .0), zero-exactly (k .result) _ p (k .ensures .1))
 
 returns-2 : tie.Need-returns-2
 returns-2 c =
-    let e = c .before .before .before .before .before .check-file .ensures in (
-      c .refuse .ensures ∙ ap checked (sym (ap outcome (c .before .before .before .found .given .1)) ∙ e .0),
-      rw (e .0) at (e .1),
-    )
+    let k = c .before .before .before .before .before .check-file in
+    let p = c .refuse .ensures ∙ ap checked (sym (ap outcome (c .before .before .before .found .given .1))) in
+    (p ∙ ap checked (k .ensures .0), zero-exactly (k .result) _ p (k .ensures .1))
 
 pub maiplur-check-spec : {M : Type 1} → statement M
 maiplur-check-spec =

@@ -1,0 +1,19 @@
+-- What returning 0 says of a check.
+use Prim.Native.Nat.{ℕ}
+use mathlib.Core.Path.{_≡_, _∙_, refl, sym, ap}
+use mathlib.Core.Logic.{_↔_}
+use Rattle.task_model.specs.declared.Checked.{Checked}
+use Rattle.task_model.specs.declared.Checked.the-variants.{Accepted, Refused}
+use Rattle.task_model.specs.Refusals.{outcome, accepted}
+use Rattle.task_model.proofs.Refusals.{number-some}
+use Rattle.task_model.proofs.Theorems.{not-both}
+use Rattle.planner_c.specs.Returned.{Returned, given, checked}
+
+-- 0 is returned, with 0 and 0, exactly if the check accepts
+pub zero-exactly : {A : Type 0} (d : Checked) (r : Returned) → r ≡ checked (outcome d) → (outcome d ≡ accepted ↔ A)
+    → r ≡ given 0 0 ↔ A
+zero-exactly Accepted r p h = (λ e. h .0 refl, λ a. p)
+zero-exactly (Refused q) r p h = (
+  λ e. absurd (number-some q (ap (λ (x : Returned). x .number) (sym p ∙ e))),
+  λ a. absurd (not-both (h .1 a) refl),
+)

@@ -1,0 +1,37 @@
+-- The numbers of refusals.
+use Prim.Native.Nat.{ℕ}
+use mathlib.Core.Path.{_≡_}
+use native.Mathlib.Omega.{arith}
+use Rattle.task_model.specs.declared.Refusal.{Refusal}
+use Rattle.task_model.specs.declared.Refusal.the-variants.{
+  ShortFile,
+  OpeningBytes,
+  NodeCount,
+  Row,
+  Offset,
+  FileLength,
+  Kind,
+  Times,
+  NoSuchNode,
+  ShortBuffer,
+  NoMap,
+  OutsideList,
+  FullList,
+}
+use Rattle.task_model.specs.Refusals.{numbered}
+
+-- No refusal has the number 0: to a caller from C, 0 says that nothing was refused.
+pub number-some : (r : Refusal) → numbered r .number ≡ 0 → ⊥
+number-some ShortFile p = omega arith
+number-some OpeningBytes p = omega arith
+number-some NodeCount p = omega arith
+number-some (Row row) p = omega arith
+number-some (Offset row) p = omega arith
+number-some FileLength p = omega arith
+number-some (Kind row position) p = omega arith
+number-some (Times row position) p = omega arith
+number-some NoSuchNode p = omega arith
+number-some ShortBuffer p = omega arith
+number-some NoMap p = omega arith
+number-some OutsideList p = omega arith
+number-some FullList p = omega arith
