@@ -18,8 +18,9 @@
  * maiplur_list and maiplur_session_time follow every round of the completion time test, and an entry can have up to 10^9 of
  * them. A station's plan is listed in less than a millisecond. But one node with the tasks (C/T/D) 1/2/2, 1/3/3, 1/7/7,
  * 1/43/43, 1/1807/1807 and 59 of 1/1000000000/1000000000 took half a minute, and by that figure a plan of 32 such nodes
- * takes a quarter of an hour. No call can be stopped from within: a caller that takes plans from others makes it in a
- * process of its own.
+ * takes a quarter of an hour. Maps are found without most rounds, but a node that misses by little can take a second or two
+ * (docs/BENCHMARKS.md). No call can be stopped from within: a caller that takes plans from others makes it in a process of
+ * its own.
  */
 #ifndef MAIPLUR_H
 #define MAIPLUR_H
@@ -35,11 +36,11 @@ extern "C" {
 enum {
     MAIPLUR_SHORT_FILE = 1,     /* fewer than 8 bytes, or the contents cut off */
     MAIPLUR_OPENING_BYTES = 2,
-    MAIPLUR_NODE_COUNT = 3,     /* node count 0 or above 32, or a zero byte is not zero */
-    MAIPLUR_ROW = 4,            /* node number not above the last, levels not 1 to 64, entries above 64 */
+    MAIPLUR_NODE_COUNT = 3,     /* no node, more than 32, or one of bytes 5 to 7 is not 0 */
+    MAIPLUR_ROW = 4,            /* node numbers that do not rise, no level or more than 64, more than 64 entries */
     MAIPLUR_OFFSET = 5,
     MAIPLUR_FILE_LENGTH = 6,    /* to the writer: more or fewer entries than the rows count */
-    MAIPLUR_KIND = 7,           /* kind not 1 or 2, r above 15, kind 2 with r above 0 */
+    MAIPLUR_KIND = 7,           /* an unknown kind, more than 15 calls, a section with a call */
     MAIPLUR_TIMES = 8,          /* not 1 <= C <= D <= T <= 1,000,000,000, or B above 1,000,000,000 */
     MAIPLUR_NO_SUCH_NODE = 9,
     MAIPLUR_SHORT_BUFFER = 10,
@@ -74,19 +75,21 @@ enum {
  * 8 bits each; then C, T, D and B. The entries of all nodes stand one after another, in the order of the rows.
  */
 
-/* Accepts a plan file; refuses it (1 to 8) by the first of its checks that is met. Values: 0 and 0. */
+/* Accepts a plan file; refuses it (1 to 8) by the first of its checks that is met. Values: 0 and 0. It returns 0 exactly for
+ * the files of plans within the limits.
+ */
 uint32_t maiplur_check(const uint8_t *file, size_t file_length, size_t values[2]);
 
 /* Reads a plan file into `rows` and `entries`, from their starts, and keeps what lies beyond. Values: how many rows and
  * how many entries. Refuses as maiplur_check does, then a buffer that is too short (10): `row_count` words must hold a
- * word for each row, `word_count` words five for each entry.
+ * word for each row, `word_count` words five for each entry. What it filled, maiplur_write writes as the same bytes.
  */
 uint32_t maiplur_read(const uint8_t *file, size_t file_length, uint32_t *rows, size_t row_count, uint32_t *entries,
                       size_t word_count, size_t values[2]);
 
 /* Writes a plan as a file from the start of `file`, and keeps what lies beyond. Values: the file's length in bytes, and
  * 0. Refuses 3, 4 row by row, 6 where `word_count` is not five for each entry that the rows count, 7 and 8 entry by
- * entry, then a buffer that is too short (10). What it wrote, maiplur_read reads back.
+ * entry, then a buffer that is too short (10). What it wrote, maiplur_read reads as the same words.
  */
 uint32_t maiplur_write(const uint32_t *rows, size_t row_count, const uint32_t *entries, size_t word_count, uint8_t *file,
                        size_t file_length, size_t values[2]);

@@ -1,5 +1,5 @@
--- Entries that one run of each entry makes late, whatever the group. A search goes by them before it times anything; no
--- public promise speaks of them.
+-- Entries that one run of each entry before `end` makes late, wherever a group that ends just before `end` starts. A search
+-- goes by them before it times anything; no public promise speaks of them.
 use Prim.Native.Nat.{ℕ, zero, suc, _+_}
 use mathlib.Core.Bool.{Bool, true, false}
 use mathlib.Core.List.{List}

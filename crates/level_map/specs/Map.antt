@@ -22,8 +22,8 @@ pub record IsMap (n : ℕ) (m : List ℕ) : Type 0 where
 abbrev pub Longer : List ℕ → List ℕ → Type 0
 Longer a m = (l : ℕ) × (sizeOf l a < sizeOf l m) × ((j : ℕ) → l < j → sizeOf j a ≡ sizeOf j m)
 
--- The choice: of the passing maps with at most `most` levels, one with the fewest; of those, the one whose least urgent
--- group is longest, then whose next group is longest, and so on upward.
+-- The choice: a passing map with at most `most` levels, and with as few as any has. Where several have as few, the least
+-- urgent group decides, and the longer one is taken; then the group above it, and so on.
 pub record Chosen (Passes : List ℕ → Type 0) (most n : ℕ) (m : List ℕ) : Type 0 where
   pub isMap : IsMap n m
   pub passes : Passes m

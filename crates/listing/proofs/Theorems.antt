@@ -25,7 +25,7 @@ use Rattle.listing.specs.Timed.{TimedLine, StandsIn}
 use Rattle.listing.proofs.Texts.{entry-on-time, entries-none, node-mapped}
 use Rattle.listing.proofs.Inside.{entry-in-listing}
 
--- Every entry of a node with a map has its line.
+-- Every entry of a node with a map has its line, with a time and rounds that are right.
 pub entry-has-line : (es : List Entry) → AllHold es → (most : ℕ) (m : List ℕ) → theMap es most ≡ some m → (i : ℕ) → i < length es
     → TimedLine es m i
 entry-has-line es all most m p i h =
