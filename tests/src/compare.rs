@@ -74,7 +74,8 @@ pub fn write(
 /// Mapping the node with a number into so many bytes.
 pub fn map(tally: &mut Tally, file: &[u8], number: u16, room: usize) {
     let mut due_buffer = known(room);
-    let due = tally.note_map(map_node(file, u64::from(number), &mut due_buffer));
+    let due = tally.note(map_node(file, u64::from(number), &mut due_buffer));
+    tally.map(due.unwrap_or(0));
     let mut buffer = known(room);
     let answer = ffi::map(file, number, &mut buffer);
     let lent = || format!("{room} bytes: map of {number} in {}", hex(file));

@@ -34,11 +34,7 @@ fn step(rng: &mut Rng, session: &mut Session, course: Course, tally: &mut Tally)
     let before = session.clone();
     let lent = known(room(rng, before.entries().len()));
     let mut buffer = lent.clone();
-    let answer = session.apply(&op, &mut buffer);
-    let answer = match op {
-        Op::Map => tally.note_map(answer),
-        _ => tally.note(answer),
-    };
+    let answer = tally.note(session.apply(&op, &mut buffer));
     let Ok(reply) = answer else {
         assert_eq!(*session, before, "{op:?}");
         assert_eq!(buffer, lent, "{op:?}");
@@ -55,6 +51,7 @@ fn step(rng: &mut Rng, session: &mut Session, course: Course, tally: &mut Tally)
             assert_eq!(buffer, lent);
         }
         (Op::Map, Reply::Mapped(used)) => {
+            tally.map(used);
             let mut from_file = lent.clone();
             assert_eq!(mapped_from_file(session, &mut from_file), Ok(used));
             assert_eq!(buffer, from_file);

@@ -45,11 +45,10 @@ impl Both {
     pub fn step(&mut self, tally: &mut Tally, op: &Op, room: usize) -> Result<Reply, Refusal> {
         let op = &callable(op);
         let (before, mut due_buffer, mut buffer) = (self.due, known(room), known(room));
-        let due = lent::apply(&mut self.due, op, &mut due_buffer);
-        let due = match op {
-            Op::Map => tally.note_map(due),
-            _ => tally.note(due),
-        };
+        let due = tally.note(lent::apply(&mut self.due, op, &mut due_buffer));
+        if let Ok(Reply::Mapped(used)) = due {
+            tally.map(used);
+        }
         let answer = proved(&mut self.proved, op, &mut buffer);
         let lent = || format!("{op:?}, {room} bytes, on {before:?}");
         assert_eq!(answer, due, "{}", lent());
