@@ -4,12 +4,15 @@
 use oracle::assignments::is_map;
 use oracle::cases;
 use oracle::compare;
+use oracle::compare::session::Both;
 use oracle::gen::blocks::{blocks, hurry_one, needs_wide_groups, telling_levels};
 use oracle::gen::entries::wide_passes_after_narrow;
+use oracle::lent::words_of;
 use oracle::map::{by_groupings, by_groups, map_entries, passes};
 use oracle::model::{Entry, MAX_TICKS};
 use oracle::options::{rng, times};
 use oracle::rng::Rng;
+use oracle::session::{Op, Session};
 use oracle::tally::Tally;
 use oracle::timing::{completion, Timing};
 use std::io::Write;
@@ -26,11 +29,13 @@ struct Met {
 }
 
 impl Met {
-    /// A node of so many entries by both, with the levels that tell.
+    /// A node by both, in a file and in a session.
     fn compare(&mut self, tally: &mut Tally, levels: u8, entries: &[Entry]) {
         let file = cases::file(cases::node(levels, entries));
         compare::map(tally, &file, 7, entries.len());
         compare::list(tally, &file);
+        let held = Session::holding(usize::from(levels), entries).expect("the entries are good");
+        let _ = Both::of(&words_of(&held)).step(tally, &Op::Map, entries.len());
         self.nodes += 1;
         self.wide_after_narrow += u64::from(wide_passes_after_narrow(entries));
         match by_groups(entries, levels) {
