@@ -60,6 +60,7 @@ mod tests {
         assert!(all.iter().all(|one| is_assignment(one, 2)));
         assert!(!is_assignment(&[0, 1], 2));
         assert!(!is_assignment(&[1, 3], 2));
+        assert!(!is_assignment(&[2, 1], 2));
     }
 
     #[test]
