@@ -3,6 +3,11 @@ use Prim.Native.Nat.{ℕ, _≤_, _<_}
 use mathlib.Core.Path.{_≡_}
 use mathlib.Core.Bool.{true, false}
 use lib.Dec.{ltb}
+use Rattle.task_model.specs.Limits.{mostEntries}
+
+-- Positions that name a group of n entries, from `first` to `last`, and the entry at i in it.
+abbrev pub InGroup : ℕ → ℕ → ℕ → ℕ → Type 0
+InGroup n first last i = (first ≤ i) × (i ≤ last) × (last < n) × (n ≤ mostEntries)
 
 -- The group of the entry at i is from `first` to `last`, among n entries with the levels `level`.
 pub record IsGroup (n first last i : ℕ) (level : ℕ → ℕ) : Type 0 where

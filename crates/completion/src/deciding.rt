@@ -4,13 +4,14 @@
 use super::Ending;
 use super::demand_at;
 use task_model::Entry;
+use task_model::NodeWords;
 use task_model::entry_at;
 ghost use mathlib.Core.Path.{_≡_};
 ghost use Prim.Native.Nat.{ℕ, _+_, _-_, _*_, _≤_, _<_};
-ghost use Rattle.task_model.specs.Limits.{AllHold, TimesHold};
+ghost use Rattle.task_model.specs.Limits.{mostTicks, mostEntries, AllHold, TimesHold};
 ghost use Rattle.task_model.specs.Words.{entryOf, entriesOf};
 ghost use Rattle.completion.specs.Demand.{sumTo, demand};
-ghost use Rattle.completion.specs.Group.{groupLevel};
+ghost use Rattle.completion.specs.Group.{groupLevel, InGroup};
 ghost use Rattle.completion.specs.Test.{completionTest, isOnTime, endsOnTime};
 ghost use Rattle.completion.specs.Load.{one, recurringLoad, recurringRun};
 ghost use Rattle.completion.specs.Behind.{behindLate};
@@ -39,8 +40,8 @@ fn recurring_part(e: Entry, deadline: u32) -> Recurring
 }
 
 // The sums over the entries before position `end`.
-fn recurring_sum(words: &[u32; 320], end: usize, deadline: u32) -> Recurring
-    requires { ⌜ AllHold (entriesOf (now words) end) ⌝ ∗ ⌜ end ≤ 64 ⌝ }
+fn recurring_sum(words: &NodeWords, end: usize, deadline: u32) -> Recurring
+    requires { ⌜ AllHold (entriesOf (now words) end) ⌝ ∗ ⌜ end ≤ mostEntries ⌝ }
     ensures { λ r.
         ⌜ (r .load ≡ sumTo (λ j. recurringLoad deadline (entryOf (now (words .entry)) j)) end)
         × (r .runs ≡ sumTo (λ j. recurringRun deadline (entryOf (now (words .entry)) j)) end) ⌝ }
@@ -68,9 +69,9 @@ fn free_share(load: u64) -> u64
 // A time before which the demand of an entry is not met: where its test starts, `start`, or later by the load of the more
 // urgent entries, those before `first`. Before that time their load leaves too little free for what runs once; a load of 1
 // leaves nothing at any time, and then a time behind the deadline is as good as any.
-fn earliest(words: &[u32; 320], first: usize, deadline: u32, start: u64) -> u64
-    requires { ⌜ AllHold (entriesOf (now words) first) ⌝ ∗ ⌜ first ≤ 64 ⌝
-        ∗ ⌜ (sumTo (λ j. entryOf (now words) j .wcet) first < start) × (start ≤ deadline) × (deadline ≤ 1000000000) ⌝ }
+fn earliest(words: &NodeWords, first: usize, deadline: u32, start: u64) -> u64
+    requires { ⌜ AllHold (entriesOf (now words) first) ⌝ ∗ ⌜ first ≤ mostEntries ⌝
+        ∗ ⌜ (sumTo (λ j. entryOf (now words) j .wcet) first < start) × (start ≤ deadline) × (deadline ≤ mostTicks) ⌝ }
     ensures { λ x.
         ⌜ (start ≤ x) × ((t : ℕ) → start ≤ t
         → one * (start - sumTo (λ j. recurringRun deadline (entryOf (now (words .entry)) j)) first)
@@ -91,14 +92,14 @@ fn earliest(words: &[u32; 320], first: usize, deadline: u32, start: u64) -> u64
 
 // Whether the demand of the entry at `i` is met by its deadline, by rounds from a time before which it is not met.
 fn met_from(
-    words: &[u32; 320],
+    words: &NodeWords,
     count: usize,
     first: usize,
     last: usize,
     i: usize,
     begin: u64,
 ) -> Ending
-    requires { ⌜ AllHold (entriesOf (now words) count) ⌝ ∗ ⌜ (first ≤ i) × (i ≤ last) × (last < count) × (count ≤ 64) ⌝
+    requires { ⌜ AllHold (entriesOf (now words) count) ⌝ ∗ ⌜ InGroup count first last i ⌝
         ∗ ⌜ 1 ≤ begin ⌝
         ∗ ⌜ ((t : ℕ) → demand (entriesOf (now words) count) (groupLevel first last) i t ≤ t → begin ≤ t) ⌝ }
     ensures { λ a. ⌜ endsOnTime a ≡ isOnTime (completionTest (entriesOf (now (words .entry)) count) (groupLevel first last) i) ⌝ }
@@ -120,14 +121,14 @@ fn met_from(
 // more urgent. Its rounds are followed only where its demand at the deadline does not decide, and from as late as the load
 // allows. `runs` is the sum of the runs up to `last`, which a search needs many times.
 pub fn ends_on_time(
-    words: &[u32; 320],
+    words: &NodeWords,
     count: usize,
     first: usize,
     last: usize,
     i: usize,
     runs: u64,
 ) -> Ending
-    requires { ⌜ AllHold (entriesOf (now words) count) ⌝ ∗ ⌜ (first ≤ i) × (i ≤ last) × (last < count) × (count ≤ 64) ⌝
+    requires { ⌜ AllHold (entriesOf (now words) count) ⌝ ∗ ⌜ InGroup count first last i ⌝
         ∗ ⌜ runs ≡ sumTo (λ j. entryOf (now words) j .wcet) (last + 1) ⌝ }
     ensures { λ a.
         ⌜ endsOnTime a ≡ isOnTime (completionTest (entriesOf (now (words .entry)) count) (groupLevel first last) i) ⌝ }
@@ -148,8 +149,8 @@ pub fn ends_on_time(
 // The position behind the last entry before `end` whose deadline is shorter than its blocking and a run of every entry
 // before `end`, or 0. Such an entry is late in each group that ends just before `end` and has it. `runs` is the sum of
 // these runs.
-pub fn behind_late(words: &[u32; 320], count: usize, end: usize, runs: u64) -> usize
-    requires { ⌜ AllHold (entriesOf (now words) count) ⌝ ∗ ⌜ (end ≤ count) × (count ≤ 64) ⌝
+pub fn behind_late(words: &NodeWords, count: usize, end: usize, runs: u64) -> usize
+    requires { ⌜ AllHold (entriesOf (now words) count) ⌝ ∗ ⌜ (end ≤ count) × (count ≤ mostEntries) ⌝
         ∗ ⌜ runs ≡ sumTo (λ j. entryOf (now words) j .wcet) end ⌝ }
     ensures { λ s. ⌜ s ≡ behindLate (entriesOf (now (words .entry)) count) end ⌝ }
 {

@@ -5,12 +5,13 @@ pub use deciding::behind_late;
 pub use deciding::ends_on_time;
 ghost use mathlib.Core.Path.{_≡_};
 ghost use Prim.Native.Nat.{_+_, _-_, _≤_, _<_};
-ghost use Rattle.task_model.specs.Limits.{AllHold, TimesHold};
+ghost use Rattle.task_model.specs.Limits.{mostTicks, mostEntries, AllHold, TimesHold};
 ghost use Rattle.task_model.specs.Words.{entryOf, entriesOf};
 ghost use Rattle.completion.specs.Demand.{releases, sumTo, urgentShare, besideShare, demand, start};
-ghost use Rattle.completion.specs.Group.{groupLevel};
+ghost use Rattle.completion.specs.Group.{groupLevel, InGroup};
 ghost use Rattle.completion.specs.Test.{completion, completionTest, roundsIn, roundsBound};
 use task_model::Entry;
+use task_model::NodeWords;
 use task_model::entry_at;
 
 // Whether an entry ends by its deadline; rounds is the number of times that its demand was evaluated.
@@ -39,7 +40,7 @@ pub enum Ending {
 
 // How often an entry is released in `t` ticks. The first period needs no division.
 fn releases_in(e: Entry, t: u32) -> u32
-    requires { ⌜ TimesHold e ⌝ ∗ ⌜ (1 ≤ t) × (t ≤ 1000000000) ⌝ }
+    requires { ⌜ TimesHold e ⌝ ∗ ⌜ (1 ≤ t) × (t ≤ mostTicks) ⌝ }
     ensures { λ n. ⌜ n ≡ releases e t ⌝ }
 {
     if t <= e.period {
@@ -50,7 +51,7 @@ fn releases_in(e: Entry, t: u32) -> u32
 
 // What an entry on a more urgent level runs in `t` ticks.
 fn urgent_share(e: Entry, t: u32) -> u64
-    requires { ⌜ TimesHold e ⌝ ∗ ⌜ (1 ≤ t) × (t ≤ 1000000000) ⌝ }
+    requires { ⌜ TimesHold e ⌝ ∗ ⌜ (1 ≤ t) × (t ≤ mostTicks) ⌝ }
     ensures { λ x. ⌜ x ≡ urgentShare e t ⌝ }
 {
     e.wcet as u64 * releases_in(e, t) as u64
@@ -59,7 +60,7 @@ fn urgent_share(e: Entry, t: u32) -> u64
 // What another entry on the level of an entry with `calls` remote calls runs in `t` ticks.
 // Past `calls` periods the count is at its limit, and no division is needed.
 fn beside_share(e: Entry, calls: u8, t: u32) -> u64
-    requires { ⌜ TimesHold e ⌝ ∗ ⌜ (1 ≤ t) × (t ≤ 1000000000) ⌝ }
+    requires { ⌜ TimesHold e ⌝ ∗ ⌜ (1 ≤ t) × (t ≤ mostTicks) ⌝ }
     ensures { λ x. ⌜ x ≡ besideShare e calls t ⌝ }
 {
     if e.period as u64 * (calls as u64) < t as u64 {
@@ -69,8 +70,8 @@ fn beside_share(e: Entry, calls: u8, t: u32) -> u64
 }
 
 // What the entries before position `end` run in `t` ticks on more urgent levels.
-fn urgent_sum(words: &[u32; 320], end: usize, t: u32) -> u64
-    requires { ⌜ AllHold (entriesOf (now words) end) ⌝ ∗ ⌜ end ≤ 64 ⌝ ∗ ⌜ (1 ≤ t) × (t ≤ 1000000000) ⌝ }
+fn urgent_sum(words: &NodeWords, end: usize, t: u32) -> u64
+    requires { ⌜ AllHold (entriesOf (now words) end) ⌝ ∗ ⌜ end ≤ mostEntries ⌝ ∗ ⌜ (1 ≤ t) × (t ≤ mostTicks) ⌝ }
     ensures { λ x. ⌜ x ≡ sumTo (λ j. urgentShare (entryOf (now (words .entry)) j) t) end ⌝ }
 {
     let mut sum = 0;
@@ -81,8 +82,8 @@ fn urgent_sum(words: &[u32; 320], end: usize, t: u32) -> u64
 }
 
 // What the entries from position `begin` up to `end` run in `t` ticks beside an entry with `calls` remote calls.
-fn beside_sum(words: &[u32; 320], begin: usize, end: usize, calls: u8, t: u32) -> u64
-    requires { ⌜ AllHold (entriesOf (now words) end) ⌝ ∗ ⌜ (begin ≤ end) × (end ≤ 64) ⌝ ∗ ⌜ (1 ≤ t) × (t ≤ 1000000000) ⌝ }
+fn beside_sum(words: &NodeWords, begin: usize, end: usize, calls: u8, t: u32) -> u64
+    requires { ⌜ AllHold (entriesOf (now words) end) ⌝ ∗ ⌜ (begin ≤ end) × (end ≤ mostEntries) ⌝ ∗ ⌜ (1 ≤ t) × (t ≤ mostTicks) ⌝ }
     ensures { λ x. ⌜ x ≡ sumTo (λ j. besideShare (entryOf (now (words .entry)) j) calls t) end
         - sumTo (λ j. besideShare (entryOf (now (words .entry)) j) calls t) begin ⌝ }
 {
@@ -94,9 +95,9 @@ fn beside_sum(words: &[u32; 320], begin: usize, end: usize, calls: u8, t: u32) -
 }
 
 // The demand at `t` of the entry at `i`, in the group from `first` to `last`.
-fn demand_at(words: &[u32; 320], count: usize, first: usize, last: usize, i: usize, t: u32) -> u64
-    requires { ⌜ AllHold (entriesOf (now words) count) ⌝ ∗ ⌜ (first ≤ i) × (i ≤ last) × (last < count) × (count ≤ 64) ⌝
-        ∗ ⌜ (1 ≤ t) × (t ≤ 1000000000) ⌝ }
+fn demand_at(words: &NodeWords, count: usize, first: usize, last: usize, i: usize, t: u32) -> u64
+    requires { ⌜ AllHold (entriesOf (now words) count) ⌝ ∗ ⌜ InGroup count first last i ⌝
+        ∗ ⌜ (1 ≤ t) × (t ≤ mostTicks) ⌝ }
     ensures { λ x. ⌜ x ≡ demand (entriesOf (now (words .entry)) count) (groupLevel first last) i t ⌝ }
 {
     let own = entry_at(words, i);
@@ -108,8 +109,8 @@ fn demand_at(words: &[u32; 320], count: usize, first: usize, last: usize, i: usi
 }
 
 // The longest runs of the entries before position `end`, added up.
-pub fn wcet_sum(words: &[u32; 320], end: usize) -> u64
-    requires { ⌜ AllHold (entriesOf (now words) end) ⌝ ∗ ⌜ end ≤ 64 ⌝ }
+pub fn wcet_sum(words: &NodeWords, end: usize) -> u64
+    requires { ⌜ AllHold (entriesOf (now words) end) ⌝ ∗ ⌜ end ≤ mostEntries ⌝ }
     ensures { λ x. ⌜ x ≡ sumTo (λ j. entryOf (now (words .entry)) j .wcet) end ⌝ }
 {
     let mut sum = 0;
@@ -121,8 +122,8 @@ pub fn wcet_sum(words: &[u32; 320], end: usize) -> u64
 }
 
 // Where the test of the entry at `i` starts, in the group from `first` to `last`.
-fn start_at(words: &[u32; 320], count: usize, first: usize, last: usize, i: usize) -> u64
-    requires { ⌜ AllHold (entriesOf (now words) count) ⌝ ∗ ⌜ (first ≤ i) × (i ≤ last) × (last < count) × (count ≤ 64) ⌝ }
+fn start_at(words: &NodeWords, count: usize, first: usize, last: usize, i: usize) -> u64
+    requires { ⌜ AllHold (entriesOf (now words) count) ⌝ ∗ ⌜ InGroup count first last i ⌝ }
     ensures { λ x. ⌜ x ≡ start (entriesOf (now (words .entry)) count) (groupLevel first last) i ⌝ }
 {
     let own = entry_at(words, i);
@@ -131,13 +132,13 @@ fn start_at(words: &[u32; 320], count: usize, first: usize, last: usize, i: usiz
 
 // Times the entry at `i` of a node, in the group from `first` to `last`; the entries before it are more urgent.
 pub fn completion_test(
-    words: &[u32; 320],
+    words: &NodeWords,
     count: usize,
     first: usize,
     last: usize,
     i: usize,
 ) -> Timing
-    requires { ⌜ AllHold (entriesOf (now words) count) ⌝ ∗ ⌜ (first ≤ i) × (i ≤ last) × (last < count) × (count ≤ 64) ⌝ }
+    requires { ⌜ AllHold (entriesOf (now words) count) ⌝ ∗ ⌜ InGroup count first last i ⌝ }
     ensures answered { λ a. ⌜ completion a ≡ completionTest (entriesOf (now (words .entry)) count) (groupLevel first last) i ⌝ }
     ensures bounded { λ a.
         ⌜ roundsIn (completion a) ≤ roundsBound (entriesOf (now (words .entry)) count) (groupLevel first last) i ⌝ }

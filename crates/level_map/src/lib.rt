@@ -3,7 +3,7 @@ ghost use mathlib.Core.Path.{_≡_};
 ghost use mathlib.Core.List.{_++_};
 ghost use Prim.Native.Nat.{ℕ, _-_, _≤_, _<_};
 ghost use lib.ListN.{length, getD, take, drop, replicate};
-ghost use Rattle.task_model.specs.Limits.{AllHold, NodeHolds};
+ghost use Rattle.task_model.specs.Limits.{mostEntries, AllHold, NodeHolds};
 ghost use Rattle.task_model.specs.Words.{entriesOf, nodeOf};
 ghost use Rattle.level_map.specs.Map.{theMap};
 ghost use Rattle.level_map.specs.Answer.{answer, answerOf, bufferOf, Demand3};
@@ -12,6 +12,8 @@ use completion::Ending;
 use completion::behind_late;
 use completion::ends_on_time;
 use completion::wcet_sum;
+use task_model::MOST_ENTRIES;
+use task_model::NodeWords;
 
 // A map, with the number of its levels, or that no map passes.
 // `answer` in specs/Answer gives the number that a user sees.
@@ -29,8 +31,8 @@ enum Start {
 // The least start of a group that ends just before `end` and has no late entry. An entry that is late stays late in each
 // group that starts later and has it, since what leaves its level becomes more urgent: so the next start to try is behind
 // it, and the last entries, which rule out the most starts, are asked first. Of a longer group its lateness says nothing.
-fn least_start(words: &[u32; 320], count: usize, end: usize) -> Start
-    requires { ⌜ AllHold (entriesOf (now words) count) ⌝ ∗ ⌜ (end ≤ count) × (count ≤ 64) ⌝ }
+fn least_start(words: &NodeWords, count: usize, end: usize) -> Start
+    requires { ⌜ AllHold (entriesOf (now words) count) ⌝ ∗ ⌜ (end ≤ count) × (count ≤ mostEntries) ⌝ }
     ensures { λ a. ⌜ LeastStart (GroupPasses (entriesOf (now (words .entry)) count) end) end a ⌝ }
 {
     let runs = wcet_sum(words, end);
@@ -50,8 +52,8 @@ fn least_start(words: &[u32; 320], count: usize, end: usize) -> Start
 }
 
 // Gives the entries from `start` up to `end` the rank of their group.
-fn set_rank(ranks: &mut [u8; 64], start: usize, end: usize, rank: u8)
-    requires { ⌜ (start ≤ end) × (end ≤ 64) × (length (now ranks) ≡ 64) ⌝ }
+fn set_rank(ranks: &mut [u8; MOST_ENTRIES], start: usize, end: usize, rank: u8)
+    requires { ⌜ (start ≤ end) × (end ≤ mostEntries) × (length (now ranks) ≡ mostEntries) ⌝ }
     ensures { λ a. ⌜ now (ranks .exit) ≡ take start (now (ranks .entry)) ++ (replicate (end - start) rank ++ drop end (now (ranks .entry))) ⌝ }
 {
     for j in start..end {
@@ -61,8 +63,13 @@ fn set_rank(ranks: &mut [u8; 64], start: usize, end: usize, rank: u8)
 
 // Groups the entries from the least urgent end, each group as long as it can be, on at most `levels` levels; ranks are
 // counted from 0 at that end.
-fn rank_groups(words: &[u32; 320], count: usize, levels: u8, ranks: &mut [u8; 64]) -> Mapped
-    requires { ⌜ AllHold (entriesOf (now words) count) ⌝ ∗ ⌜ (count ≤ 64) × (length (now ranks) ≡ 64) ⌝ }
+fn rank_groups(
+    words: &NodeWords,
+    count: usize,
+    levels: u8,
+    ranks: &mut [u8; MOST_ENTRIES],
+) -> Mapped
+    requires { ⌜ AllHold (entriesOf (now words) count) ⌝ ∗ ⌜ (count ≤ mostEntries) × (length (now ranks) ≡ mostEntries) ⌝ }
     ensures { λ a. ⌜ Ranked (theMap (entriesOf (now (words .entry)) count) levels) count levels a (now (ranks .exit)) ⌝ }
 {
     let mut end = count;
@@ -82,8 +89,8 @@ fn rank_groups(words: &[u32; 320], count: usize, levels: u8, ranks: &mut [u8; 64
 }
 
 // Writes each entry's level; the bytes beyond are kept.
-fn write_levels(ranks: &[u8; 64], count: usize, groups: u8, out: &mut [u8])
-    requires { ⌜ (count ≤ length (now ranks)) × (count ≤ 64) × (count ≤ length (now out)) ⌝ ∗ ⌜ ((j : ℕ) → j < count → getD (now ranks) j 0 ≤ groups) ⌝ }
+fn write_levels(ranks: &[u8; MOST_ENTRIES], count: usize, groups: u8, out: &mut [u8])
+    requires { ⌜ (count ≤ length (now ranks)) × (count ≤ mostEntries) × (count ≤ length (now out)) ⌝ ∗ ⌜ ((j : ℕ) → j < count → getD (now ranks) j 0 ≤ groups) ⌝ }
     ensures { λ a. ⌜ now (out .exit) ≡ levelsByRank groups (take count (now (ranks .entry))) ++ drop count (now (out .entry)) ⌝ }
 {
     for j in 0..count {
@@ -92,13 +99,13 @@ fn write_levels(ranks: &[u8; 64], count: usize, groups: u8, out: &mut [u8])
 }
 
 // Maps a node within the limits: one byte an entry from the start of `out`, which is untouched where no map passes.
-pub fn map_node(words: &[u32; 320], count: usize, levels: u8, out: &mut [u8]) -> Mapped
+pub fn map_node(words: &NodeWords, count: usize, levels: u8, out: &mut [u8]) -> Mapped
     requires { ⌜ NodeHolds (nodeOf (now words) count levels) ⌝ ∗ ⌜ count ≤ length (now out) ⌝ }
     ensures answered { λ a. ⌜ answer a ≡ answerOf (theMap (entriesOf (now (words .entry)) count) levels) ⌝ }
     ensures written { λ a. ⌜ now (out .exit) ≡ bufferOf (theMap (entriesOf (now (words .entry)) count) levels) (now (out .entry)) ⌝ }
     ensures best { λ a. ⌜ Demand3 (entriesOf (now (words .entry)) count) levels (answer a) (take count (now (out .exit))) ⌝ }
 {
-    let mut ranks = [0u8; 64];
+    let mut ranks = [0u8; MOST_ENTRIES];
     let mapped = rank_groups(words, count, levels, &mut ranks);
     let Mapped::Levels(groups) = mapped else {
         return mapped;

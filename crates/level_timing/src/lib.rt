@@ -1,16 +1,18 @@
 // The timing of an entry under a list of levels: equal levels are a group.
 ghost use mathlib.Core.Path.{_≡_};
 ghost use Prim.Native.Nat.{_≤_, _<_};
-ghost use Rattle.task_model.specs.Limits.{AllHold};
+ghost use Rattle.task_model.specs.Limits.{mostEntries, AllHold};
 ghost use Rattle.task_model.specs.Words.{entriesOf};
 ghost use Rattle.completion.specs.Test.{completion, completionTest};
 ghost use Rattle.level_map.specs.Assignments.{levelOf};
 ghost use Rattle.level_timing.specs.Levels.{NeverFalls, FirstOf, LastOf};
 use completion::Timing;
+use task_model::MOST_ENTRIES;
+use task_model::NodeWords;
 
 // The first position of the group of the entry at `i`.
-fn group_first(levels: &[u8; 64], i: usize) -> usize
-    requires { ⌜ i < 64 ⌝ }
+fn group_first(levels: &[u8; MOST_ENTRIES], i: usize) -> usize
+    requires { ⌜ i < mostEntries ⌝ }
     ensures { λ first. ⌜ FirstOf (now (levels .entry)) i first ⌝ }
 {
     let mut first = i;
@@ -24,8 +26,8 @@ fn group_first(levels: &[u8; 64], i: usize) -> usize
 }
 
 // The last position of the group of the entry at `i`, of `count` entries.
-fn group_last(levels: &[u8; 64], count: usize, i: usize) -> usize
-    requires { ⌜ (i < count) × (count ≤ 64) ⌝ }
+fn group_last(levels: &[u8; MOST_ENTRIES], count: usize, i: usize) -> usize
+    requires { ⌜ (i < count) × (count ≤ mostEntries) ⌝ }
     ensures { λ last. ⌜ LastOf count (now (levels .entry)) i last ⌝ }
 {
     let mut last = i;
@@ -39,8 +41,8 @@ fn group_last(levels: &[u8; 64], count: usize, i: usize) -> usize
 }
 
 // Times the entry at `i` of a node under levels that never fall along the list.
-pub fn time_under(words: &[u32; 320], count: usize, levels: &[u8; 64], i: usize) -> Timing
-    requires { ⌜ AllHold (entriesOf (now words) count) ⌝ ∗ ⌜ (i < count) × (count ≤ 64) ⌝ ∗ ⌜ NeverFalls count (now levels) ⌝ }
+pub fn time_under(words: &NodeWords, count: usize, levels: &[u8; MOST_ENTRIES], i: usize) -> Timing
+    requires { ⌜ AllHold (entriesOf (now words) count) ⌝ ∗ ⌜ (i < count) × (count ≤ mostEntries) ⌝ ∗ ⌜ NeverFalls count (now levels) ⌝ }
     ensures { λ a. ⌜ completion a ≡ completionTest (entriesOf (now (words .entry)) count) (levelOf (now (levels .entry))) i ⌝ }
 {
     let first = group_first(levels, i);

@@ -4,7 +4,7 @@ ghost use mathlib.Core.Path.{_≡_};
 ghost use Prim.Native.Nat.{_+_, _*_, _≤_, _<_};
 ghost use lib.ListN.{length};
 ghost use Rattle.task_model.specs.Refusals.{numbered, accepted};
-ghost use Rattle.task_model.specs.Limits.{AllHold};
+ghost use Rattle.task_model.specs.Limits.{mostEntries, AllHold};
 ghost use Rattle.task_model.specs.Words.{entriesOf};
 ghost use mathlib.Core.List.{_++_};
 ghost use Rattle.text.specs.Text.{Wrote, Upto};
@@ -19,6 +19,9 @@ ghost use Rattle.task_model.specs.Answers.{left};
 use completion::Timing;
 use level_map::Mapped;
 use task_model::Checked;
+use task_model::MOST_ENTRIES;
+use task_model::NODE_WORDS;
+use task_model::NodeWords;
 use task_model::Refusal;
 use text::put_bytes;
 use text::put_field;
@@ -132,14 +135,14 @@ fn put_refused_line(out: &mut [u8], at: usize, r: Refusal) -> usize
 
 // The line of the entry at `i` under the levels of a map.
 fn put_entry(
-    words: &[u32; 320],
+    words: &NodeWords,
     count: usize,
-    levels: &[u8; 64],
+    levels: &[u8; MOST_ENTRIES],
     i: usize,
     out: &mut [u8],
     at: usize,
 ) -> usize
-    requires { ⌜ AllHold (entriesOf (now words) count) ⌝ ∗ ⌜ (i < count) × (count ≤ 64) ⌝ ∗ ⌜ NeverFalls count (now levels) ⌝
+    requires { ⌜ AllHold (entriesOf (now words) count) ⌝ ∗ ⌜ (i < count) × (count ≤ mostEntries) ⌝ ∗ ⌜ NeverFalls count (now levels) ⌝
         ∗ ⌜ at + 56 ≤ length (now out) ⌝ }
     ensures { λ end.
         ⌜ Upto (now (out .entry)) at 56 (entryText (entriesOf (now (words .entry)) count) (now (levels .entry)) i)
@@ -154,13 +157,13 @@ fn put_entry(
 
 // The lines of a node's entries, in listed order.
 fn put_entries(
-    words: &[u32; 320],
+    words: &NodeWords,
     count: usize,
-    levels: &[u8; 64],
+    levels: &[u8; MOST_ENTRIES],
     out: &mut [u8],
     at: usize,
 ) -> usize
-    requires { ⌜ AllHold (entriesOf (now words) count) ⌝ ∗ ⌜ count ≤ 64 ⌝ ∗ ⌜ NeverFalls count (now levels) ⌝
+    requires { ⌜ AllHold (entriesOf (now words) count) ⌝ ∗ ⌜ count ≤ mostEntries ⌝ ∗ ⌜ NeverFalls count (now levels) ⌝
         ∗ ⌜ at + 56 * count ≤ length (now out) ⌝ }
     ensures { λ end.
         ⌜ Upto (now (out .entry)) at (56 * count)
@@ -181,8 +184,8 @@ fn put_node(file: &[u8], row: usize, out: &mut [u8], at: usize) -> usize
         (nodeText (rowIn (planIn (now (file .entry)) .rows) row .number) (nodeOfRow (planIn (now (file .entry))) row))
         (now (out .exit)) end ⌝ }
 {
-    let mut words = [0u32; 320];
-    let mut levels = [0u8; 64];
+    let mut words = [0u32; NODE_WORDS];
+    let mut levels = [0u8; MOST_ENTRIES];
     let r = plan_file::load_node(file, row, &mut words);
     let count = r.count as usize;
     let mapped = level_map::map_node(&words, count, r.levels, &mut levels);

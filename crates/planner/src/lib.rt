@@ -8,6 +8,8 @@ ghost use Rattle.plan_file.specs.Find.{findCheck, nodeFound};
 ghost use Rattle.planner.specs.Mapping.{answer, heldAnswer, heldBuffer, fileAnswer, fileBuffer, NodeDemand3};
 use level_map::Mapped;
 use plan_file::FoundNode;
+use task_model::NODE_WORDS;
+use task_model::NodeWords;
 use task_model::Refusal;
 
 // A map, with the number of its levels, or why there is none.
@@ -18,7 +20,7 @@ pub enum MappedNode {
 
 // Maps a node that is at hand and within the limits; refuses a buffer with less than a byte an entry (10), and a node
 // without a map (11), and leaves the buffer untouched then.
-pub fn map_held(words: &[u32; 320], count: usize, levels: u8, out: &mut [u8]) -> MappedNode
+pub fn map_held(words: &NodeWords, count: usize, levels: u8, out: &mut [u8]) -> MappedNode
     requires { ⌜ NodeHolds (nodeOf (now words) count levels) ⌝ }
     ensures { λ a. ⌜ answer a ≡ heldAnswer (nodeOf (now (words .entry)) count levels) (length (now (out .entry))) ⌝ }
     ensures { λ a. ⌜ now (out .exit) ≡ heldBuffer (nodeOf (now (words .entry)) count levels) (now (out .entry)) ⌝ }
@@ -42,7 +44,7 @@ pub fn map_node(file: &[u8], number: u16, out: &mut [u8]) -> MappedNode
         ⌜ (findCheck (now (file .entry)) number ≡ accepted →
         NodeDemand3 (nodeFound (now (file .entry)) number) (now (out .entry)) (answer a) (now (out .exit))) ⌝ }
 {
-    let mut words = [0u32; 320];
+    let mut words = [0u32; NODE_WORDS];
     let found = plan_file::find_node(file, number, &mut words);
     match found {
         FoundNode::Refused(r) => MappedNode::Refused(r),

@@ -12,7 +12,7 @@ use lib.Dec.{leb}
 use borrow.Author.Tests.{leb-true, le-leb}
 use Rattle.task_model.specs.declared.Entry.{Entry}
 use Rattle.task_model.specs.Refusals.{Numbered, at, accepted, refused}
-use Rattle.task_model.specs.Limits.{Node, entryAt, TimesHold, EntryHolds, AllHold}
+use Rattle.task_model.specs.Limits.{mostTicks, mostLevels, mostEntries, Node, entryAt, TimesHold, EntryHolds, AllHold}
 use Rattle.task_model.specs.Checks.{kindTest, timesTest, entryCheck, entriesCheck, sizeTest, nodeCheck}
 use Rattle.task_model.specs.Words.{entryOf, entriesFrom, entriesOf}
 
@@ -37,8 +37,8 @@ module _ (e : Entry) where
         le-leb 1 (e .wcet) (h .runs),
         le-leb (e .wcet) (e .deadline) (h .due),
         le-leb (e .deadline) (e .period) (h .periodic),
-        le-leb (e .period) 1000000000 (h .longest),
-        le-leb (e .blocking) 1000000000 (h .blocked),
+        le-leb (e .period) mostTicks (h .longest),
+        le-leb (e .blocking) mostTicks (h .blocked),
       )
 
   pub times-hold : timesTest e ≡ true → TimesHold e
@@ -60,16 +60,16 @@ module _ (e : Entry) where
   times-false n = decided (timesTest e) times-hold n
 
   -- the last of the tests decides, once the others hold
-  pub times-rest : 1 ≤ e .wcet → e .wcet ≤ e .deadline → e .deadline ≤ e .period → e .period ≤ 1000000000
-      → leb (e .blocking) 1000000000 ≡ timesTest e
+  pub times-rest : 1 ≤ e .wcet → e .wcet ≤ e .deadline → e .deadline ≤ e .period → e .period ≤ mostTicks
+      → leb (e .blocking) mostTicks ≡ timesTest e
   unfolding timesTest
   times-rest h1 h2 h3 h4 = rw (le-leb _ _ h1, le-leb _ _ h2, le-leb _ _ h3, le-leb _ _ h4)
 
-pub sizes-true : (levels count : ℕ) → 1 ≤ levels → levels ≤ 64 → count ≤ 64 → sizeTest levels count ≡ true
+pub sizes-true : (levels count : ℕ) → 1 ≤ levels → levels ≤ mostLevels → count ≤ mostEntries → sizeTest levels count ≡ true
 unfolding sizeTest
-sizes-true levels count h1 h2 h3 = rw (le-leb 1 levels h1, le-leb levels 64 h2, le-leb count 64 h3)
+sizes-true levels count h1 h2 h3 = rw (le-leb 1 levels h1, le-leb levels mostLevels h2, le-leb count mostEntries h3)
 
-pub sizes-hold : {levels count : ℕ} → sizeTest levels count ≡ true → (1 ≤ levels) × (levels ≤ 64) × (count ≤ 64)
+pub sizes-hold : {levels count : ℕ} → sizeTest levels count ≡ true → (1 ≤ levels) × (levels ≤ mostLevels) × (count ≤ mostEntries)
 unfolding sizeTest
 sizes-hold p =
     let p1 = and-true _ _ p in
@@ -130,12 +130,12 @@ length-entries ws j (suc n) = ap suc (length-entries ws (suc j) n)
 
 -- 4, then the entries
 module _ (row : ℕ) (n : Node) where
-  pub node-sizes : ((1 ≤ n .levels) → (n .levels ≤ 64) → (length (n .entries) ≤ 64) → ⊥) → nodeCheck row n ≡ refused (at 4 row 0)
+  pub node-sizes : ((1 ≤ n .levels) → (n .levels ≤ mostLevels) → (length (n .entries) ≤ mostEntries) → ⊥) → nodeCheck row n ≡ refused (at 4 row 0)
   unfolding nodeCheck
   node-sizes out =
       rw (decided (sizeTest (n .levels) (length (n .entries))) sizes-hold (λ h. out (h .0) (h .1) (h .2)), nodeCheck)
 
-  pub node-entries : 1 ≤ n .levels → n .levels ≤ 64 → length (n .entries) ≤ 64
+  pub node-entries : 1 ≤ n .levels → n .levels ≤ mostLevels → length (n .entries) ≤ mostEntries
       → nodeCheck row n ≡ entriesCheck row 0 (n .entries)
   unfolding nodeCheck
   node-entries h1 h2 h3 = rw (sizes-true (n .levels) (length (n .entries)) h1 h2 h3, nodeCheck)

@@ -18,7 +18,11 @@ use Rattle.task_model.specs.declared.Refusal.the-variants.{
   OutsideList,
   FullList,
 }
-use Rattle.task_model.specs.Refusals.{numbered}
+use Rattle.task_model.specs.Refusals.{Numbered, at, numbered}
+
+-- A number with its places, field by field.
+pub by-fields : (n : Numbered) (number row entry : ℕ) → number ≡ n .number → row ≡ n .row → entry ≡ n .entry → at number row entry ≡ n
+by-fields n number row entry p q r = rw (p, q, r)
 
 -- No refusal has the number 0: to a caller from C, 0 says that nothing was refused.
 pub number-some : (r : Refusal) → numbered r .number ≡ 0 → ⊥

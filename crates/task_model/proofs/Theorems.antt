@@ -10,7 +10,7 @@ use lib.Dec.{leb, eqb}
 use borrow.Author.Tests.{leb-true, le-leb, eqb-true}
 use Rattle.task_model.specs.declared.Entry.{Entry}
 use Rattle.task_model.specs.Refusals.{Numbered, at, Outcome, accepted, refused}
-use Rattle.task_model.specs.Limits.{Node, entryAt, KindHolds, TimesHold, EntryHolds, AllHold, NodeHolds}
+use Rattle.task_model.specs.Limits.{mostLevels, mostEntries, Node, entryAt, KindHolds, TimesHold, EntryHolds, AllHold, NodeHolds}
 use Rattle.task_model.specs.Checks.{kindTest, timesTest, entryCheck, entriesCheck, sizeTest, nodeCheck}
 use Rattle.task_model.proofs.Laws.{
   and-true,
@@ -185,7 +185,7 @@ module _ (row : ℕ) where
   -- It is refused as 4 exactly if its sizes are outside: not 1 to 64 levels, or more than 64 entries.
   pub sizes-refused : (n : Node)
       → nodeCheck row n ≡ refused (at 4 row 0)
-      ↔ (((1 ≤ n .levels) × (n .levels ≤ 64) × (length (n .entries) ≤ 64)) → ⊥)
+      ↔ (((1 ≤ n .levels) × (n .levels ≤ mostLevels) × (length (n .entries) ≤ mostEntries)) → ⊥)
   sizes-refused n = (
     λ a h.
         let r = entries-refused (n .entries) (at 4 row 0) (sym (node-entries row n (h .0) (h .1) (h .2)) ∙ a) in

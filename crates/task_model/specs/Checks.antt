@@ -6,7 +6,7 @@ use lib.ListN.{length}
 use lib.Dec.{leb, eqb}
 use Rattle.task_model.specs.declared.Entry.{Entry}
 use Rattle.task_model.specs.Refusals.{at, Outcome, accepted, refused}
-use Rattle.task_model.specs.Limits.{Node}
+use Rattle.task_model.specs.Limits.{mostTicks, mostLevels, mostEntries, Node}
 
 -- Kind 1 with up to 15 calls, or kind 2 with none.
 unfoldable pub kindTest : ℕ → ℕ → Bool
@@ -16,8 +16,8 @@ kindTest kind calls = (eqb kind 1 && leb calls 15) || (eqb kind 2 && eqb calls 0
 unfoldable pub timesTest : Entry → Bool
 timesTest e =
     leb 1 (e .wcet) && leb (e .wcet) (e .deadline) && leb (e .deadline) (e .period)
-    && leb (e .period) 1000000000
-    && leb (e .blocking) 1000000000
+    && leb (e .period) mostTicks
+    && leb (e .blocking) mostTicks
 
 -- An entry: first its kind with its calls (7), then its times (8).
 unfoldable pub entryCheck : ℕ → ℕ → Entry → Outcome
@@ -41,7 +41,7 @@ entriesCheck row position (e ∷ es) =
 
 -- 1 to 64 levels and up to 64 entries.
 unfoldable pub sizeTest : ℕ → ℕ → Bool
-sizeTest levels count = leb 1 levels && leb levels 64 && leb count 64
+sizeTest levels count = leb 1 levels && leb levels mostLevels && leb count mostEntries
 
 -- A node: first its sizes (4), then its entries.
 unfoldable pub nodeCheck : ℕ → Node → Outcome

@@ -6,6 +6,16 @@ use mathlib.Core.List.{List}
 use lib.ListN.{length, getD}
 use Rattle.task_model.specs.declared.Entry.{Entry}
 
+-- The longest period and the longest blocking, in ticks; the most levels and the most entries of a node.
+abbrev pub mostTicks : ℕ
+mostTicks = 1000000000
+
+abbrev pub mostLevels : ℕ
+mostLevels = 64
+
+abbrev pub mostEntries : ℕ
+mostEntries = 64
+
 -- A node: its priority levels, and its entries in listed order, most urgent first.
 pub record Node : Type 0 where
   pub levels : ℕ
@@ -28,8 +38,8 @@ pub record TimesHold (e : Entry) : Type 0 where
   pub runs : 1 ≤ e .wcet
   pub due : e .wcet ≤ e .deadline
   pub periodic : e .deadline ≤ e .period
-  pub longest : e .period ≤ 1000000000
-  pub blocked : e .blocking ≤ 1000000000
+  pub longest : e .period ≤ mostTicks
+  pub blocked : e .blocking ≤ mostTicks
 
 pub record EntryHolds (e : Entry) : Type 0 where
   pub kind : KindHolds e
@@ -42,6 +52,6 @@ AllHold es = (j : ℕ) → j < length es → EntryHolds (entryAt es j)
 -- 1 to 64 levels, up to 64 entries, each within the limits.
 pub record NodeHolds (n : Node) : Type 0 where
   pub someLevels : 1 ≤ n .levels
-  pub fewLevels : n .levels ≤ 64
-  pub fewEntries : length (n .entries) ≤ 64
+  pub fewLevels : n .levels ≤ mostLevels
+  pub fewEntries : length (n .entries) ≤ mostEntries
   pub each : AllHold (n .entries)

@@ -4,7 +4,14 @@ use Prim.Native.Nat.{ℕ, zero, suc, _+_, _*_, _/_, _%_}
 use mathlib.Core.List.{List, [], _∷_}
 use lib.ListN.{getD}
 use Rattle.task_model.specs.declared.Entry.{Entry}
-use Rattle.task_model.specs.Limits.{Node}
+use Rattle.task_model.specs.Limits.{mostEntries, Node}
+
+-- The words of an entry, and of a node with all the entries that it may have.
+abbrev pub entrySize : ℕ
+entrySize = 5
+
+abbrev pub nodeSize : ℕ
+nodeSize = mostEntries * entrySize
 
 -- The entry that five words from word `k` on hold.
 unfoldable pub entryFrom : List ℕ → ℕ → Entry
@@ -21,7 +28,7 @@ entryFrom ws k =
 
 -- The entry at position `j`.
 abbrev pub entryOf : List ℕ → ℕ → Entry
-entryOf ws j = entryFrom ws (j * 5)
+entryOf ws j = entryFrom ws (j * entrySize)
 
 -- The entries from position `j` on, `n` of them.
 unfoldable pub entriesFrom : List ℕ → ℕ → ℕ → List Entry

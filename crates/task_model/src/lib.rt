@@ -2,13 +2,25 @@
 ghost use mathlib.Core.Path.{_≡_};
 ghost use lib.ListN.{length};
 ghost use Prim.Native.Nat.{_+_, _*_, _<_, _≤_};
-ghost use Rattle.task_model.specs.Refusals.{outcome, at, numbered, numbersIn};
+ghost use Rattle.task_model.specs.Refusals.{outcome, numbered, numbersIn};
+ghost use Rattle.task_model.specs.Limits.{mostEntries};
 ghost use Rattle.task_model.specs.Checks.{kindTest, timesTest, entryCheck, entriesCheck, nodeCheck};
-ghost use Rattle.task_model.specs.Words.{entryFrom, entryOf, entriesFrom, nodeOf};
+ghost use Rattle.task_model.specs.Words.{entrySize, entryFrom, entryOf, entriesFrom, nodeOf};
 ghost use mathlib.Core.List.{[], _∷_};
 
-// The longest period and the longest blocking, in ticks.
+// The longest period and the longest blocking, in ticks; the most levels and the most entries of a node.
 pub const MOST_TICKS: u32 = 1000000000;
+
+pub const MOST_LEVELS: u8 = 64;
+
+pub const MOST_ENTRIES: usize = 64;
+
+// How many words of 32 bits hold an entry, and a node with all the entries it may have (specs/Words.antt).
+pub const ENTRY_WORDS: usize = 5;
+
+pub const NODE_WORDS: usize = MOST_ENTRIES * ENTRY_WORDS;
+
+pub type NodeWords = [u32; NODE_WORDS];
 
 // An entry of a node: a task, or a global critical section that runs here for a remote task.
 // (docs/SPEC.md, 'Terms', has the field's words beside these.)
@@ -57,14 +69,14 @@ pub struct Numbers {
 }
 
 fn numbers_at(number: u8, row: usize, entry: usize) -> Numbers
-    ensures { λ n. ⌜ numbersIn n ≡ at number row entry ⌝ }
+    ensures { λ n. ⌜ (n .number ≡ number) × (n .row ≡ row) × (n .entry ≡ entry) ⌝ }
 {
     Numbers { number, row, entry }
 }
 
-// The number of a refusal in the table, and its places.
-pub fn numbers_of(r: Refusal) -> Numbers
-    ensures { λ n. ⌜ numbersIn n ≡ numbered r ⌝ }
+// The table, a line for each refusal. With its promise field by field the prover needs no help.
+fn look_up(r: Refusal) -> Numbers
+    ensures { λ n. ⌜ (n .number ≡ numbered r .number) × (n .row ≡ numbered r .row) × (n .entry ≡ numbered r .entry) ⌝ }
 {
     match r {
         Refusal::ShortFile => numbers_at(1, 0, 0),
@@ -81,6 +93,13 @@ pub fn numbers_of(r: Refusal) -> Numbers
         Refusal::OutsideList => numbers_at(12, 0, 0),
         Refusal::FullList => numbers_at(13, 0, 0),
     }
+}
+
+// The number of a refusal in the table, and its places.
+pub fn numbers_of(r: Refusal) -> Numbers
+    ensures { λ n. ⌜ numbersIn n ≡ numbered r ⌝ }
+{
+    look_up(r)
 }
 
 // Whether the kind is one of the two, with as many remote calls as it may have.
@@ -149,7 +168,7 @@ pub fn entry_with(head: u32, wcet: u32, period: u32, deadline: u32, blocking: u3
 
 // The entry that five words of a slice hold, from word `k` on.
 pub fn entry_of(words: &[u32], k: usize) -> Entry
-    requires { ⌜ k + 5 ≤ length (now words) ⌝ }
+    requires { ⌜ k + entrySize ≤ length (now words) ⌝ }
     ensures { λ e. ⌜ e ≡ entryFrom (now (words .entry)) k ⌝ }
 {
     entry_with(
@@ -162,22 +181,22 @@ pub fn entry_of(words: &[u32], k: usize) -> Entry
 }
 
 // The entry at a position of a node's words.
-pub fn entry_at(words: &[u32; 320], position: usize) -> Entry
-    requires { ⌜ position < 64 ⌝ }
+pub fn entry_at(words: &NodeWords, position: usize) -> Entry
+    requires { ⌜ position < mostEntries ⌝ }
     ensures { λ e. ⌜ e ≡ entryOf (now (words .entry)) position ⌝ }
 {
-    entry_of(words, position * 5)
+    entry_of(words, position * ENTRY_WORDS)
 }
 
 // Accepts `count` entries that are all within the limits, from entry `first` of the words on; refuses the first that is
 // not.
 pub fn check_entries(row: usize, words: &[u32], first: usize, count: usize) -> Checked
-    requires { ⌜ (first + count) * 5 ≤ length (now words) ⌝ }
+    requires { ⌜ (first + count) * entrySize ≤ length (now words) ⌝ }
     ensures { λ a. ⌜ outcome a ≡ entriesCheck row 0 (entriesFrom (now (words .entry)) first count) ⌝ }
 {
     let mut position: usize = 0;
     while position < count {
-        let e = entry_of(words, (first + position) * 5);
+        let e = entry_of(words, (first + position) * ENTRY_WORDS);
         let found = check_entry(row, position, e);
         let Checked::Accepted = found else {
             return found;
@@ -188,16 +207,16 @@ pub fn check_entries(row: usize, words: &[u32], first: usize, count: usize) -> C
 }
 
 // Accepts a node within the limits; refuses its level or entry count (4), then its first entry that breaks one.
-pub fn check_node(row: usize, words: &[u32; 320], count: usize, levels: u8) -> Checked
+pub fn check_node(row: usize, words: &NodeWords, count: usize, levels: u8) -> Checked
     ensures { λ a. ⌜ outcome a ≡ nodeCheck row (nodeOf (now (words .entry)) count levels) ⌝ }
 {
     if levels < 1 {
         return Checked::Refused(Refusal::Row { row });
     }
-    if 64 < levels {
+    if MOST_LEVELS < levels {
         return Checked::Refused(Refusal::Row { row });
     }
-    if 64 < count {
+    if MOST_ENTRIES < count {
         return Checked::Refused(Refusal::Row { row });
     }
     check_entries(row, words, 0, count)
