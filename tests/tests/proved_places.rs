@@ -83,7 +83,8 @@ fn a_fault_in_every_entry_of_a_file() {
         for (position, entry) in node.entries.iter().enumerate() {
             let faults = entry_faults(*entry);
             // All calls for one fault of each number, the check for the others.
-            let (kind, ticks) = (position % 6, 6 + row % 6);
+            let at = row + position;
+            let (kind, ticks) = (at % 6, 6 + at % 10);
             for (which, (wrong, number)) in faults.into_iter().enumerate() {
                 let due = Refusal::at_entry(number, row, position);
                 put_entry(&mut file, row, position, &wrong);
@@ -183,7 +184,9 @@ fn a_fault_in_every_entry_for_the_writer() {
         let (row, position) = (at / MAX_ENTRIES, at % MAX_ENTRIES);
         let kept = entries[at];
         let faults = entry_faults(kept);
-        for (wrong, number) in [faults[position % 6], faults[6 + row % 6]] {
+        // Each row and each position comes to every fault.
+        let which = row + position;
+        for (wrong, number) in [faults[which % 6], faults[6 + which % 10]] {
             entries[at] = wrong;
             let due = Refusal::at_entry(number, row, position);
             assert_not_written(&mut tally, &rows, &entries, due);

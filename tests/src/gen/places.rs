@@ -73,7 +73,32 @@ pub fn entry_faults(entry: Entry) -> Vec<(Entry, u8)> {
     ];
     let kinds = kinds.into_iter().chain(calls).chain([section]);
     let kinds = kinds.map(|entry| (entry, KIND));
+    let ticks = ticks.into_iter().chain(high_bits(entry));
     kinds.chain(ticks.map(|entry| (entry, TICKS))).collect()
+}
+
+/// Each of the four ticks with the highest of its 32 bits set: it is good only
+/// to who drops that bit.
+fn high_bits(entry: Entry) -> [Entry; 4] {
+    let high = 1 << 31;
+    [
+        Entry {
+            c: entry.c | high,
+            ..entry
+        },
+        Entry {
+            t: entry.t | high,
+            ..entry
+        },
+        Entry {
+            d: entry.d | high,
+            ..entry
+        },
+        Entry {
+            b: entry.b | high,
+            ..entry
+        },
+    ]
 }
 
 /// The plan's file with another row at an index; its offset stays.
