@@ -16,11 +16,11 @@
  * docs/SPEC.md says what is computed, in which terms, and in which order calls are checked.
  *
  * maiplur_list and maiplur_session_time follow every round of the completion time test, and an entry can have up to 10^9 of
- * them. A station's plan is listed in less than a millisecond. But one node with the tasks (C/T/D) 1/2/2, 1/3/3, 1/7/7,
- * 1/43/43, 1/1807/1807 and 59 of 1/1000000000/1000000000 took half a minute, and by that figure a plan of 32 such nodes
- * takes a quarter of an hour. Maps are found without most rounds, but a node that misses by little can take a second or two
- * (docs/BENCHMARKS.md). No call can be stopped from within: a caller that takes plans from others makes it in a process of
- * its own.
+ * them. A station's plan is listed in less than a millisecond. But one node of 64 levels with the tasks (C/T/D, with r and B
+ * 0) 1/2/2, 1/3/3, 1/7/7, 1/43/43, 1/1807/1807 and 59 of 1/1000000000/1000000000 took half a minute, and by that figure a
+ * plan of 32 such nodes takes a quarter of an hour. Maps are found without most rounds, but a node that misses by little can
+ * take a second or two (docs/BENCHMARKS.md). No call can be stopped from within: a caller that takes plans from others makes
+ * it in a process of its own.
  */
 #ifndef MAIPLUR_H
 #define MAIPLUR_H

@@ -96,9 +96,9 @@ impl Fuzz {
     }
 
     fn row(&mut self) -> Result<(), Difference> {
-        let row = row(&mut self.rng);
-        self.rows += 1;
         let tally = &mut self.sessions;
+        let row = row(&mut self.rng, tally);
+        self.rows += 1;
         let compared = panic::catch_unwind(AssertUnwindSafe(|| compare::session::row(tally, &row)));
         compared.map_err(|_| Difference {
             end: "session",

@@ -101,12 +101,13 @@ mod tests {
     use super::*;
     use crate::gen::ops::row;
     use crate::rng::Rng;
+    use crate::tally::Tally;
 
     #[test]
     fn a_row_is_kept_by_its_text() {
         let mut rng = Rng::new(3);
         for _ in 0..50 {
-            let row = row(&mut rng);
+            let row = row(&mut rng, &mut Tally::default());
             assert_eq!(Row::from_text(&row.to_text()), row);
         }
     }

@@ -19,6 +19,7 @@ fn a_short_run() {
     files.assert_maps(times(3_000), times(8_000));
     files.assert_few_left_out(25);
     sessions.assert_maps(times(4_000), times(4_000));
+    sessions.assert_few_left_out(15);
     for number in 1..=11 {
         assert!(files.met(number) >= times(500), "{number}: {files}");
     }

@@ -8,7 +8,8 @@ use oracle::gen::damage::{damage, AIMS};
 use oracle::gen::lent::sound;
 use oracle::gen::parts::{damage_parts, PART_AIMS};
 use oracle::gen::places::{
-    entry_faults, full_plan, offset_faults, put_entry, put_words, row_faults, with_offset, with_row,
+    entry_faults, full_plan, offset_faults, put_entry, put_words, row_faults, with_offset,
+    with_row, KIND_FAULTS, TICK_FAULTS,
 };
 use oracle::lent::{session_in, Words};
 use oracle::model::{Entry, Plan, Row, MAX_ENTRIES, MAX_NODES};
@@ -82,8 +83,10 @@ fn a_fault_in_every_entry_of_a_file() {
     for (row, node) in plan.nodes.iter().enumerate() {
         for (position, entry) in node.entries.iter().enumerate() {
             let faults = entry_faults(*entry);
+            assert_eq!(faults.len(), KIND_FAULTS + TICK_FAULTS);
             // All calls for one fault of each number, the check for the others.
-            let (kind, ticks) = (position % 6, 6 + row % 6);
+            let at = row + position;
+            let (kind, ticks) = (at % KIND_FAULTS, KIND_FAULTS + at % TICK_FAULTS);
             for (which, (wrong, number)) in faults.into_iter().enumerate() {
                 let due = Refusal::at_entry(number, row, position);
                 put_entry(&mut file, row, position, &wrong);
@@ -183,7 +186,11 @@ fn a_fault_in_every_entry_for_the_writer() {
         let (row, position) = (at / MAX_ENTRIES, at % MAX_ENTRIES);
         let kept = entries[at];
         let faults = entry_faults(kept);
-        for (wrong, number) in [faults[position % 6], faults[6 + row % 6]] {
+        // Each row and each position comes to every fault.
+        let which = row + position;
+        let kind = faults[which % KIND_FAULTS];
+        let ticks = faults[KIND_FAULTS + which % TICK_FAULTS];
+        for (wrong, number) in [kind, ticks] {
             entries[at] = wrong;
             let due = Refusal::at_entry(number, row, position);
             assert_not_written(&mut tally, &rows, &entries, due);

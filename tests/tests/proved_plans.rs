@@ -129,7 +129,10 @@ fn many_rounds() {
         compare::list(&mut tally, &file);
         most = most.max(rounds_of_the_last(&oracle::listing::list(&file)));
     }
+    // Written past the harness, which keeps what passing tests print.
+    writeln!(std::io::stdout(), "\nat most {most} rounds: {tally}").expect("output is open");
     assert!(most > 10_000, "{most}");
+    tally.assert_maps(times(20), times(5));
 }
 
 /// The rounds in the last line of a listing, or 0 where there is no map.

@@ -29,11 +29,13 @@ fn program() -> PathBuf {
     root().join("target/bin/list_plan")
 }
 
-fn assert_listed(pieces: &[&[u8]], pause: Duration) {
+/// The program lists the file as is due; gives the listing.
+fn assert_listed(pieces: &[&[u8]], pause: Duration) -> String {
     let (text, ended) = run(&program(), pieces, pause);
     assert!(ended);
     let due = list(&pieces.concat());
     assert_eq!(String::from_utf8_lossy(&text), due);
+    due
 }
 
 /// Each sample against the listing that is kept beside it.
@@ -59,6 +61,7 @@ fn samples() {
 #[test]
 fn generated_plans() {
     let mut rng = rng(230);
+    let (mut maps, mut none) = (0, 0);
     for draw in [
         plans::small,
         plans::wide,
@@ -71,9 +74,12 @@ fn generated_plans() {
         for _ in 0..times(20) {
             let file = encode(&draw(&mut rng)).unwrap();
             let most = rng.pick(&[7, 100, 100_000]);
-            assert_listed(&pieces(&mut rng, &file, most), Duration::ZERO);
+            let text = assert_listed(&pieces(&mut rng, &file, most), Duration::ZERO);
+            maps += text.matches(" of ").count() as u64;
+            none += text.matches(" no map\n").count() as u64;
         }
     }
+    assert!(maps > times(200) && none > times(300), "{maps} {none}");
 }
 
 #[test]

@@ -14,9 +14,10 @@ use oracle::tally::Tally;
 /// Bytes that suffice for every listing.
 const MOST_TEXT: usize = 115_625;
 
-/// Into a buffer a byte too short, an exact one, and long ones.
-fn assert_kept(tally: &mut Tally, file: &[u8]) {
-    let text = list(file).into_bytes();
+/// Into a buffer a byte too short, an exact one, and long ones; gives the text.
+fn assert_kept(tally: &mut Tally, file: &[u8]) -> String {
+    let listing = list(file);
+    let text = listing.as_bytes();
     let rooms = [
         text.len() - 1,
         text.len(),
@@ -26,8 +27,9 @@ fn assert_kept(tally: &mut Tally, file: &[u8]) {
         2 * MOST_TEXT,
     ];
     for room in rooms {
-        compare::list_into(tally, file, &text, room);
+        compare::list_into(tally, file, text, room);
     }
+    listing
 }
 
 #[test]
@@ -61,10 +63,14 @@ fn long_texts() {
 #[test]
 fn generated_plans() {
     let (mut rng, mut tally) = (rng(330), Tally::default());
+    let (mut maps, mut none) = (0, 0);
     for draw in [plans::small, plans::wide, plans::station, plans::many_nodes] {
         for _ in 0..times(20) {
-            assert_kept(&mut tally, &encode(&draw(&mut rng)).unwrap());
+            let text = assert_kept(&mut tally, &encode(&draw(&mut rng)).unwrap());
+            maps += text.matches(" of ").count() as u64;
+            none += text.matches(" no map\n").count() as u64;
         }
     }
     assert_eq!(tally.met(10), times(80));
+    assert!(maps > times(200) && none > times(300), "{maps} {none}");
 }

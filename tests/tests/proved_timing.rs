@@ -65,7 +65,7 @@ fn rounds_above_65_535() {
     ));
     assert!(late > 65_535 && met > 65_535, "{late} {met}");
     assert!(above_12 > times(30), "{above_12}");
-    assert!(tally.met(11) > times(30), "{tally}");
+    tally.assert_maps(times(20), times(31));
 }
 
 /// More than 2^22 rounds, on time and late, in a session and in a listing.
@@ -179,6 +179,7 @@ fn releases_above_2_to_the_23rd() {
     ));
     assert!(on_time > times(50) && most > 1 << 25, "{on_time} {most}");
     assert!(longest > 1 << 29, "{longest}");
+    tally.assert_maps(times(75), 0);
 }
 
 /// Five entries with 800,001 releases each, and a demand above 2^32.

@@ -101,6 +101,7 @@ fn sessions_that_fill_up() {
         assert_eq!(longest, 64);
     }
     assert!(tally.met(13) > times(100), "{tally}");
+    tally.assert_maps(times(40), 0);
 }
 
 #[test]

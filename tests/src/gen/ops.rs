@@ -9,6 +9,7 @@ use crate::model::{Entry, MAX_LEVELS};
 use crate::rng::Rng;
 use crate::rows::Row;
 use crate::session::{Op, Session};
+use crate::tally::Tally;
 
 /// How a row of operations goes.
 #[derive(Clone, Copy, Debug, PartialEq, Eq)]
@@ -41,11 +42,11 @@ pub fn next_op(rng: &mut Rng, session: &Session, course: Course) -> Op {
 }
 
 /// A row of operations on a blank, short, full or damaged session, or on one
-/// that holds a node of a plan.
-pub fn row(rng: &mut Rng) -> Row {
+/// that holds a node of a plan; the tally counts what is left out for its cost.
+pub fn row(rng: &mut Rng, tally: &mut Tally) -> Row {
     if rng.chance(1, 3) {
         let family = rng.pick(&FAMILIES);
-        return family.row(rng);
+        return family.row(rng, tally);
     }
     let (start, course) = match rng.below(4) {
         0 => ([0; 322], Course::Short),

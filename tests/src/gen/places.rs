@@ -43,11 +43,16 @@ pub fn offset_faults(required: u32) -> Vec<u32> {
     bits.chain(near).chain([0, u32::MAX]).collect()
 }
 
+/// How many faults of [`entry_faults`] are 7; they come first.
+pub const KIND_FAULTS: usize = 8;
+/// How many are 8.
+pub const TICK_FAULTS: usize = 10;
+
 /// An entry with each fault that 7 or 8 is for, and the number.
 pub fn entry_faults(entry: Entry) -> Vec<(Entry, u8)> {
     let top = MAX_TICKS + 1;
-    let kinds = [0, 3, 255].map(|kind| Entry { kind, ..entry });
-    let calls = [MAX_R + 1, 255].map(|r| Entry { r, ..entry });
+    let kinds = [0, 3, 255, entry.kind | 0x80].map(|kind| Entry { kind, ..entry });
+    let calls = [MAX_R + 1, 255, entry.r | 0x80].map(|r| Entry { r, ..entry });
     let section = Entry {
         r: 1,
         kind: SECTION,
@@ -73,7 +78,32 @@ pub fn entry_faults(entry: Entry) -> Vec<(Entry, u8)> {
     ];
     let kinds = kinds.into_iter().chain(calls).chain([section]);
     let kinds = kinds.map(|entry| (entry, KIND));
+    let ticks = ticks.into_iter().chain(high_bits(entry));
     kinds.chain(ticks.map(|entry| (entry, TICKS))).collect()
+}
+
+/// Each of the four ticks with the highest of its 32 bits set: it is good only
+/// to who drops that bit.
+fn high_bits(entry: Entry) -> [Entry; 4] {
+    let high = 1 << 31;
+    [
+        Entry {
+            c: entry.c | high,
+            ..entry
+        },
+        Entry {
+            t: entry.t | high,
+            ..entry
+        },
+        Entry {
+            d: entry.d | high,
+            ..entry
+        },
+        Entry {
+            b: entry.b | high,
+            ..entry
+        },
+    ]
 }
 
 /// The plan's file with another row at an index; its offset stays.

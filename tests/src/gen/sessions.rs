@@ -9,6 +9,7 @@ use crate::model::{Entry, Node, Plan, MAX_ENTRIES, MAX_R, MAX_TICKS, TASK};
 use crate::rng::Rng;
 use crate::rows::Row;
 use crate::session::{Op, Session};
+use crate::tally::Tally;
 
 /// Where the nodes of a session come from.
 #[derive(Clone, Copy, Debug)]
@@ -67,8 +68,9 @@ impl Family {
         Session::holding(usize::from(levels), &entries).expect("generators give good nodes")
     }
 
-    /// A row of changes, maps and timings whose tests are all short enough.
-    pub fn row(&self, rng: &mut Rng) -> Row {
+    /// A row of changes, maps and timings whose tests are all short enough; the
+    /// tally counts the changes that are left out.
+    pub fn row(&self, rng: &mut Rng, tally: &mut Tally) -> Row {
         let mut held = self.session(rng);
         let start = words_of(&held);
         let mut ops = Vec::new();
@@ -76,7 +78,9 @@ impl Family {
             let mut changed = held.clone();
             let op = self.change(rng, &held);
             changed.apply(&op, &mut []).expect("the change is good");
-            if self.fits(changed.entries()) {
+            let fits = self.fits(changed.entries());
+            tally.node(fits);
+            if fits {
                 held = changed;
                 ops.push(op);
             }
