@@ -14,7 +14,7 @@ use Rattle.task_model.proofs.Theorems.{either, not-both}
 use Rattle.completion.proofs.Iteration.{le-or-lt}
 use Rattle.plan_file.specs.declared.Row.{Row}
 use Rattle.plan_file.specs.Plan.{rowOf}
-use Rattle.plan_file.specs.Encoding.{opening, bodiesStart}
+use Rattle.plan_file.specs.Encoding.{rowLength, headerLength, entryLength, opening, bodiesStart}
 use Rattle.plan_file.specs.Check.{opensAt, openingTest, countTest, zerosTest, rowTest, contentsCheck, headerCheck, layoutCheck, fileCheck}
 use Rattle.plan_file.specs.Decoding.{wordAt, nodeCount, rowsFrom}
 use Rattle.plan_file.proofs.Contents.{length-rows}
@@ -64,7 +64,7 @@ module _ (f g : List ℕ) (lf : 41224 < length f) (lg : 41224 < length g) (same 
   header-same : headerCheck g ≡ headerCheck f
   unfolding headerCheck
   header-same =
-      ap₂ _andThen_ (ap (λ b. mustHold b (at 1 0 0)) (enough 8 (omega arith)))
+      ap₂ _andThen_ (ap (λ b. mustHold b (at 1 0 0)) (enough headerLength (omega arith)))
       (ap₂ _andThen_ (ap (λ b. mustHold b (at 2 0 0)) opening-same)
       (ap₂ (λ n z. mustHold (countTest n && z) (at 3 0 0) andThen mustHold (leb (bodiesStart n) (length g)) (at 1 0 0)) nodes-same zeros-same
       ∙ room (countTest (nodeCount f) && zerosTest f) refl))
@@ -76,7 +76,7 @@ module _ (f g : List ℕ) (lf : 41224 < length f) (lg : 41224 < length g) (same 
   rows-same : (i n : ℕ) → i + n ≤ 32 → rowsFrom g i n ≡ rowsFrom f i n
   unfolding rowsFrom
   rows-same i zero h = refl
-  rows-same i (suc n) h = ap₂ _∷_ (ap rowOf (word-same (8 + i * 8) (omega arith))) (rows-same (suc i) n (omega arith))
+  rows-same i (suc n) h = ap₂ _∷_ (ap rowOf (word-same (headerLength + i * rowLength) (omega arith))) (rows-same (suc i) n (omega arith))
 
   contents-same : (i least required : ℕ) (rs : List Row) → i + length rs ≤ 32
       → contentsCheck g i least required rs ≡ contentsCheck f i least required rs
@@ -84,8 +84,8 @@ module _ (f g : List ℕ) (lf : 41224 < length f) (lg : 41224 < length g) (same 
   contents-same i least required [] h = refl
   contents-same i least required (r ∷ rs) h =
       ap (λ x. mustHold (rowTest least r) (at 4 i 0) andThen x)
-      (ap₂ _andThen_ (ap (λ x. mustHold (eqb x required) (at 5 i 0)) (word-same (8 + i * 8 + 4) (omega arith)))
-      (contents-same (suc i) (suc (r .number)) (required + r .count * 20) rs (omega arith)))
+      (ap₂ _andThen_ (ap (λ x. mustHold (eqb x required) (at 5 i 0)) (word-same (headerLength + i * rowLength + 4) (omega arith)))
+      (contents-same (suc i) (suc (r .number)) (required + r .count * entryLength) rs (omega arith)))
 
 module _ (f g : List ℕ) (lf : 41224 < length f) (lg : 41224 < length g) (same : (k : ℕ) → k < 264 → getD g k 0 ≡ getD f k 0) where
   -- where the rows are accepted, both end too late

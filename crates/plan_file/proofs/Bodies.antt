@@ -6,6 +6,7 @@ use native.Mathlib.Omega.{arith}
 use native.Mathlib.Numerals.{add-one}
 use lib.ListN.{length, take, drop, length-take, length-drop}
 use lib.Seq.{getD-take, getD-drop}
+use Rattle.plan_file.specs.Encoding.{entryLength}
 use Rattle.task_model.specs.declared.Entry.{Entry}
 use Rattle.task_model.specs.Refusals.{Numbered, Outcome, accepted, refused, _andThen_}
 use Rattle.task_model.specs.Checks.{entryCheck, entriesCheck}
@@ -22,31 +23,31 @@ use Rattle.task_model.proofs.Outcomes.{then-accepted}
 pub length-entries-at : (f : List ℕ) (k n : ℕ) → length (entriesAt f k n) ≡ n
 unfolding entriesAt
 length-entries-at f k zero = refl
-length-entries-at f k (suc n) = ap suc (length-entries-at f (k + 20) n)
+length-entries-at f k (suc n) = ap suc (length-entries-at f (k + entryLength) n)
 
 pub take-entries : (f : List ℕ) (k n m : ℕ) → take n (entriesAt f k (n + m)) ≡ entriesAt f k n
 unfolding entriesAt
 take-entries f k zero m = refl
 take-entries f k (suc n) m =
-    let e : suc n + m ≡ suc (n + m) = omega arith in rw (e, entriesAt) (ap (λ es. entryIn f k ∷ es) (take-entries f (k + 20) n m))
+    let e : suc n + m ≡ suc (n + m) = omega arith in rw (e, entriesAt) (ap (λ es. entryIn f k ∷ es) (take-entries f (k + entryLength) n m))
 
-pub drop-entries : (f : List ℕ) (k n m : ℕ) → drop n (entriesAt f k (n + m)) ≡ entriesAt f (k + n * 20) m
+pub drop-entries : (f : List ℕ) (k n m : ℕ) → drop n (entriesAt f k (n + m)) ≡ entriesAt f (k + n * entryLength) m
 unfolding entriesAt
 drop-entries f k zero m =
-    let e : 0 + m ≡ m = omega arith in let e2 : k + 0 * 20 ≡ k = omega arith in rw (e, e2)
+    let e : 0 + m ≡ m = omega arith in let e2 : k + 0 * entryLength ≡ k = omega arith in rw (e, e2)
 drop-entries f k (suc n) m =
     let e : suc n + m ≡ suc (n + m) = omega arith in
-    let e2 : k + suc n * 20 ≡ k + 20 + n * 20 = omega arith in
-    rw (e, e2) (drop-entries f (k + 20) n m)
+    let e2 : k + suc n * entryLength ≡ k + entryLength + n * entryLength = omega arith in
+    rw (e, e2) (drop-entries f (k + entryLength) n m)
 
 -- the entries of one body from position `j` on, of `n`, which begin at byte `k`
 module _ (f : List ℕ) (row k j n : ℕ) where
-  entries-first : j < n → entriesAt f k (n - j) ≡ entryIn f k ∷ entriesAt f (k + 20) (n - (j + 1))
+  entries-first : j < n → entriesAt f k (n - j) ≡ entryIn f k ∷ entriesAt f (k + entryLength) (n - (j + 1))
   unfolding entriesAt
   entries-first h = let e : n - j ≡ suc (n - (j + 1)) = omega arith in rw (e, entriesAt)
 
   pub body-next : j < n → entryCheck row j (entryIn f k) ≡ accepted
-      → entriesCheck row j (entriesAt f k (n - j)) ≡ entriesCheck row (j + 1) (entriesAt f (k + 20) (n - (j + 1)))
+      → entriesCheck row j (entriesAt f k (n - j)) ≡ entriesCheck row (j + 1) (entriesAt f (k + entryLength) (n - (j + 1)))
   body-next h p = rw (entries-first h, add-one j) (entries-next row j (entryIn f k) _ p)
 
   pub body-stop : j < n → (r : Numbered) → entryCheck row j (entryIn f k) ≡ refused r
@@ -63,7 +64,7 @@ bodiesFrom f k i n = nodesCheck i (rowsFrom f i (n - i)) (entriesAt f k (entryCo
 
 module _ (f : List ℕ) (k i n : ℕ) where
   opened : i < n → bodiesFrom f k i n
-      ≡ entriesCheck i 0 (entriesAt f k (rowAt f i .count)) andThen bodiesFrom f (k + rowAt f i .count * 20) (i + 1) n
+      ≡ entriesCheck i 0 (entriesAt f k (rowAt f i .count)) andThen bodiesFrom f (k + rowAt f i .count * entryLength) (i + 1) n
   unfolding nodesCheck entryCount
   opened h =
       rw (rows-first f i n h)
@@ -74,7 +75,7 @@ module _ (f : List ℕ) (k i n : ℕ) where
       ))
 
   pub bodies-next : i < n → entriesCheck i 0 (entriesAt f k (rowAt f i .count)) ≡ accepted
-      → bodiesFrom f k i n ≡ bodiesFrom f (k + rowAt f i .count * 20) (i + 1) n
+      → bodiesFrom f k i n ≡ bodiesFrom f (k + rowAt f i .count * entryLength) (i + 1) n
   bodies-next h p = opened h ∙ rw p
 
   pub bodies-stop : i < n → (r : Numbered) → entriesCheck i 0 (entriesAt f k (rowAt f i .count)) ≡ refused r

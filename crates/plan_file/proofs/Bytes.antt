@@ -6,7 +6,7 @@ use lib.Dec.{lit<}
 use Rattle.task_model.specs.declared.Entry.{Entry}
 use Rattle.plan_file.specs.declared.Row.{Row}
 use Rattle.plan_file.specs.Plan.{Plan}
-use Rattle.plan_file.specs.Encoding.{low, headerBytes, rowBytes, entryBytes, contentsBytes, bodiesBytes, encoding, Bytes}
+use Rattle.plan_file.specs.Encoding.{entryLength, low, headerBytes, rowBytes, entryBytes, contentsBytes, bodiesBytes, encoding, Bytes}
 
 data Small : List ℕ → Type 0 where
   none : Small []
@@ -31,7 +31,7 @@ unfolding contentsBytes rowBytes
 small-contents offset [] = none
 small-contents offset (r ∷ rs) =
     both (both (both (both (small-low 2 _) (small-low 1 _)) (small-low 1 _)) (small-low 4 _))
-    (small-contents (offset + r .count * 20) rs)
+    (small-contents (offset + r .count * entryLength) rs)
 
 small-entry : (e : Entry) → Small (entryBytes e)
 unfolding entryBytes

@@ -9,6 +9,7 @@ use native.Mathlib.Numerals.{add-one}
 use lib.ListN.{length, length-map}
 use lib.Dec.{eqb}
 use borrow.Author.Tests.{eq-eqb, ne-eqb}
+use Rattle.plan_file.specs.Encoding.{rowLength, headerLength, entryLength}
 use Rattle.task_model.specs.Refusals.{at, refused, mustHold}
 use Rattle.plan_file.specs.declared.Row.{Row}
 use Rattle.plan_file.specs.Plan.{entryCount, rowWord}
@@ -51,10 +52,10 @@ module _ (f : List ℕ) (i least required : ℕ) (r : Row) (rs : List Row) where
   layout-offset p q = rw (p, ne-eqb _ _ q)
 
   pub layout-next : rowTest least r ≡ true → offsetAt f i ≡ required
-      → layoutCheck f i least required (r ∷ rs) ≡ layoutCheck f (suc i) (suc (r .number)) (required + r .count * 20) rs
+      → layoutCheck f i least required (r ∷ rs) ≡ layoutCheck f (suc i) (suc (r .number)) (required + r .count * entryLength) rs
   unfolding layoutCheck contentsCheck entryCount
   layout-next p q =
-      let e : required + (r .count + entryCount rs) * 20 ≡ required + r .count * 20 + entryCount rs * 20 = omega arith in
+      let e : required + (r .count + entryCount rs) * entryLength ≡ required + r .count * entryLength + entryCount rs * entryLength = omega arith in
       rw (p, eq-eqb (offsetAt f i) required q, e)
 
 -- the same at index `i` of `n` rows
@@ -68,7 +69,7 @@ module _ (f : List ℕ) (i n least required : ℕ) (h : i < n) where
 
   pub at-next : rowTest least (rowAt f i) ≡ true → offsetAt f i ≡ required
       → layoutCheck f i least required (rowsFrom f i (n - i))
-      ≡ layoutCheck f (i + 1) (rowAt f i .number + 1) (required + rowAt f i .count * 20) (rowsFrom f (i + 1) (n - (i + 1)))
+      ≡ layoutCheck f (i + 1) (rowAt f i .number + 1) (required + rowAt f i .count * entryLength) (rowsFrom f (i + 1) (n - (i + 1)))
   at-next p q =
       rw (rows-first f i n h, add-one i, add-one (rowAt f i .number)) (layout-next f i least required (rowAt f i) _ p q)
 
@@ -76,7 +77,7 @@ pub at-end : (f : List ℕ) (i n least required : ℕ) → n ≤ i
     → layoutCheck f i least required (rowsFrom f i (n - i)) ≡ mustHold (eqb (length f) required) (at 6 0 0)
 unfolding layoutCheck contentsCheck entryCount
 at-end f i n least required h =
-    let e : required + 0 * 20 ≡ required = omega arith in rw (rows-end f i n h) (rw e)
+    let e : required + 0 * entryLength ≡ required = omega arith in rw (rows-end f i n h) (rw e)
 
 pub rows-snoc : (f : List ℕ) (i n : ℕ) → rowsFrom f i (n + 1) ≡ rowsFrom f i n ++ (rowAt f (i + n) ∷ [])
 unfolding rowsFrom
@@ -87,7 +88,7 @@ rows-snoc f i (suc n) =
     rw (e, e2, rowsFrom) (ap (λ rs. rowAt f i ∷ rs) (rows-snoc f (suc i) n))
 
 -- the words of the rows, with one row more
-pub row-words-snoc : (f : List ℕ) (n w : ℕ) → w ≡ wordAt f (8 + n * 8) → w < 4294967296
+pub row-words-snoc : (f : List ℕ) (n w : ℕ) → w ≡ wordAt f (headerLength + n * rowLength) → w < 4294967296
     → map rowWord (rowsFrom f 0 (n + 1)) ≡ map rowWord (rowsFrom f 0 n) ++ (w ∷ [])
 row-words-snoc f n w e h =
     let z : 0 + n ≡ n = omega arith in

@@ -5,18 +5,23 @@ use mathlib.Core.List.{List, [], _∷_, _++_, append-assoc, append-nil}
 use native.Mathlib.Nat.{add-zero}
 use native.Mathlib.Omega.{arith}
 use lib.ListN.{length, getD, drop}
-use lib.Seq.{drop-drop, drop-append-seam, getD-drop}
+use lib.Seq.{take-all, drop-drop, drop-append-seam, getD-drop}
 use borrow.Author.Tests.{eq-eqb}
 use Rattle.task_model.specs.declared.Entry.{Entry}
 use Rattle.task_model.specs.Refusals.{accepted, mustHold}
+use Rattle.task_model.specs.Limits.{mostEntries}
+use Rattle.task_model.specs.Words.{entrySize, wordsOf, entriesOf, EntriesFit, WordsFit}
+use Rattle.task_model.proofs.Words.{read-entries, words-fit}
+use Rattle.task_model.proofs.Words.{length-words as length-words-of}
 use Rattle.plan_file.specs.declared.Row.{Row}
-use Rattle.plan_file.specs.Plan.{Plan, entryCount, rowWord, rowOf, RowFits, EntryFits, RowsFit, EntriesFit, PlanFits}
-use Rattle.plan_file.specs.Encoding.{low, headerBytes, rowBytes, entryBytes, bodiesStart, contentsBytes, bodiesBytes, encoding}
-use Rattle.plan_file.specs.Decoding.{wordAt, nodeCount, rowAt, offsetAt, rowsFrom, rowsIn, entryIn, entriesAt, entriesIn, planIn}
+use Rattle.plan_file.specs.Plan.{Plan, entryCount, rowWord, rowOf, RowFits, RowsFit, PlanFits}
+use Rattle.plan_file.specs.Encoding.{rowLength, headerLength, entryLength, low, headerBytes, rowBytes, bodiesStart, contentsBytes, bodiesBytes, encoding}
+use Rattle.plan_file.specs.Decoding.{wordAt, wordsFrom, nodeCount, rowAt, offsetAt, rowsFrom, rowsIn, entriesAt, entriesIn, planIn}
+use Rattle.plan_file.specs.Buffers.{bytesOf}
 use Rattle.plan_file.specs.Check.{rowTest, rowsCheck, contentsCheck, layoutCheck, headerCheck, fileCheck, planCheck}
 use Rattle.task_model.proofs.Outcomes.{both-accepted, demanded}
 use Rattle.plan_file.proofs.Tests.{row-holds, opens-true, counted-true}
-use Rattle.plan_file.proofs.Words.{entryWith, entry-in, row-bytes, entry-bytes}
+use Rattle.plan_file.proofs.Words.{length-low, row-bytes, bodies-bytes, entries-in-words}
 use Rattle.plan_file.proofs.Encoding.{length-encoding}
 use Rattle.plan_file.proofs.Header.{header-accepted}
 use Rattle.plan_file.proofs.File.{file-bodies}
@@ -43,7 +48,7 @@ module _ (f : List ℕ) (k : ℕ) where
         byte-there (low 4 w ++ rest) e 3,
       )
 
--- a row and an entry are those of their words
+-- a row is that of its word
 row-same : {a b c a' b' c' : ℕ} → a ≡ a' → b ≡ b' → c ≡ c'
     → _≡_ {A = Row} (record { number = a; levels = b; count = c }) (record { number = a'; levels = b'; count = c' })
 row-same p q r = cc
@@ -56,58 +61,40 @@ row-word-below : (r : Row) → RowFits r → rowWord r < 4294967296
 unfolding rowWord
 row-word-below r h = omega arith
 
-entry-same : {a b c a' b' c' t p d x : ℕ} → a ≡ a' → b ≡ b' → c ≡ c'
-    → _≡_ {A = Entry}
-    (record { number = a; kind = b; calls = c; wcet = t; period = p; deadline = d; blocking = x })
-    (record { number = a'; kind = b'; calls = c'; wcet = t; period = p; deadline = d; blocking = x })
-entry-same p q r = cc
-
--- the first word of an entry
-unfoldable headWord : Entry → ℕ
-headWord e = e .number + e .kind * 65536 + e .calls * 16777216
-
-entry-of-words : (e : Entry) → EntryFits e → entryWith (headWord e) (e .wcet) (e .period) (e .deadline) (e .blocking) ≡ e
-unfolding entryWith headWord
-entry-of-words e h = entry-same (omega arith) (omega arith) (omega arith)
-
-head-below : (e : Entry) → EntryFits e → headWord e < 4294967296
-unfolding headWord
-head-below e h = omega arith
-
 -- a row that stands in a file
 module _ (f : List ℕ) (i : ℕ) (r : Row) (offset : ℕ) (rest : List ℕ) (h : RowFits r) (l : offset < 4294967296)
-    (e : drop (8 + i * 8) f ≡ rowBytes offset r ++ rest) where
-  in-words : drop (8 + i * 8) f ≡ low 4 (rowWord r) ++ (low 4 offset ++ rest)
+    (e : drop (headerLength + i * rowLength) f ≡ rowBytes offset r ++ rest) where
+  in-words : drop (headerLength + i * rowLength) f ≡ low 4 (rowWord r) ++ (low 4 offset ++ rest)
   in-words =
       e
       ∙ ap (λ s. s ++ rest) (ap (rowBytes offset) (sym (row-of-word r h)) ∙ row-bytes offset (rowWord r))
       ∙ append-assoc (low 4 (rowWord r)) (low 4 offset) rest
 
-  second : drop (8 + i * 8 + 4) f ≡ low 4 offset ++ rest
+  second : drop (headerLength + i * rowLength + 4) f ≡ low 4 offset ++ rest
   unfolding low
-  second = past f (8 + i * 8) (low 4 (rowWord r)) _ 4 refl in-words
+  second = past f (headerLength + i * rowLength) (low 4 (rowWord r)) _ 4 refl in-words
 
   pub row-there : rowAt f i ≡ r
-  row-there = ap rowOf (word-there f (8 + i * 8) (rowWord r) _ (row-word-below r h) in-words) ∙ row-of-word r h
+  row-there = ap rowOf (word-there f (headerLength + i * rowLength) (rowWord r) _ (row-word-below r h) in-words) ∙ row-of-word r h
 
   pub offset-there : offsetAt f i ≡ offset
-  offset-there = word-there f (8 + i * 8 + 4) offset rest l second
+  offset-there = word-there f (headerLength + i * rowLength + 4) offset rest l second
 
-  pub after-row : drop (8 + suc i * 8) f ≡ rest
+  pub after-row : drop (headerLength + suc i * rowLength) f ≡ rest
   unfolding low
   after-row =
-      let n : 8 + suc i * 8 ≡ 8 + i * 8 + 4 + 4 = omega arith in
-      rw n (past f (8 + i * 8 + 4) (low 4 offset) rest 4 refl second)
+      let n : headerLength + suc i * rowLength ≡ headerLength + i * rowLength + 4 + 4 = omega arith in
+      rw n (past f (headerLength + i * rowLength + 4) (low 4 offset) rest 4 refl second)
 
 -- contents that stand in a file: the rows are read again, and each is where it must be
 module _ (f : List ℕ) where
   pub record ContentsThere (i least offset : ℕ) (rs : List Row) (rest : List ℕ) : Type 0 where
     pub rows : rowsFrom f i (length rs) ≡ rs
     pub checks : contentsCheck f i least offset rs ≡ rowsCheck i least rs
-    pub after : drop (8 + (i + length rs) * 8) f ≡ rest
+    pub after : drop (headerLength + (i + length rs) * rowLength) f ≡ rest
 
   pub contents-there : (i least offset : ℕ) (rs : List Row) (rest : List ℕ) → RowsFit rs
-      → offset + entryCount rs * 20 < 4294967296 → drop (8 + i * 8) f ≡ contentsBytes offset rs ++ rest
+      → offset + entryCount rs * entryLength < 4294967296 → drop (headerLength + i * rowLength) f ≡ contentsBytes offset rs ++ rest
       → ContentsThere i least offset rs rest
   unfolding rowsFrom contentsCheck rowsCheck contentsBytes entryCount
   contents-there i least offset [] rest h l e =
@@ -116,7 +103,7 @@ module _ (f : List ℕ) where
       let e' = e ∙ append-assoc (rowBytes offset r) _ rest in
       let lo : offset < 4294967296 = omega arith in
       let t =
-      contents-there (suc i) (suc (r .number)) (offset + r .count * 20) rs rest (h .1) (omega arith)
+      contents-there (suc i) (suc (r .number)) (offset + r .count * entryLength) rs rest (h .1) (omega arith)
       (after-row f i r offset _ (h .0) lo e') in
       record {
         rows = rw (row-there f i r offset _ (h .0) lo e', t .rows);
@@ -124,58 +111,33 @@ module _ (f : List ℕ) where
         after = let n : i + suc (length rs) ≡ suc i + length rs = omega arith in rw n (t .after);
       }
 
--- an entry that stands in a file
-module _ (f : List ℕ) (k : ℕ) (e : Entry) (rest : List ℕ) (h : EntryFits e) (there : drop k f ≡ entryBytes e ++ rest) where
-  words : drop k f
-      ≡ low 4 (headWord e) ++ (low 4 (e .wcet) ++ (low 4 (e .period) ++ (low 4 (e .deadline) ++ (low 4 (e .blocking) ++ rest))))
-  words =
-      there
-      ∙ ap (λ s. s ++ rest)
-      (ap entryBytes (sym (entry-of-words e h)) ∙ entry-bytes (headWord e) (e .wcet) (e .period) (e .deadline) (e .blocking))
-      ∙ simp append-assoc
-
-  from4 : drop (k + 4) f ≡ low 4 (e .wcet) ++ (low 4 (e .period) ++ (low 4 (e .deadline) ++ (low 4 (e .blocking) ++ rest)))
-  unfolding low
-  from4 = past f k (low 4 (headWord e)) _ 4 refl words
-
-  from8 : drop (k + 8) f ≡ low 4 (e .period) ++ (low 4 (e .deadline) ++ (low 4 (e .blocking) ++ rest))
-  unfolding low
-  from8 = let n : k + 8 ≡ k + 4 + 4 = omega arith in rw n (past f (k + 4) (low 4 (e .wcet)) _ 4 refl from4)
-
-  from12 : drop (k + 12) f ≡ low 4 (e .deadline) ++ (low 4 (e .blocking) ++ rest)
-  unfolding low
-  from12 = let n : k + 12 ≡ k + 8 + 4 = omega arith in rw n (past f (k + 8) (low 4 (e .period)) _ 4 refl from8)
-
-  from16 : drop (k + 16) f ≡ low 4 (e .blocking) ++ rest
-  unfolding low
-  from16 = let n : k + 16 ≡ k + 12 + 4 = omega arith in rw n (past f (k + 12) (low 4 (e .deadline)) _ 4 refl from12)
-
-  pub after-entry : drop (k + 20) f ≡ rest
-  unfolding low
-  after-entry = let n : k + 20 ≡ k + 16 + 4 = omega arith in rw n (past f (k + 16) (low 4 (e .blocking)) _ 4 refl from16)
-
-  pub entry-there : entryIn f k ≡ e
-  entry-there =
-      entry-in f k
-      ∙ rw (
-        word-there f k (headWord e) _ (head-below e h) words,
-        word-there f (k + 4) (e .wcet) _ (h .wcet) from4,
-        word-there f (k + 8) (e .period) _ (h .period) from8,
-        word-there f (k + 12) (e .deadline) _ (h .deadline) from12,
-        word-there f (k + 16) (e .blocking) _ (h .blocking) from16,
-      )
-      (entry-of-words e h)
+-- words that stand in a file, and entries
+words-there : (f : List ℕ) (k : ℕ) (ws rest : List ℕ) → WordsFit ws → drop k f ≡ bytesOf ws ++ rest → wordsFrom f k (length ws) ≡ ws
+unfolding wordsFrom bytesOf
+words-there f k [] rest h e = refl
+words-there f k (w ∷ ws) rest h e =
+    let e' = e ∙ append-assoc (low 4 w) (bytesOf ws) rest in
+    rw (
+      word-there f k w _ (h 0) e',
+      words-there f (k + 4) ws rest (λ i. h (suc i)) (past f k (low 4 w) _ 4 (length-low 4 w) e'),
+    )
 
 pub entries-there : (f : List ℕ) (k : ℕ) (es : List Entry) (rest : List ℕ) → EntriesFit es
     → drop k f ≡ bodiesBytes es ++ rest → entriesAt f k (length es) ≡ es
-unfolding entriesAt bodiesBytes
-entries-there f k [] rest h e = refl
-entries-there f k (x ∷ es) rest h e =
-    let e' = e ∙ append-assoc (entryBytes x) _ rest in
-    rw (entry-there f k x _ (h .0) e', entries-there f (k + 20) es rest (h .1) (after-entry f k x _ (h .0) e'))
+entries-there f k es rest h e =
+    let ws = wordsOf es in
+    let l = length-words-of es in
+    let read : entriesOf ws (length es) ≡ es =
+    ap (λ l. entriesOf l (length es)) (sym (append-nil ws)) ∙ read-entries es [] h in
+    let bytes : bodiesBytes es ≡ bytesOf ws =
+    ap bodiesBytes (sym read) ∙ bodies-bytes (length es) ws (omega (arith, l)) ∙ ap bytesOf (take-all (length es * entrySize) ws (omega (arith, l))) in
+    entries-in-words f k (length es)
+    ∙ ap (λ n. entriesOf (wordsFrom f k n) (length es)) (sym l)
+    ∙ ap (λ l. entriesOf l (length es)) (words-there f k ws rest (words-fit es h) (e ∙ ap (λ s. s ++ rest) bytes))
+    ∙ read
 
 -- rows within the checks count few entries
-pub few-entries : (i least : ℕ) (rs : List Row) → rowsCheck i least rs ≡ accepted → entryCount rs ≤ length rs * 64
+pub few-entries : (i least : ℕ) (rs : List Row) → rowsCheck i least rs ≡ accepted → entryCount rs ≤ length rs * mostEntries
 unfolding rowsCheck entryCount
 few-entries i least [] a = omega arith
 few-entries i least (r ∷ rs) a =
@@ -188,14 +150,14 @@ plan-same p q = cc
 
 -- a plan within the checks
 module _ (p : Plan) (a : planCheck p ≡ accepted) (fits : PlanFits p) where
-  held : HandedHolds (p .rows) (p .entries) (length (p .entries) * 5)
+  held : HandedHolds (p .rows) (p .entries) (length (p .entries) * entrySize)
   held = handed-holds _ _ _ a
 
   nodes : nodeCount (encoding p) ≡ length (p .rows)
   unfolding encoding headerBytes low
   nodes = let h = held .few in omega arith
 
-  after-header : drop (8 + 0 * 8) (encoding p) ≡ contentsBytes (bodiesStart (length (p .rows))) (p .rows) ++ bodiesBytes (p .entries)
+  after-header : drop (headerLength + 0 * rowLength) (encoding p) ≡ contentsBytes (bodiesStart (length (p .rows))) (p .rows) ++ bodiesBytes (p .entries)
   unfolding encoding headerBytes low
   after-header = refl
 
@@ -221,8 +183,8 @@ module _ (p : Plan) (a : planCheck p ≡ accepted) (fits : PlanFits p) where
   pub same-plan : planIn (encoding p) ≡ p
   same-plan = plan-same same-rows same-entries
 
-  long : length (encoding p) ≡ bodiesStart (length (p .rows)) + entryCount (p .rows) * 20
-  long = length-encoding p ∙ ap (λ n. bodiesStart (length (p .rows)) + n * 20) all-entries
+  long : length (encoding p) ≡ bodiesStart (length (p .rows)) + entryCount (p .rows) * entryLength
+  long = length-encoding p ∙ ap (λ n. bodiesStart (length (p .rows)) + n * entryLength) all-entries
 
   header : headerCheck (encoding p) ≡ accepted
   unfolding encoding headerBytes low

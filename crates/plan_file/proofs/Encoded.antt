@@ -7,13 +7,15 @@ use native.Mathlib.Omega.{arith}
 use lib.ListN.{length, take, drop}
 use lib.Seq.{drop-cons, drop-drop, take-add, take-all}
 use Rattle.task_model.specs.Refusals.{accepted}
+use Rattle.task_model.specs.Words.{entrySize}
 use Rattle.plan_file.specs.declared.Row.{Row}
 use Rattle.plan_file.specs.Plan.{entryCount}
-use Rattle.plan_file.specs.Encoding.{low, headerBytes, rowBytes, entryBytes, bodiesStart, contentsBytes, bodiesBytes, encoding, Bytes}
-use Rattle.plan_file.specs.Decoding.{wordAt, nodeCount, rowAt, offsetAt, rowsFrom, rowsIn, entryIn, entriesAt, planIn}
+use Rattle.plan_file.specs.Encoding.{rowLength, headerLength, entryLength, low, headerBytes, rowBytes, bodiesStart, contentsBytes, bodiesBytes, encoding, Bytes}
+use Rattle.plan_file.specs.Decoding.{wordAt, wordsFrom, nodeCount, rowAt, offsetAt, rowsFrom, rowsIn, entriesAt, planIn}
+use Rattle.plan_file.specs.Buffers.{bytesOf}
 use Rattle.plan_file.specs.Check.{rowsCheck, contentsCheck, fileCheck}
 use Rattle.plan_file.proofs.Tests.{row-true}
-use Rattle.plan_file.proofs.Words.{entry-in, row-bytes, entry-bytes}
+use Rattle.plan_file.proofs.Words.{row-bytes, length-words, bodies-bytes, entries-in-words}
 use Rattle.plan_file.proofs.Contents.{length-rows}
 use Rattle.plan_file.proofs.File.{FileHolds, file-holds}
 use Rattle.plan_file.proofs.Nodes.{row-placed}
@@ -60,54 +62,51 @@ module _ (f : List ℕ) (b : Bytes f) where
         e3,
       )
 
-  row-part : (i required : ℕ) → offsetAt f i ≡ required → 8 + i * 8 + 8 ≤ length f
-      → rowBytes required (rowAt f i) ≡ part f (8 + i * 8) 8
+  row-part : (i required : ℕ) → offsetAt f i ≡ required → headerLength + i * rowLength + rowLength ≤ length f
+      → rowBytes required (rowAt f i) ≡ part f (headerLength + i * rowLength) rowLength
   row-part i required e h =
-      row-bytes required (wordAt f (8 + i * 8))
-      ∙ rw (← e, word-part (8 + i * 8) (omega arith), word-part (8 + i * 8 + 4) (omega arith))
-      (part-add f (8 + i * 8) 4 4)
+      row-bytes required (wordAt f (headerLength + i * rowLength))
+      ∙ rw (← e, word-part (headerLength + i * rowLength) (omega arith), word-part (headerLength + i * rowLength + 4) (omega arith))
+      (part-add f (headerLength + i * rowLength) 4 4)
 
   pub contents-part : (i n least required : ℕ) → contentsCheck f i least required (rowsFrom f i n) ≡ accepted
-      → 8 + (i + n) * 8 ≤ length f → contentsBytes required (rowsFrom f i n) ≡ part f (8 + i * 8) (n * 8)
+      → headerLength + (i + n) * rowLength ≤ length f → contentsBytes required (rowsFrom f i n) ≡ part f (headerLength + i * rowLength) (n * rowLength)
   unfolding rowsFrom contentsBytes
   contents-part i zero least required a h = refl
   contents-part i (suc n) least required a h =
       let p = row-placed f i least required (rowAt f i) (rowsFrom f (suc i) n) a in
-      let e : 8 + suc i * 8 ≡ 8 + i * 8 + 8 = omega arith in
-      let e2 : suc n * 8 ≡ 8 + n * 8 = omega arith in
+      let e : headerLength + suc i * rowLength ≡ headerLength + i * rowLength + rowLength = omega arith in
+      let e2 : suc n * rowLength ≡ rowLength + n * rowLength = omega arith in
       rw (
         row-part i required (p .placed) (omega arith),
         contents-part (suc i) n _ _ (p .rest) (omega arith),
         e,
         e2,
       )
-      (part-add f (8 + i * 8) 8 (n * 8))
+      (part-add f (headerLength + i * rowLength) rowLength (n * rowLength))
 
-  entry-part : (k : ℕ) → k + 20 ≤ length f → entryBytes (entryIn f k) ≡ part f k 20
-  entry-part k h =
-      ap entryBytes (entry-in f k)
-      ∙ entry-bytes _ _ _ _ _
-      ∙ rw (
-        word-part k (omega arith),
-        word-part (k + 4) (omega arith),
-        word-part (k + 8) (omega arith),
-        word-part (k + 12) (omega arith),
-        word-part (k + 16) (omega arith),
-      )
-      (rw (part-add f k 4 4, part-add f k 8 4, part-add f k 12 4, part-add f k 16 4))
+  words-part : (k n : ℕ) → k + n * 4 ≤ length f → bytesOf (wordsFrom f k n) ≡ part f k (n * 4)
+  unfolding wordsFrom bytesOf
+  words-part k zero h = refl
+  words-part k (suc n) h =
+      let e : suc n * 4 ≡ 4 + n * 4 = omega arith in
+      rw (word-part k (omega arith), words-part (k + 4) n (omega arith), e) (part-add f k 4 (n * 4))
 
-  pub bodies-part : (k n : ℕ) → k + n * 20 ≤ length f → bodiesBytes (entriesAt f k n) ≡ part f k (n * 20)
-  unfolding entriesAt bodiesBytes
-  bodies-part k zero h = refl
-  bodies-part k (suc n) h =
-      let e : suc n * 20 ≡ 20 + n * 20 = omega arith in
-      rw (entry-part k (omega arith), bodies-part (k + 20) n (omega arith), e) (part-add f k 20 (n * 20))
+  pub bodies-part : (k n : ℕ) → k + n * entryLength ≤ length f → bodiesBytes (entriesAt f k n) ≡ part f k (n * entryLength)
+  bodies-part k n h =
+      let l = length-words f k (n * entrySize) in
+      let e : n * entrySize * 4 ≡ n * entryLength = omega arith in
+      ap bodiesBytes (entries-in-words f k n)
+      ∙ bodies-bytes n _ (omega (arith, l))
+      ∙ ap bytesOf (take-all (n * entrySize) _ (omega (arith, l)))
+      ∙ words-part k (n * entrySize) (omega arith)
+      ∙ ap (part f k) e
 
   module _ (a : fileCheck f ≡ accepted) where
     held : FileHolds f
     held = file-holds f a
 
-    header-part : headerBytes (nodeCount f) ≡ part f 0 8
+    header-part : headerBytes (nodeCount f) ≡ part f 0 headerLength
     unfolding headerBytes low
     header-part =
         let h = held .header in
@@ -130,13 +129,13 @@ module _ (f : List ℕ) (b : Bytes f) where
     same-bytes =
         let n = nodeCount f in
         let s = held .ends in
-        let l : 8 + (0 + n) * 8 ≤ length f = omega (arith, held .header .contents) in
-        let t : bodiesStart n + entryCount (rowsIn f) * 20 ≤ length f = omega arith in
-        let e : 8 + n * 8 + entryCount (rowsIn f) * 20 ≡ length f = omega arith in
+        let l : headerLength + (0 + n) * rowLength ≤ length f = omega (arith, held .header .contents) in
+        let t : bodiesStart n + entryCount (rowsIn f) * entryLength ≤ length f = omega arith in
+        let e : headerLength + n * rowLength + entryCount (rowsIn f) * entryLength ≡ length f = omega arith in
         rw (length-rows f 0 n, header-part, contents-part 0 n 0 (bodiesStart n) (held .contents) l, bodies-part (bodiesStart n) (entryCount (rowsIn f)) t)
-        (rw (part-add f 0 8 (n * 8))
-        (ap (λ k. part f 0 (8 + n * 8) ++ part f k (entryCount (rowsIn f) * 20)) (sym (zero-add (8 + n * 8)))
-        ∙ part-add f 0 (8 + n * 8) (entryCount (rowsIn f) * 20)
+        (rw (part-add f 0 headerLength (n * rowLength))
+        (ap (λ k. part f 0 (headerLength + n * rowLength) ++ part f k (entryCount (rowsIn f) * entryLength)) (sym (zero-add (headerLength + n * rowLength)))
+        ∙ part-add f 0 (headerLength + n * rowLength) (entryCount (rowsIn f) * entryLength)
         ∙ rw e (take-all (length f) f (omega arith))))
 
 -- and its rows are within the writer's checks
@@ -146,4 +145,4 @@ unfolding contentsCheck rowsCheck
 contents-rows f i least required [] a = refl
 contents-rows f i least required (r ∷ rs) a =
     let p = row-placed f i least required r rs a in
-    rw (row-true least r (p .holds), contents-rows f (suc i) (suc (r .number)) (required + r .count * 20) rs (p .rest))
+    rw (row-true least r (p .holds), contents-rows f (suc i) (suc (r .number)) (required + r .count * entryLength) rs (p .rest))

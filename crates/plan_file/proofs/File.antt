@@ -7,14 +7,14 @@ use borrow.Author.Tests.{eqb-true}
 use Rattle.task_model.specs.Refusals.{Numbered, accepted, refused}
 use Rattle.plan_file.specs.declared.Row.{Row}
 use Rattle.plan_file.specs.Plan.{entryCount}
-use Rattle.plan_file.specs.Encoding.{bodiesStart}
+use Rattle.plan_file.specs.Encoding.{entryLength, bodiesStart}
 use Rattle.plan_file.specs.Decoding.{nodeCount, rowsIn, entriesIn}
 use Rattle.plan_file.specs.Check.{headerCheck, contentsCheck, layoutCheck, nodesCheck, fileCheck}
 use Rattle.task_model.proofs.Outcomes.{both-accepted, demanded}
 use Rattle.plan_file.proofs.Header.{HeaderHolds, header-holds}
 
 pub layout-holds : (f : List ℕ) (i least required : ℕ) (rows : List Row) → layoutCheck f i least required rows ≡ accepted
-    → (contentsCheck f i least required rows ≡ accepted) × (length f ≡ required + entryCount rows * 20)
+    → (contentsCheck f i least required rows ≡ accepted) × (length f ≡ required + entryCount rows * entryLength)
 unfolding layoutCheck
 layout-holds f i least required rows p =
     let q = both-accepted _ _ p in (q .0, eqb-true _ _ (demanded _ _ (q .1)))
@@ -38,7 +38,7 @@ module _ (f : List ℕ) where
   pub record FileHolds : Type 0 where
     pub header : HeaderHolds f
     pub contents : contentsCheck f 0 0 (bodiesStart (nodeCount f)) (rowsIn f) ≡ accepted
-    pub ends : length f ≡ bodiesStart (nodeCount f) + entryCount (rowsIn f) * 20
+    pub ends : length f ≡ bodiesStart (nodeCount f) + entryCount (rowsIn f) * entryLength
     pub bodies : nodesCheck 0 (rowsIn f) (entriesIn f) ≡ accepted
 
   pub file-holds : fileCheck f ≡ accepted → FileHolds

@@ -6,31 +6,32 @@ use mathlib.Core.List.{List}
 use lib.ListN.{length}
 use lib.Dec.{eqb}
 use borrow.Author.Tests.{le-leb, leb-true, eqb-true}
+use Rattle.task_model.specs.Words.{entrySize}
 use Rattle.task_model.specs.declared.Entry.{Entry}
 use Rattle.task_model.specs.Refusals.{Numbered, at, Outcome, accepted, refused, _andThen_, mustHold}
 use Rattle.task_model.proofs.Laws.{and-true, decided}
 use Rattle.plan_file.specs.declared.Row.{Row}
-use Rattle.plan_file.specs.Plan.{entryCount}
+use Rattle.plan_file.specs.Plan.{mostNodes, entryCount}
 use Rattle.plan_file.specs.Check.{countTest, rowsCheck, nodesCheck, handedCheck}
 use Rattle.task_model.proofs.Outcomes.{both-accepted, then-assoc, demanded}
 
-pub count-true : (n : ℕ) → 1 ≤ n → n ≤ 32 → countTest n ≡ true
+pub count-true : (n : ℕ) → 1 ≤ n → n ≤ mostNodes → countTest n ≡ true
 unfolding countTest
-count-true n h1 h2 = rw (le-leb 1 n h1, le-leb n 32 h2)
+count-true n h1 h2 = rw (le-leb 1 n h1, le-leb n mostNodes h2)
 
-pub count-hold : (n : ℕ) → countTest n ≡ true → (1 ≤ n) × (n ≤ 32)
+pub count-hold : (n : ℕ) → countTest n ≡ true → (1 ≤ n) × (n ≤ mostNodes)
 unfolding countTest
 count-hold n p = let q = and-true _ _ p in (leb-true _ _ (q .0), leb-true _ _ (q .1))
 
-pub count-false : (n : ℕ) → (1 ≤ n → n ≤ 32 → ⊥) → countTest n ≡ false
+pub count-false : (n : ℕ) → (1 ≤ n → n ≤ mostNodes → ⊥) → countTest n ≡ false
 count-false n out = decided (countTest n) (count-hold n) (λ h. out (h .0) (h .1))
 
 -- the rows' own check, and then that of the words
 abbrev pub tally : List Row → ℕ → Outcome
-tally rows words = rowsCheck 0 0 rows andThen mustHold (eqb words (entryCount rows * 5)) (at 6 0 0)
+tally rows words = rowsCheck 0 0 rows andThen mustHold (eqb words (entryCount rows * entrySize)) (at 6 0 0)
 
 pub tally-holds : (rows : List Row) (words : ℕ) → tally rows words ≡ accepted
-    → (rowsCheck 0 0 rows ≡ accepted) × (words ≡ entryCount rows * 5)
+    → (rowsCheck 0 0 rows ≡ accepted) × (words ≡ entryCount rows * entrySize)
 tally-holds rows words p =
     let q = both-accepted (rowsCheck 0 0 rows) _ p in (q .0, eqb-true _ _ (demanded _ _ (q .1)))
 
@@ -52,9 +53,9 @@ module _ (rows : List Row) (entries : List Entry) (words : ℕ) where
 
   pub record HandedHolds : Type 0 where
     pub some : 1 ≤ length rows
-    pub few : length rows ≤ 32
+    pub few : length rows ≤ mostNodes
     pub rowsHold : rowsCheck 0 0 rows ≡ accepted
-    pub counts : words ≡ entryCount rows * 5
+    pub counts : words ≡ entryCount rows * entrySize
     pub nodes : nodesCheck 0 rows entries ≡ accepted
 
   pub handed-holds : handedCheck rows entries words ≡ accepted → HandedHolds

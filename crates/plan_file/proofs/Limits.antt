@@ -6,6 +6,7 @@ use native.Mathlib.Omega.{arith}
 use lib.ListN.{length, take, drop, length-drop}
 use lib.Seq.{drop-drop, length-take-le}
 use borrow.Author.Tests.{eq-eqb, ne-eqb}
+use Rattle.task_model.specs.Words.{entrySize}
 use Rattle.task_model.specs.declared.Entry.{Entry}
 use Rattle.task_model.specs.Refusals.{at, accepted, refused, mustHold}
 use Rattle.task_model.specs.Limits.{AllHold}
@@ -14,9 +15,9 @@ use Rattle.task_model.proofs.Outcomes.{both-accepted, then-accepted, demanded, 
 use Rattle.task_model.proofs.Laws.{length-entries}
 use Rattle.task_model.proofs.Theorems.{entries-accepted}
 use Rattle.plan_file.specs.declared.Row.{Row}
-use Rattle.plan_file.specs.Plan.{Plan, entryCount, planOf}
+use Rattle.plan_file.specs.Plan.{mostNodes, Plan, entryCount, planOf}
 use Rattle.plan_file.specs.Check.{rowTest, rowsCheck, contentsCheck, layoutCheck, nodesCheck, planCheck, wordsCheck}
-use Rattle.plan_file.specs.Encoding.{bodiesStart}
+use Rattle.plan_file.specs.Encoding.{entryLength, bodiesStart}
 use Rattle.plan_file.specs.Decoding.{rowsFrom}
 use Rattle.plan_file.specs.Find.{rowIn, nodeOfRow}
 use Rattle.plan_file.specs.Limits.{PlanHolds}
@@ -102,7 +103,7 @@ module _ (p : Plan) where
   pub plan-holds : planCheck p ≡ accepted → PlanHolds p
   unfolding nodeOfRow
   plan-holds a =
-      let h = handed-holds (p .rows) (p .entries) (length (p .entries) * 5) a in
+      let h = handed-holds (p .rows) (p .entries) (length (p .entries) * entrySize) a in
       let e : entryCount (p .rows) ≡ length (p .entries) = omega (arith, h .counts) in
       record {
         some = h .some;
@@ -134,18 +135,18 @@ module _ (p : Plan) where
         fewEntries = omega (arith, length-node (h .counts) i l, n .fewEntries);
       })
       (h .rising) in
-      handed-nodes (p .rows) (p .entries) (length (p .entries) * 5) (count-true (length (p .rows)) (h .some) (h .few))
-      (then-accepted _ _ rows ∙ mustHold-accepts _ _ (eq-eqb (length (p .entries) * 5) (entryCount (p .rows) * 5) (omega (arith, h .counts))))
+      handed-nodes (p .rows) (p .entries) (length (p .entries) * entrySize) (count-true (length (p .rows)) (h .some) (h .few))
+      (then-accepted _ _ rows ∙ mustHold-accepts _ _ (eq-eqb (length (p .entries) * entrySize) (entryCount (p .rows) * entrySize) (omega (arith, h .counts))))
       ∙ nodes-accepted 0 (p .rows) (p .entries) (λ i l. h .nodes i l .each)
 
 -- words that are accepted hold a plan that is
 pub words-plan : (rs ws : List ℕ) → wordsCheck rs ws ≡ accepted → planCheck (planOf rs ws) ≡ accepted
 words-plan rs ws a =
-    let n : length ws / 5 * 5 ≡ length ws = omega (arith, handed-holds _ _ _ a .counts) in
-    rw (length-entries ws 0 (length ws / 5), n) a
+    let n : length ws / entrySize * entrySize ≡ length ws = omega (arith, handed-holds _ _ _ a .counts) in
+    rw (length-entries ws 0 (length ws / entrySize), n) a
 
 -- accepted rows end too early for a file that is longer than any plan's
-pub long-layout : (f : List ℕ) → 41224 < length f → (n : ℕ) → n ≤ 32
+pub long-layout : (f : List ℕ) → 41224 < length f → (n : ℕ) → n ≤ mostNodes
     → contentsCheck f 0 0 (bodiesStart n) (rowsFrom f 0 n) ≡ accepted
     → layoutCheck f 0 0 (bodiesStart n) (rowsFrom f 0 n) ≡ refused (at 6 0 0)
 unfolding layoutCheck
@@ -153,4 +154,4 @@ long-layout f l n few a =
     let rs = rowsFrom f 0 n in
     let k = few-entries 0 0 rs (contents-rows f 0 0 (bodiesStart n) rs a) in
     then-accepted _ _ a
-    ∙ mustHold-refuses _ _ (ne-eqb (length f) (bodiesStart n + entryCount rs * 20) (λ e. omega (arith, length-rows f 0 n)))
+    ∙ mustHold-refuses _ _ (ne-eqb (length f) (bodiesStart n + entryCount rs * entryLength) (λ e. omega (arith, length-rows f 0 n)))

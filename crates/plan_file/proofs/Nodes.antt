@@ -10,7 +10,7 @@ use Rattle.task_model.specs.Refusals.{accepted}
 use Rattle.task_model.specs.Limits.{Node}
 use Rattle.plan_file.specs.declared.Row.{Row}
 use Rattle.plan_file.specs.Plan.{entryCount}
-use Rattle.plan_file.specs.Encoding.{bodiesStart}
+use Rattle.plan_file.specs.Encoding.{entryLength, bodiesStart}
 use Rattle.plan_file.specs.Decoding.{nodeCount, rowAt, offsetAt, rowsFrom, rowsIn, entriesAt, planIn}
 use Rattle.plan_file.specs.Check.{contentsCheck, fileCheck}
 use Rattle.plan_file.specs.Find.{rowIn, nodeOfRow}
@@ -39,7 +39,7 @@ count-split (r ∷ rs) (suc i) h = omega (arith, count-split rs i (omega arith))
 pub record RowPlaced (f : List ℕ) (i least required : ℕ) (r : Row) (rs : List Row) : Type 0 where
   pub holds : RowHolds least r
   pub placed : offsetAt f i ≡ required
-  pub rest : contentsCheck f (suc i) (suc (r .number)) (required + r .count * 20) rs ≡ accepted
+  pub rest : contentsCheck f (suc i) (suc (r .number)) (required + r .count * entryLength) rs ≡ accepted
 
 pub row-placed : (f : List ℕ) (i least required : ℕ) (r : Row) (rs : List Row)
     → contentsCheck f i least required (r ∷ rs) ≡ accepted → RowPlaced f i least required r rs
@@ -56,16 +56,16 @@ row-placed f i least required r rs p =
 -- every row of accepted contents has the required offset, and is within the limits
 pub placed-at : (f : List ℕ) (j least required : ℕ) (rs : List Row) → contentsCheck f j least required rs ≡ accepted
     → (i : ℕ) → i < length rs
-    → (offsetAt f (j + i) ≡ required + entryCount (take i rs) * 20) × RowHolds 0 (rowIn rs i)
+    → (offsetAt f (j + i) ≡ required + entryCount (take i rs) * entryLength) × RowHolds 0 (rowIn rs i)
 unfolding entryCount
 placed-at f j least required [] p i h = absurd (omega arith)
 placed-at f j least required (r ∷ rs) p zero h =
     let q = row-placed f j least required r rs p in
-    let e : required + 0 * 20 ≡ required = omega arith in
+    let e : required + 0 * entryLength ≡ required = omega arith in
     ((rw (add-zero, e) (q .placed)), record { rises = omega arith; someLevels = q .holds .someLevels; fewLevels = q .holds .fewLevels; fewEntries = q .holds .fewEntries })
 placed-at f j least required (r ∷ rs) p (suc i) h =
     let q = row-placed f j least required r rs p in
-    let t = placed-at f (suc j) (suc (r .number)) (required + r .count * 20) rs (q .rest) i (omega arith) in
+    let t = placed-at f (suc j) (suc (r .number)) (required + r .count * entryLength) rs (q .rest) i (omega arith) in
     let e : j + suc i ≡ suc j + i = omega arith in
     ((rw e (t .0 ∙ omega arith)), t .1)
 
@@ -80,7 +80,7 @@ module _ (f : List ℕ) (a : fileCheck f ≡ accepted) (i : ℕ) (h : i < nodeCo
   at-row : rowIn (rowsIn f) i ≡ rowAt f i
   at-row = row-get f 0 (nodeCount f) i h ∙ ap (rowAt f) (zero-add i)
 
-  pub node-offset : offsetAt f i ≡ bodiesStart (nodeCount f) + entryCount (take i (rowsIn f)) * 20
+  pub node-offset : offsetAt f i ≡ bodiesStart (nodeCount f) + entryCount (take i (rowsIn f)) * entryLength
   node-offset = ap (offsetAt f) (sym (zero-add i)) ∙ placed-at f 0 0 _ (rowsIn f) (held .contents) i inside .0
 
   pub row-limits : RowHolds 0 (rowAt f i)
@@ -93,7 +93,7 @@ module _ (f : List ℕ) (a : fileCheck f ≡ accepted) (i : ℕ) (h : i < nodeCo
   pub row-inside : bodiesStart (i + 1) ≤ length f
   row-inside = omega (arith, held .header .contents)
 
-  pub node-inside : offsetAt f i + rowAt f i .count * 20 ≤ length f
+  pub node-inside : offsetAt f i + rowAt f i .count * entryLength ≤ length f
   node-inside =
       omega (arith, node-offset, held .ends, count-split (rowsIn f) i inside, ap (λ (r : Row). r .count) at-row)
 

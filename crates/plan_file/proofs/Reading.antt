@@ -5,6 +5,7 @@ use mathlib.Core.List.{List}
 use native.Mathlib.Omega.{arith}
 use lib.ListN.{length}
 use borrow.Author.Tests.{le-leb, lt-leb, lt-ltb, le-ltb}
+use Rattle.task_model.specs.Words.{entrySize}
 use Rattle.task_model.specs.Refusals.{Numbered, at, accepted, refused}
 use Rattle.plan_file.specs.Plan.{entryCount}
 use Rattle.plan_file.specs.Encoding.{bodiesStart}
@@ -27,16 +28,16 @@ module _ (f : List ℕ) (rows words : ℕ) where
     unfolding readAnswer
     read-few-rows h = rw (a, lt-leb (length (rowsIn f)) rows (omega (arith, length-rows f 0 (nodeCount f))))
 
-    pub read-few-words : nodeCount f ≤ rows → words < entryCount (rowsIn f) * 5 → readAnswer f rows words ≡ refuses (at 10 0 0)
+    pub read-few-words : nodeCount f ≤ rows → words < entryCount (rowsIn f) * entrySize → readAnswer f rows words ≡ refuses (at 10 0 0)
     unfolding readAnswer
     read-few-words h l =
         rw (
           a,
           le-leb (length (rowsIn f)) rows (omega (arith, length-rows f 0 (nodeCount f))),
-          lt-leb (length (entriesIn f) * 5) words (omega (arith, length-entries-at f (bodiesStart (nodeCount f)) (entryCount (rowsIn f)))),
+          lt-leb (length (entriesIn f) * entrySize) words (omega (arith, length-entries-at f (bodiesStart (nodeCount f)) (entryCount (rowsIn f)))),
         )
 
-    pub read-filled : (nodes count : ℕ) → nodes ≡ nodeCount f → count ≡ entryCount (rowsIn f) → nodes ≤ rows → count * 5 ≤ words
+    pub read-filled : (nodes count : ℕ) → nodes ≡ nodeCount f → count ≡ entryCount (rowsIn f) → nodes ≤ rows → count * entrySize ≤ words
         → readAnswer f rows words ≡ gives (record { rows = nodes; entries = count })
     unfolding readAnswer
     read-filled nodes count en ec h l =
@@ -47,7 +48,7 @@ module _ (f : List ℕ) (rows words : ℕ) where
           ← ec,
           ← en,
           le-leb nodes rows h,
-          le-leb (count * 5) words l,
+          le-leb (count * entrySize) words l,
         )
 
 module _ (f : List ℕ) (number : ℕ) where

@@ -9,8 +9,10 @@ use lib.ListN.{length, take, drop, length-map}
 use lib.Dec.{leb}
 use lib.Seq.{take-append-seam}
 use Rattle.task_model.specs.Refusals.{Numbered, at, Outcome, accepted, refused, _andThen_, mustHold}
+use Rattle.task_model.specs.Words.{entrySize, wordsOf, WordsFit}
+use Rattle.task_model.proofs.Words.{length-words as length-words-of}
 use Rattle.task_model.specs.Answers.{Answer, gives, refuses, giving, left}
-use Rattle.plan_file.specs.Plan.{entryCount, rowWord, wordsOf, planOf, WordsFit}
+use Rattle.plan_file.specs.Plan.{entryCount, rowWord, planOf}
 use Rattle.plan_file.specs.Encoding.{bodiesStart, encoding, Bytes}
 use Rattle.plan_file.specs.Decoding.{nodeCount, rowsIn, entriesIn, planIn}
 use Rattle.plan_file.specs.Check.{fileCheck, wordsCheck}
@@ -19,7 +21,6 @@ use Rattle.plan_file.specs.RoundTrips.{WrittenAgain, ReadAgain}
 use Rattle.task_model.proofs.Laws.{and-true}
 use Rattle.plan_file.proofs.Contents.{length-row-words}
 use Rattle.plan_file.proofs.Bodies.{length-entries-at}
-use Rattle.plan_file.proofs.Memory.{length-words-of}
 use Rattle.plan_file.proofs.Reading.{read-filled}
 use Rattle.plan_file.proofs.Theorems.{read-write-memory, write-read-memory}
 
@@ -57,7 +58,7 @@ read-same e c = rw e at c
 
 -- What was filled, and what was written, lies in the buffers: a caller takes those parts.
 pub filled-inside : {f rows words rowsLeft wordsLeft : List ℕ} {n : Sizes} → ReadCall f rows words (gives n) rowsLeft wordsLeft
-    → (n .rows ≤ length rows) × (n .entries * 5 ≤ length words)
+    → (n .rows ≤ length rows) × (n .entries * entrySize ≤ length words)
 filled-inside c =
     let g = read-given _ _ _ _ (c .answer) in
     let r = and-true _ _ (g .1) in
@@ -85,20 +86,20 @@ module _ (f rs ws : List ℕ) (ok : fileCheck f ≡ accepted) (er : map rowWord 
   nodes : nodeCount f ≡ length rs
   nodes = sym (length-row-words f (nodeCount f)) ∙ ap length er
 
-  counted : entryCount (rowsIn f) * 5 ≡ length ws
+  counted : entryCount (rowsIn f) * entrySize ≡ length ws
   counted =
-      ap (λ n. n * 5) (sym (length-entries-at f (bodiesStart (nodeCount f)) (entryCount (rowsIn f))))
+      ap (λ n. n * entrySize) (sym (length-entries-at f (bodiesStart (nodeCount f)) (entryCount (rowsIn f))))
       ∙ sym (length-words-of (entriesIn f))
       ∙ ap length ew
 
   sizes : (rows words : ℕ) → length rs ≤ rows → length ws ≤ words
-      → readAnswer f rows words ≡ gives (record { rows = length rs; entries = length ws / 5 })
+      → readAnswer f rows words ≡ gives (record { rows = length rs; entries = length ws / entrySize })
   sizes rows words hr hw =
-      read-filled f rows words ok (length rs) (length ws / 5) (sym nodes) (omega (arith, counted)) hr (omega (arith, counted))
+      read-filled f rows words ok (length rs) (length ws / entrySize) (sym nodes) (omega (arith, counted)) hr (omega (arith, counted))
 
   filled : (oldRows oldWords : List ℕ) (a : Answer Sizes) (newRows newWords : List ℕ)
       → length rs ≤ length oldRows → length ws ≤ length oldWords → ReadCall f oldRows oldWords a newRows newWords
-      → (a ≡ gives (record { rows = length rs; entries = length ws / 5 }))
+      → (a ≡ gives (record { rows = length rs; entries = length ws / entrySize }))
       × (newRows ≡ rs ++ drop (length rs) oldRows)
       × (newWords ≡ ws ++ drop (length ws) oldWords)
   filled oldRows oldWords a newRows newWords hr hw c =
@@ -117,9 +118,9 @@ written-again f rows words (gives n) rowsLeft wordsLeft b c =
     let g = read-given f _ _ n (c .answer) in
     let m = read-write-memory f b (g .0) in
     let en : n .rows ≡ length (map rowWord (rowsIn f)) = ap (λ (s : Sizes). s .rows) (g .2) ∙ sym (length-map (rowsIn f) rowWord) in
-    let ek : n .entries * 5 ≡ length (wordsOf (entriesIn f)) = ap (λ (s : Sizes). s .entries * 5) (g .2) ∙ sym (length-words-of (entriesIn f)) in
+    let ek : n .entries * entrySize ≡ length (wordsOf (entriesIn f)) = ap (λ (s : Sizes). s .entries * entrySize) (g .2) ∙ sym (length-words-of (entriesIn f)) in
     let er : take (n .rows) rowsLeft ≡ map rowWord (rowsIn f) = ap (take (n .rows)) (c .rowsThere) ∙ front _ rows (n .rows) en in
-    let ew : take (n .entries * 5) wordsLeft ≡ wordsOf (entriesIn f) = ap (take (n .entries * 5)) (c .wordsThere) ∙ front _ words (n .entries * 5) ek in
+    let ew : take (n .entries * entrySize) wordsLeft ≡ wordsOf (entriesIn f) = ap (take (n .entries * entrySize)) (c .wordsThere) ∙ front _ words (n .entries * entrySize) ek in
     λ old a new h w.
     wrote (map rowWord (rowsIn f)) (wordsOf (entriesIn f)) f (m .0) (m .1) old a new h (write-same er ew w)
 

@@ -6,6 +6,7 @@ use mathlib.Core.List.{List}
 use lib.ListN.{getD}
 use lib.Dec.{leb, eqb}
 use borrow.Author.Tests.{leb-true, le-leb, eqb-true}
+use Rattle.plan_file.specs.Plan.{mostNodes}
 use Rattle.task_model.specs.Checks.{sizeTest}
 use Rattle.task_model.proofs.Laws.{and-true, decided, sizes-true, sizes-hold}
 use Rattle.plan_file.specs.declared.Row.{Row}
@@ -79,7 +80,7 @@ module _ (least : ℕ) (r : Row) where
 module _ (f : List ℕ) where
   pub record Counted : Type 0 where
     pub some : 1 ≤ getD f 4 0
-    pub few : getD f 4 0 ≤ 32
+    pub few : getD f 4 0 ≤ mostNodes
     pub zero5 : getD f 5 0 ≡ 0
     pub zero6 : getD f 6 0 ≡ 0
     pub zero7 : getD f 7 0 ≡ 0
@@ -87,7 +88,7 @@ module _ (f : List ℕ) where
   pub counted-true : Counted → (countTest (getD f 4 0) && zerosTest f) ≡ true
   unfolding countTest zerosTest
   counted-true h =
-      rw (le-leb 1 (getD f 4 0) (h .some), le-leb (getD f 4 0) 32 (h .few), h .zero5, h .zero6, h .zero7)
+      rw (le-leb 1 (getD f 4 0) (h .some), le-leb (getD f 4 0) mostNodes (h .few), h .zero5, h .zero6, h .zero7)
 
   pub counted-hold : (countTest (getD f 4 0) && zerosTest f) ≡ true → Counted
   unfolding countTest zerosTest
@@ -108,7 +109,7 @@ module _ (f : List ℕ) where
   counted-false n = decided (countTest (getD f 4 0) && zerosTest f) counted-hold n
 
   -- the last byte decides, once the rest holds
-  pub counted-rest : 1 ≤ getD f 4 0 → getD f 4 0 ≤ 32 → getD f 5 0 ≡ 0 → getD f 6 0 ≡ 0
+  pub counted-rest : 1 ≤ getD f 4 0 → getD f 4 0 ≤ mostNodes → getD f 5 0 ≡ 0 → getD f 6 0 ≡ 0
       → eqb (getD f 7 0) 0 ≡ (countTest (getD f 4 0) && zerosTest f)
   unfolding countTest zerosTest
-  counted-rest h1 h2 h3 h4 = rw (le-leb 1 (getD f 4 0) h1, le-leb (getD f 4 0) 32 h2, h3, h4)
+  counted-rest h1 h2 h3 h4 = rw (le-leb 1 (getD f 4 0) h1, le-leb (getD f 4 0) mostNodes h2, h3, h4)

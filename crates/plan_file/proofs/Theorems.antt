@@ -9,31 +9,33 @@ use lib.Dec.{ltb}
 use borrow.Author.Tests.{eq-eqb, lt-ltb, ltb-true}
 use Rattle.task_model.specs.declared.Entry.{Entry}
 use Rattle.task_model.specs.Refusals.{at, accepted, refused}
-use Rattle.task_model.specs.Limits.{NodeHolds}
+use Rattle.task_model.specs.Limits.{mostTicks, mostLevels, mostEntries, NodeHolds}
 use Rattle.task_model.specs.Checks.{kindTest, timesTest, entryCheck, entriesCheck, sizeTest}
-use Rattle.task_model.specs.Words.{entriesOf}
+use Rattle.task_model.specs.Words.{entrySize, entryFrom, wordsOf, entriesOf, WordsFit}
+use Rattle.task_model.proofs.Words.{entries-fit}
+use Rattle.task_model.proofs.Words.{length-words as length-words-of}
 use Rattle.task_model.proofs.Laws.{length-entries, true-or-false}
 use Rattle.task_model.proofs.Theorems.{not-both}
 use Rattle.plan_file.specs.declared.Row.{Row}
-use Rattle.plan_file.specs.Plan.{Plan, entryCount, rowWord, rowOf, wordsOf, planOf, PlanFits, WordsFit}
-use Rattle.plan_file.specs.Encoding.{bodiesStart, encoding, Bytes}
+use Rattle.plan_file.specs.Plan.{mostNodes, Plan, entryCount, rowWord, rowOf, planOf, PlanFits}
+use Rattle.plan_file.specs.Encoding.{headerLength, rowLength, bodiesStart, encoding, Bytes}
 use Rattle.plan_file.specs.Decoding.{wordAt, wordsFrom, nodeCount, rowAt, offsetAt, rowsIn, entryIn, entriesIn, planIn}
 use Rattle.plan_file.specs.Check.{countTest, rowTest, rowsCheck, contentsCheck, nodesCheck, headerCheck, fileCheck, handedCheck, planCheck, wordsCheck}
 use Rattle.plan_file.specs.Find.{rowIn, nodeOfRow, rowOfNumber, findCheck, nodeFound}
 use Rattle.plan_file.specs.Limits.{PlanHolds, IsPlanFile, IsPlanInMemory}
 use Rattle.task_model.proofs.Outcomes.{then-accepted, mustHold-accepts, mustHold-refuses}
-use Rattle.plan_file.proofs.Words.{entryWith, entry-in, length-words}
+use Rattle.plan_file.proofs.Words.{words-five, length-words}
 use Rattle.plan_file.proofs.Contents.{length-rows}
 use Rattle.plan_file.proofs.Bodies.{length-entries-at}
 use Rattle.plan_file.proofs.Encoding.{length-encoding}
 use Rattle.plan_file.proofs.Header.{header-holds}
 use Rattle.plan_file.proofs.File.{file-layout, file-holds}
 use Rattle.plan_file.proofs.Handed.{handed-holds, count-true, handed-nodes}
-use Rattle.plan_file.proofs.Memory.{length-words-of, words-of-entries, entries-of-words}
+use Rattle.plan_file.proofs.Memory.{words-of-entries, entries-of-words}
 use Rattle.plan_file.proofs.Encoded.{same-bytes, contents-rows}
 use Rattle.plan_file.proofs.Decoded.{same-plan, encoding-accepted, few-entries, plan-same}
 use Rattle.plan_file.proofs.Bytes.{bytes-encoding}
-use Rattle.plan_file.proofs.Fits.{plan-fits, rows-of-words, rows-words, words-fit-rows, words-fit-entries, entries-words}
+use Rattle.plan_file.proofs.Fits.{plan-fits, rows-of-words, rows-words, words-fit-rows, entries-words}
 use Rattle.plan_file.proofs.Finding.{found-at, found-number}
 use Rattle.plan_file.proofs.Limits.{plan-holds, holds-accepted, words-plan, long-layout}
 
@@ -51,10 +53,10 @@ plan-accepted f a =
     let h = file-holds f a in
     let n = length-rows f 0 (nodeCount f) in
     let e = length-entries-at f (bodiesStart (nodeCount f)) (entryCount (rowsIn f)) in
-    handed-nodes (rowsIn f) (entriesIn f) (length (entriesIn f) * 5)
+    handed-nodes (rowsIn f) (entriesIn f) (length (entriesIn f) * entrySize)
     (rw n (count-true (nodeCount f) (h .header .counted .some) (h .header .counted .few)))
     (rw (contents-rows f 0 0 _ (rowsIn f) (h .contents), e)
-    (mustHold-accepts _ _ (eq-eqb (entryCount (rowsIn f) * 5) (entryCount (rowsIn f) * 5) refl)))
+    (mustHold-accepts _ _ (eq-eqb (entryCount (rowsIn f) * entrySize) (entryCount (rowsIn f) * entrySize) refl)))
     ∙ h .bodies
 
 -- A list of bytes is accepted as a file exactly if it is the encoding of a plan within the writer's checks.
@@ -79,11 +81,11 @@ file-limits f = (
 -- Words are accepted exactly if they hold a plan within the limits.
 pub words-limits : (rs ws : List ℕ) → wordsCheck rs ws ≡ accepted ↔ IsPlanInMemory rs ws
 words-limits rs ws =
-    let n = length-entries ws 0 (length ws / 5) in (
+    let n = length-entries ws 0 (length ws / entrySize) in (
       λ a. (plan-holds (planOf rs ws) (words-plan rs ws a), omega (arith, handed-holds _ _ _ a .counts)),
       λ h.
-          let whole : length ws / 5 * 5 ≡ length ws = omega (arith, h .1) in
-          ap (handedCheck (planOf rs ws .rows) (planOf rs ws .entries)) (sym (ap (λ k. k * 5) n ∙ whole))
+          let whole : length ws / entrySize * entrySize ≡ length ws = omega (arith, h .1) in
+          ap (handedCheck (planOf rs ws .rows) (planOf rs ws .entries)) (sym (ap (λ k. k * entrySize) n ∙ whole))
           ∙ holds-accepted (planOf rs ws) (h .0),
     )
 
@@ -93,10 +95,10 @@ pub read-holds : (f : List ℕ) → Bytes f
 read-holds f b =
     let n = entryCount (rowsIn f) in
     let k = bodiesStart (nodeCount f) in
-    let l : n * 5 / 5 ≡ n = omega arith in
+    let l : n * entrySize / entrySize ≡ n = omega arith in
     plan-same (rows-words f 0 (nodeCount f) b)
-    (rw (words-of-entries f b k n, length-words f k (n * 5), l)
-    (ap (λ ws. entriesOf ws n) (sym (append-nil (wordsFrom f k (n * 5)))) ∙ entries-of-words f k n []))
+    (rw (words-of-entries f b k n, length-words f k (n * entrySize), l)
+    (ap (λ ws. entriesOf ws n) (sym (append-nil (wordsFrom f k (n * entrySize)))) ∙ entries-of-words f k n []))
 
 -- An accepted file, read into memory and written from there, is accepted by the writer and gives the same bytes.
 pub read-write-memory : (f : List ℕ) → Bytes f → fileCheck f ≡ accepted
@@ -116,13 +118,13 @@ pub write-read-memory : (rs ws : List ℕ) → WordsFit rs → WordsFit ws → w
     × (wordsOf (planIn (encoding (planOf rs ws)) .entries) ≡ ws)
 write-read-memory rs ws hr hw a =
     let h = handed-holds _ _ _ a in
-    let n : length ws / 5 * 5 ≡ length ws = omega (arith, h .counts) in
-    let fits : PlanFits (planOf rs ws) = record { rows = words-fit-rows rs; entries = words-fit-entries ws hw 0 (length ws / 5) } in
+    let n : length ws / entrySize * entrySize ≡ length ws = omega (arith, h .counts) in
+    let fits : PlanFits (planOf rs ws) = record { rows = words-fit-rows rs; entries = entries-fit ws hw 0 (length ws / entrySize) } in
     let ok = words-plan rs ws a in
     let same = same-plan (planOf rs ws) ok fits in (
       encoding-accepted (planOf rs ws) ok fits,
       ap (λ (p : Plan). map rowWord (p .rows)) same ∙ rows-of-words rs hr,
-      ap (λ (p : Plan). wordsOf (p .entries)) same ∙ entries-words ws hw (length ws / 5) n,
+      ap (λ (p : Plan). wordsOf (p .entries)) same ∙ entries-words ws hw (length ws / entrySize) n,
     )
 
 -- Each node of an accepted file is within every limit of a node.
@@ -130,7 +132,7 @@ pub nodes-hold : (f : List ℕ) → fileCheck f ≡ accepted → (i : ℕ) → i
 nodes-hold f a i h = plan-holds (planIn f) (plan-accepted f a) .nodes i (omega (arith, length-rows f 0 (nodeCount f)))
 
 -- The fields of a row are bytes of the file: node number (2), levels (1), entry count (1), offset (4).
-pub row-fields : (f : List ℕ) → Bytes f → (i k : ℕ) → k ≡ 8 + i * 8
+pub row-fields : (f : List ℕ) → Bytes f → (i k : ℕ) → k ≡ headerLength + i * rowLength
     → (rowAt f i .number ≡ getD f k 0 + getD f (k + 1) 0 * 256)
     × (rowAt f i .levels ≡ getD f (k + 2) 0)
     × (rowAt f i .count ≡ getD f (k + 3) 0)
@@ -154,8 +156,8 @@ pub record EntryFields (f : List ℕ) (k : ℕ) (e : Entry) : Type 0 where
   pub blocking : e .blocking ≡ wordAt f (k + 16)
 
 fields-of : (f : List ℕ) → Bytes f → (k : ℕ)
-    → EntryFields f k (entryWith (wordAt f k) (wordAt f (k + 4)) (wordAt f (k + 8)) (wordAt f (k + 12)) (wordAt f (k + 16)))
-unfolding entryWith wordAt
+    → EntryFields f k (entryFrom (wordAt f k ∷ wordAt f (k + 4) ∷ wordAt f (k + 8) ∷ wordAt f (k + 12) ∷ wordAt f (k + 16) ∷ []) 0)
+unfolding entryFrom wordAt
 fields-of f b k =
     let h0 = b k in
     let h1 = b (k + 1) in
@@ -172,7 +174,7 @@ fields-of f b k =
     }
 
 pub entry-fields : (f : List ℕ) → Bytes f → (k : ℕ) → EntryFields f k (entryIn f k)
-entry-fields f b k = rw (entry-in f k) (fields-of f b k)
+entry-fields f b k = rw (← words-five f k) (fields-of f b k)
 
 -- The number of a row finds that row, and its node; numbers rise, so no other row has it.
 pub finds : (f : List ℕ) → fileCheck f ≡ accepted → (number i : ℕ) → i < length (planIn f .rows)
@@ -224,22 +226,22 @@ smallest-accepted = (refl, length-encoding smallest)
 -- 32 nodes of 64 levels and 64 entries: the largest.
 rowsTo : ℕ → List Row → List Row
 rowsTo zero rs = rs
-rowsTo (suc n) rs = rowsTo n (record { number = n; levels = 64; count = 64 } ∷ rs)
+rowsTo (suc n) rs = rowsTo n (record { number = n; levels = mostLevels; count = mostEntries } ∷ rs)
 
 pub largest : Plan
 largest =
     record {
-      rows = rowsTo 32 [];
+      rows = rowsTo mostNodes [];
       entries =
-          replicate 2048
+          replicate (mostNodes * mostEntries)
           (record {
             number = 65535;
             kind = 1;
             calls = 15;
-            wcet = 1000000000;
-            period = 1000000000;
-            deadline = 1000000000;
-            blocking = 1000000000;
+            wcet = mostTicks;
+            period = mostTicks;
+            deadline = mostTicks;
+            blocking = mostTicks;
           });
     }
 

@@ -1,50 +1,27 @@
 -- Laws of words: four bytes and a word, a word and the fields that it holds.
-use Prim.Native.Nat.{ℕ, zero, suc, _+_, _*_, _/_, _%_, _<_}
-use mathlib.Core.Path.{_≡_, refl, ap}
-use mathlib.Core.List.{List, [], _∷_, _++_}
+use Prim.Native.Nat.{ℕ, zero, suc, _+_, _*_, _/_, _%_, _≤_, _<_}
+use mathlib.Core.Path.{_≡_, _∙_, refl, sym, ap}
+use mathlib.Core.List.{List, [], _∷_, _++_, append-assoc, append-nil}
 use native.Mathlib.Omega.{arith}
-use lib.ListN.{length, getD}
-use Rattle.task_model.specs.declared.Entry.{Entry}
-use Rattle.task_model.specs.Words.{entryFrom}
+use native.Mathlib.Numerals.{add-one}
+use lib.ListN.{length, getD, take, drop, length-drop}
+use lib.Seq.{length-take-le, take-suc, take-add, drop-at}
+use Rattle.task_model.specs.Words.{entrySize, entryFrom, entriesFrom, entriesOf}
+use Rattle.task_model.proofs.Words.{entries-cons, entry-front}
 use Rattle.plan_file.specs.Plan.{rowWord, rowOf}
-use Rattle.plan_file.specs.Encoding.{low, rowBytes, entryBytes}
-use Rattle.plan_file.specs.Decoding.{wordAt, wordsFrom, entryIn}
-
--- the entry of five words
-unfoldable pub entryWith : ℕ → ℕ → ℕ → ℕ → ℕ → Entry
-entryWith w0 w1 w2 w3 w4 =
-    record {
-      number = w0 % 65536;
-      kind = w0 / 65536 % 256;
-      calls = w0 / 16777216 % 256;
-      wcet = w1;
-      period = w2;
-      deadline = w3;
-      blocking = w4;
-    }
-
-pub entry-in : (f : List ℕ) (k : ℕ)
-    → entryIn f k ≡ entryWith (wordAt f k) (wordAt f (k + 4)) (wordAt f (k + 8)) (wordAt f (k + 12)) (wordAt f (k + 16))
-unfolding entryFrom wordsFrom entryWith
-entry-in f k =
-    let e8 : k + 4 + 4 ≡ k + 8 = omega arith in
-    let e12 : k + 8 + 4 ≡ k + 12 = omega arith in
-    let e16 : k + 12 + 4 ≡ k + 16 = omega arith in
-    rw (e8, e12, e16)
-
-pub words-five : (f : List ℕ) (k : ℕ)
-    → wordAt f k ∷ wordAt f (k + 4) ∷ wordAt f (k + 8) ∷ wordAt f (k + 12) ∷ wordAt f (k + 16) ∷ [] ≡ wordsFrom f k 5
-unfolding wordsFrom
-words-five f k =
-    let e8 : k + 4 + 4 ≡ k + 8 = omega arith in
-    let e12 : k + 8 + 4 ≡ k + 12 = omega arith in
-    let e16 : k + 12 + 4 ≡ k + 16 = omega arith in
-    rw (e8, e12, e16)
+use Rattle.plan_file.specs.Encoding.{entryLength, low, rowBytes, entryBytes, bodiesBytes}
+use Rattle.plan_file.specs.Decoding.{wordAt, wordsFrom, entriesAt}
+use Rattle.plan_file.specs.Buffers.{bytesOf}
 
 -- four bytes, whether they come as one number or as fields
 four : {a b c d a' b' c' d' : ℕ} → a ≡ a' → b ≡ b' → c ≡ c' → d ≡ d'
     → _≡_ {A = List ℕ} (a ∷ b ∷ c ∷ d ∷ []) (a' ∷ b' ∷ c' ∷ d' ∷ [])
 four p q r s = cc
+
+pub length-low : (k w : ℕ) → length (low k w) ≡ k
+unfolding low
+length-low zero w = refl
+length-low (suc k) w = ap suc (length-low k (w / 256))
 
 pub low-four : (w : ℕ) → w % 256 ∷ w / 256 % 256 ∷ w / 65536 % 256 ∷ w / 16777216 % 256 ∷ [] ≡ low 4 w
 unfolding low
@@ -57,16 +34,6 @@ head-bytes w = four (omega arith) (omega arith) (omega arith) (omega arith)
 pub row-bytes : (offset w : ℕ) → rowBytes offset (rowOf w) ≡ low 4 w ++ low 4 offset
 unfolding rowBytes rowOf
 row-bytes offset w = rw head-bytes
-
-pub entry-bytes : (w0 w1 w2 w3 w4 : ℕ)
-    → entryBytes (entryWith w0 w1 w2 w3 w4) ≡ low 4 w0 ++ low 4 w1 ++ low 4 w2 ++ low 4 w3 ++ low 4 w4
-unfolding entryBytes entryWith
-entry-bytes w0 w1 w2 w3 w4 = rw head-bytes
-
-pub entry-from : (ws : List ℕ) (j : ℕ)
-    → entryFrom ws j ≡ entryWith (getD ws j 0) (getD ws (j + 1) 0) (getD ws (j + 2) 0) (getD ws (j + 3) 0) (getD ws (j + 4) 0)
-unfolding entryFrom entryWith
-entry-from ws j = refl
 
 -- a word of 32 bits is that of the row it holds
 pub row-word : (w : ℕ) → w < 4294967296 → rowWord (rowOf w) ≡ w
@@ -85,3 +52,76 @@ pub length-words : (f : List ℕ) (k n : ℕ) → length (wordsFrom f k n) ≡ n
 unfolding wordsFrom
 length-words f k zero = refl
 length-words f k (suc n) = ap suc (length-words f (k + 4) n)
+
+pub words-split : (f : List ℕ) (k m n : ℕ) → wordsFrom f k (m + n) ≡ wordsFrom f k m ++ wordsFrom f (k + m * 4) n
+unfolding wordsFrom
+words-split f k zero n = let e : 0 + n ≡ n = omega arith in let e2 : k + 0 * 4 ≡ k = omega arith in rw (e, e2)
+words-split f k (suc m) n =
+    let e : suc m + n ≡ suc (m + n) = omega arith in
+    let e2 : k + suc m * 4 ≡ k + 4 + m * 4 = omega arith in
+    rw (e, e2, wordsFrom) (ap (λ ws. wordAt f k ∷ ws) (words-split f (k + 4) m n))
+
+-- words as bytes
+pub bytes-append : (xs ys : List ℕ) → bytesOf (xs ++ ys) ≡ bytesOf xs ++ bytesOf ys
+unfolding bytesOf
+bytes-append [] ys = refl
+bytes-append (x ∷ xs) ys = ap (λ l. low 4 x ++ l) (bytes-append xs ys) ∙ sym (append-assoc (low 4 x) _ _)
+
+pub length-bytes : (ws : List ℕ) → length (bytesOf ws) ≡ length ws * 4
+unfolding bytesOf low
+length-bytes [] = refl
+length-bytes (w ∷ ws) = omega (arith, length-bytes ws)
+
+pub bytes-length : (ws : List ℕ) (i : ℕ) → i ≤ length ws → length (bytesOf (take i ws)) ≡ i * 4
+bytes-length ws i h = length-bytes (take i ws) ∙ ap (λ n. n * 4) (length-take-le i ws h)
+
+pub bytes-more : (ws : List ℕ) (i : ℕ) → i < length ws → bytesOf (take i ws) ++ low 4 (getD ws i 0) ≡ bytesOf (take (i + 1) ws)
+unfolding bytesOf
+bytes-more ws i h =
+    rw (add-one i, take-suc ws i 0 h, bytes-append (take i ws)) (ap (λ l. bytesOf (take i ws) ++ l) (sym (append-nil (low 4 (getD ws i 0)))))
+
+-- the bytes of an entry are those of its words, and so are those of all entries
+entry-bytes : (ws : List ℕ) → entrySize ≤ length ws → entryBytes (entryFrom ws 0) ≡ bytesOf (take entrySize ws)
+unfolding entryBytes entryFrom bytesOf
+entry-bytes [] l = absurd (omega arith)
+entry-bytes (a ∷ []) l = absurd (omega arith)
+entry-bytes (a ∷ b ∷ []) l = absurd (omega arith)
+entry-bytes (a ∷ b ∷ c ∷ []) l = absurd (omega arith)
+entry-bytes (a ∷ b ∷ c ∷ d ∷ []) l = absurd (omega arith)
+entry-bytes (a ∷ b ∷ c ∷ d ∷ e ∷ ws) l = rw (head-bytes a) (simp (append-assoc, append-nil))
+
+bodies-cons : (ws : List ℕ) (n : ℕ) → entrySize ≤ length ws
+    → bodiesBytes (entriesOf (drop entrySize ws) n) ≡ bytesOf (take (n * entrySize) (drop entrySize ws))
+    → bodiesBytes (entriesOf ws (suc n)) ≡ bytesOf (take (suc n * entrySize) ws)
+unfolding bodiesBytes
+bodies-cons ws n l p =
+    let e : suc n * entrySize ≡ entrySize + n * entrySize = omega arith in
+    rw (entries-cons ws n, e, take-add entrySize (n * entrySize) ws, bytes-append) (rw (entry-bytes ws l, p))
+
+pub bodies-bytes : (n : ℕ) (ws : List ℕ) → n * entrySize ≤ length ws → bodiesBytes (entriesOf ws n) ≡ bytesOf (take (n * entrySize) ws)
+unfolding bodiesBytes entriesFrom bytesOf
+bodies-bytes zero ws l = refl
+bodies-bytes (suc n) ws l =
+    bodies-cons ws n (omega arith) (bodies-bytes n (drop entrySize ws) (omega (arith, length-drop entrySize ws)))
+
+pub words-five : (f : List ℕ) (k : ℕ)
+    → wordAt f k ∷ wordAt f (k + 4) ∷ wordAt f (k + 8) ∷ wordAt f (k + 12) ∷ wordAt f (k + 16) ∷ [] ≡ wordsFrom f k entrySize
+unfolding wordsFrom
+words-five f k =
+    let e8 : k + 4 + 4 ≡ k + 8 = omega arith in
+    let e12 : k + 8 + 4 ≡ k + 12 = omega arith in
+    let e16 : k + 12 + 4 ≡ k + 16 = omega arith in
+    rw (e8, e12, e16)
+
+-- the entries that lie in a file are those that its words hold
+pub entries-in-words : (f : List ℕ) (k n : ℕ) → entriesAt f k n ≡ entriesOf (wordsFrom f k (n * entrySize)) n
+unfolding entriesAt entriesFrom
+entries-in-words f k zero = refl
+entries-in-words f k (suc n) =
+    let e : suc n * entrySize ≡ entrySize + n * entrySize = omega arith in
+    let ws = wordsFrom f k entrySize in
+    let rest = wordsFrom f (k + entryLength) (n * entrySize) in
+    let l = length-words f k entrySize in
+    sym
+    (rw (e, words-split f k entrySize (n * entrySize)) (entries-cons (ws ++ rest) n
+    ∙ rw (entry-front ws rest (omega (arith, l)), drop-at ws rest entrySize l, entries-in-words f (k + entryLength) n)))

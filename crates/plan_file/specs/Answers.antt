@@ -8,7 +8,7 @@ use lib.Dec.{leb}
 use Rattle.task_model.specs.Refusals.{at, numbered, _andThen_, mustHold}
 use Rattle.task_model.specs.Answers.{Answer, gives, refuses, giving, left}
 use Rattle.task_model.specs.Limits.{Node}
-use Rattle.task_model.specs.Words.{nodeOf}
+use Rattle.task_model.specs.Words.{entrySize, wordsOf, nodeOf}
 use Rattle.plan_file.specs.declared.Row.{Row}
 use Rattle.plan_file.specs.declared.ReadPlan.{ReadPlan}
 use Rattle.plan_file.specs.declared.ReadPlan.the-variants as read
@@ -16,7 +16,7 @@ use Rattle.plan_file.specs.declared.Written.{Written}
 use Rattle.plan_file.specs.declared.Written.the-variants as written
 use Rattle.plan_file.specs.declared.FoundNode.{FoundNode}
 use Rattle.plan_file.specs.declared.FoundNode.the-variants as found
-use Rattle.plan_file.specs.Plan.{Plan, rowWord, wordsOf, planOf}
+use Rattle.plan_file.specs.Plan.{Plan, rowWord, planOf}
 use Rattle.plan_file.specs.Encoding.{encoding}
 use Rattle.plan_file.specs.Decoding.{rowAt, planIn}
 use Rattle.plan_file.specs.Check.{fileCheck, wordsCheck}
@@ -27,9 +27,9 @@ pub record Sizes : Type 0 where
   pub rows : ℕ
   pub entries : ℕ
 
--- The buffers are long enough: a word for each row, five for each entry.
+-- The buffers are long enough: a word for each row, and those of the entries.
 abbrev pub roomTest : Plan → ℕ → ℕ → Bool
-roomTest p rowRoom wordRoom = leb (length (p .rows)) rowRoom && leb (length (p .entries) * 5) wordRoom
+roomTest p rowRoom wordRoom = leb (length (p .rows)) rowRoom && leb (length (p .entries) * entrySize) wordRoom
 
 -- The reader: the file's checks, then 10 where a lent buffer is too short.
 unfoldable pub readAnswer : List ℕ → ℕ → ℕ → Answer Sizes

@@ -7,9 +7,10 @@ use lib.Dec.{leb, eqb}
 use Rattle.task_model.specs.declared.Entry.{Entry}
 use Rattle.task_model.specs.Refusals.{at, Outcome, accepted, _andThen_, mustHold}
 use Rattle.task_model.specs.Checks.{sizeTest, entriesCheck}
+use Rattle.task_model.specs.Words.{entrySize}
 use Rattle.plan_file.specs.declared.Row.{Row}
-use Rattle.plan_file.specs.Plan.{Plan, entryCount, planOf}
-use Rattle.plan_file.specs.Encoding.{opening, bodiesStart}
+use Rattle.plan_file.specs.Plan.{mostNodes, Plan, entryCount, planOf}
+use Rattle.plan_file.specs.Encoding.{opening, headerLength, entryLength, bodiesStart}
 use Rattle.plan_file.specs.Decoding.{nodeCount, offsetAt, rowsIn, entriesIn}
 
 -- Byte `i` of a file is that of the opening.
@@ -22,7 +23,7 @@ openingTest f = opensAt f 0 && opensAt f 1 && opensAt f 2 && opensAt f 3
 
 -- 1 to 32 nodes.
 unfoldable pub countTest : ℕ → Bool
-countTest nodes = leb 1 nodes && leb nodes 32
+countTest nodes = leb 1 nodes && leb nodes mostNodes
 
 -- The three bytes after the node count are zero.
 unfoldable pub zerosTest : List ℕ → Bool
@@ -37,13 +38,13 @@ unfoldable pub rowsCheck : ℕ → ℕ → List Row → Outcome
 rowsCheck i least [] = accepted
 rowsCheck i least (r ∷ rs) = mustHold (rowTest least r) (at 4 i 0) andThen rowsCheck (suc i) (suc (r .number)) rs
 
--- The same in a file: 4, then 5. The next body begins where this one ends, 20 bytes to an entry.
+-- The same in a file: 4, then 5. The next body begins where this one ends.
 unfoldable pub contentsCheck : List ℕ → ℕ → ℕ → ℕ → List Row → Outcome
 contentsCheck f i least required [] = accepted
 contentsCheck f i least required (r ∷ rs) =
     mustHold (rowTest least r) (at 4 i 0)
     andThen mustHold (eqb (offsetAt f i) required) (at 5 i 0)
-    andThen contentsCheck f (suc i) (suc (r .number)) (required + r .count * 20) rs
+    andThen contentsCheck f (suc i) (suc (r .number)) (required + r .count * entryLength) rs
 
 -- Entry by entry of each row from index `i` on: 7 and 8, with the row and the position in its node.
 unfoldable pub nodesCheck : ℕ → List Row → List Entry → Outcome
@@ -53,7 +54,7 @@ nodesCheck i (r ∷ rs) es = entriesCheck i 0 (take (r .count) es) andThen nodes
 -- A file is checked in this order: 8 bytes (1), opening bytes (2), node count and zero bytes (3), the contents' length (1).
 unfoldable pub headerCheck : List ℕ → Outcome
 headerCheck f =
-    mustHold (leb 8 (length f)) (at 1 0 0)
+    mustHold (leb headerLength (length f)) (at 1 0 0)
     andThen mustHold (openingTest f) (at 2 0 0)
     andThen mustHold (countTest (nodeCount f) && zerosTest f) (at 3 0 0)
     andThen mustHold (leb (bodiesStart (nodeCount f)) (length f)) (at 1 0 0)
@@ -62,7 +63,7 @@ headerCheck f =
 unfoldable pub layoutCheck : List ℕ → ℕ → ℕ → ℕ → List Row → Outcome
 layoutCheck f i least required rows =
     contentsCheck f i least required rows
-    andThen mustHold (eqb (length f) (required + entryCount rows * 20)) (at 6 0 0)
+    andThen mustHold (eqb (length f) (required + entryCount rows * entryLength)) (at 6 0 0)
 
 -- Then entry by entry 7 and 8. These are all of a file's checks.
 unfoldable pub fileCheck : List ℕ → Outcome
@@ -77,12 +78,12 @@ unfoldable pub handedCheck : List Row → List Entry → ℕ → Outcome
 handedCheck rows entries words =
     mustHold (countTest (length rows)) (at 3 0 0)
     andThen rowsCheck 0 0 rows
-    andThen mustHold (eqb words (entryCount rows * 5)) (at 6 0 0)
+    andThen mustHold (eqb words (entryCount rows * entrySize)) (at 6 0 0)
     andThen nodesCheck 0 rows entries
 
 -- A plan is accepted exactly when the writer's checks find nothing to refuse.
 abbrev pub planCheck : Plan → Outcome
-planCheck p = handedCheck (p .rows) (p .entries) (length (p .entries) * 5)
+planCheck p = handedCheck (p .rows) (p .entries) (length (p .entries) * entrySize)
 
 -- The same of a plan as it lies in memory.
 abbrev pub wordsCheck : List ℕ → List ℕ → Outcome

@@ -3,10 +3,10 @@ use Prim.Native.Nat.{ℕ, zero, suc, _+_, _*_}
 use mathlib.Core.List.{List, [], _∷_}
 use lib.ListN.{getD}
 use Rattle.task_model.specs.declared.Entry.{Entry}
-use Rattle.task_model.specs.Words.{entryFrom}
+use Rattle.task_model.specs.Words.{entrySize, entryFrom}
 use Rattle.plan_file.specs.declared.Row.{Row}
 use Rattle.plan_file.specs.Plan.{Plan, entryCount, rowOf}
-use Rattle.plan_file.specs.Encoding.{bodiesStart}
+use Rattle.plan_file.specs.Encoding.{headerLength, rowLength, entryLength, bodiesStart}
 
 -- The number that four bytes from byte `k` on hold, low byte first: a word.
 unfoldable pub wordAt : List ℕ → ℕ → ℕ
@@ -24,11 +24,11 @@ nodeCount f = getD f 4 0
 -- Row `i` of the contents has two words. The first, read as in memory, has number, levels and entry count (the theorem
 -- `row-fields` gives each by its bytes).
 abbrev pub rowAt : List ℕ → ℕ → Row
-rowAt f i = rowOf (wordAt f (8 + i * 8))
+rowAt f i = rowOf (wordAt f (headerLength + i * rowLength))
 
 -- The second is the offset of its body.
 abbrev pub offsetAt : List ℕ → ℕ → ℕ
-offsetAt f i = wordAt f (8 + i * 8 + 4)
+offsetAt f i = wordAt f (headerLength + i * rowLength + 4)
 
 -- The rows from index `i` on, `n` of them.
 unfoldable pub rowsFrom : List ℕ → ℕ → ℕ → List Row
@@ -39,15 +39,15 @@ rowsFrom f i (suc n) = rowAt f i ∷ rowsFrom f (suc i) n
 abbrev pub rowsIn : List ℕ → List Row
 rowsIn f = rowsFrom f 0 (nodeCount f)
 
--- The entry that 20 bytes from byte `k` on hold: five words, read as in memory (the theorem `entry-fields` gives each
--- field by its bytes).
+-- The entry that stands from byte `k` on: its words, read as in memory (the theorem `entry-fields` gives each field by its
+-- bytes).
 abbrev pub entryIn : List ℕ → ℕ → Entry
-entryIn f k = entryFrom (wordsFrom f k 5) 0
+entryIn f k = entryFrom (wordsFrom f k entrySize) 0
 
 -- The entries from byte `k` on, `n` of them.
 unfoldable pub entriesAt : List ℕ → ℕ → ℕ → List Entry
 entriesAt f k zero = []
-entriesAt f k (suc n) = entryIn f k ∷ entriesAt f (k + 20) n
+entriesAt f k (suc n) = entryIn f k ∷ entriesAt f (k + entryLength) n
 
 -- The entries of a file: right after the contents, as many as the rows count.
 abbrev pub entriesIn : List ℕ → List Entry

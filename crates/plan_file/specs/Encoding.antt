@@ -29,14 +29,24 @@ entryBytes e =
     low 2 (e .number) ++ low 1 (e .kind) ++ low 1 (e .calls)
     ++ low 4 (e .wcet) ++ low 4 (e .period) ++ low 4 (e .deadline) ++ low 4 (e .blocking)
 
--- Where the first body begins: right after the header and a row of 8 bytes for each node.
-abbrev pub bodiesStart : ℕ → ℕ
-bodiesStart nodes = 8 + nodes * 8
+-- The bytes of the header, of a row and of an entry.
+abbrev pub headerLength : ℕ
+headerLength = 8
 
--- The contents: each body begins where the one before it ends, 20 bytes to an entry.
+abbrev pub rowLength : ℕ
+rowLength = 8
+
+abbrev pub entryLength : ℕ
+entryLength = 20
+
+-- Where the first body begins: right after the header and a row for each node.
+abbrev pub bodiesStart : ℕ → ℕ
+bodiesStart nodes = headerLength + nodes * rowLength
+
+-- The contents: each body begins where the one before it ends.
 unfoldable pub contentsBytes : ℕ → List Row → List ℕ
 contentsBytes offset [] = []
-contentsBytes offset (r ∷ rs) = rowBytes offset r ++ contentsBytes (offset + r .count * 20) rs
+contentsBytes offset (r ∷ rs) = rowBytes offset r ++ contentsBytes (offset + r .count * entryLength) rs
 
 -- The bodies: entry after entry, without gaps.
 unfoldable pub bodiesBytes : List Entry → List ℕ

@@ -4,7 +4,8 @@ use mathlib.Core.Path.{_≡_}
 use mathlib.Core.List.{List}
 use lib.ListN.{length}
 use Rattle.task_model.specs.Limits.{NodeHolds}
-use Rattle.plan_file.specs.Plan.{Plan, PlanFits, entryCount, planOf}
+use Rattle.task_model.specs.Words.{entrySize}
+use Rattle.plan_file.specs.Plan.{mostNodes, Plan, PlanFits, entryCount, planOf}
 use Rattle.plan_file.specs.Encoding.{encoding}
 use Rattle.plan_file.specs.Find.{rowIn, nodeOfRow}
 
@@ -12,7 +13,7 @@ use Rattle.plan_file.specs.Find.{rowIn, nodeOfRow}
 -- that count as many entries as there are.
 pub record PlanHolds (p : Plan) : Type 0 where
   pub some : 1 ≤ length (p .rows)
-  pub few : length (p .rows) ≤ 32
+  pub few : length (p .rows) ≤ mostNodes
   pub rising : (i : ℕ) → suc i < length (p .rows) → rowIn (p .rows) i .number < rowIn (p .rows) (suc i) .number
   pub nodes : (i : ℕ) → i < length (p .rows) → NodeHolds (nodeOfRow p i)
   pub counts : entryCount (p .rows) ≡ length (p .entries)
@@ -21,6 +22,6 @@ pub record PlanHolds (p : Plan) : Type 0 where
 abbrev pub IsPlanFile : List ℕ → Type 0
 IsPlanFile f = (p : Plan) × PlanFits p × PlanHolds p × (encoding p ≡ f)
 
--- A word for each row and five for each entry hold a plan within the limits, with no part of an entry left over.
+-- A word for each row and the words of entries hold a plan within the limits, with no part of an entry left over.
 abbrev pub IsPlanInMemory : List ℕ → List ℕ → Type 0
-IsPlanInMemory rs ws = PlanHolds (planOf rs ws) × (length ws % 5 ≡ 0)
+IsPlanInMemory rs ws = PlanHolds (planOf rs ws) × (length ws % entrySize ≡ 0)

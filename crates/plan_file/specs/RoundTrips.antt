@@ -3,6 +3,7 @@ use Prim.Native.Nat.{ℕ, _*_, _/_, _≤_}
 use mathlib.Core.Path.{_≡_}
 use mathlib.Core.List.{List, _++_}
 use lib.ListN.{length, take, drop}
+use Rattle.task_model.specs.Words.{entrySize}
 use Rattle.task_model.specs.Answers.{Answer, gives, refuses}
 use Rattle.plan_file.specs.Answers.{Sizes, ReadCall, WriteCall}
 
@@ -13,7 +14,7 @@ WrittenAgain f (refuses r) rows words = Unit
 WrittenAgain f (gives n) rows words =
     (old : List ℕ) (a : Answer ℕ) (new : List ℕ)
     → length f ≤ length old
-    → WriteCall (take (n .rows) rows) (take (n .entries * 5) words) old a new
+    → WriteCall (take (n .rows) rows) (take (n .entries * entrySize) words) old a new
     → (a ≡ gives (length f)) × (new ≡ f ++ drop (length f) old)
 
 -- After the writer wrote a file: any call of the reader on the part that was written, with room for the plan, fills as many
@@ -26,6 +27,6 @@ ReadAgain rows words (gives n) file =
     → length rows ≤ length oldRows
     → length words ≤ length oldWords
     → ReadCall (take n file) oldRows oldWords a newRows newWords
-    → (a ≡ gives (record { rows = length rows; entries = length words / 5 }))
+    → (a ≡ gives (record { rows = length rows; entries = length words / entrySize }))
     × (newRows ≡ rows ++ drop (length rows) oldRows)
     × (newWords ≡ words ++ drop (length words) oldWords)

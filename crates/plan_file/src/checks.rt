@@ -1,6 +1,7 @@
 // The checks of a file and of a plan in memory, part by part.
 use super::ENTRY_BYTES;
 use super::HEADER_BYTES;
+use super::MOST_NODES;
 use super::OPENING;
 use super::ROW_BYTES;
 use super::Row;
@@ -10,6 +11,9 @@ use super::read::row_of;
 use super::read::word_at;
 use super::row_at;
 use task_model::Checked;
+use task_model::ENTRY_WORDS;
+use task_model::MOST_ENTRIES;
+use task_model::MOST_LEVELS;
 use task_model::Refusal;
 ghost use mathlib.Core.Path.{_≡_};
 ghost use mathlib.Core.List.{map};
@@ -19,9 +23,9 @@ ghost use lib.Dec.{eqb};
 ghost use Prim.Native.Nat.{_+_, _*_, _≤_};
 ghost use Rattle.task_model.specs.Refusals.{outcome, at, _andThen_, mustHold};
 ghost use Rattle.task_model.specs.Checks.{entriesCheck};
-ghost use Rattle.task_model.specs.Words.{entriesFrom};
-ghost use Rattle.plan_file.specs.Plan.{entryCount, rowOf};
-ghost use Rattle.plan_file.specs.Encoding.{bodiesStart};
+ghost use Rattle.task_model.specs.Words.{entrySize, entriesFrom};
+ghost use Rattle.plan_file.specs.Plan.{mostNodes, entryCount, rowOf};
+ghost use Rattle.plan_file.specs.Encoding.{headerLength, entryLength, bodiesStart};
 ghost use Rattle.plan_file.specs.Decoding.{nodeCount, offsetAt, rowsFrom, entriesAt};
 ghost use Rattle.plan_file.specs.Check.{openingTest, zerosTest, countTest, rowTest, rowsCheck, layoutCheck, nodesCheck, headerCheck};
 
@@ -35,15 +39,15 @@ fn row_holds(least: u32, r: Row) -> bool
     if r.levels < 1 {
         return false;
     }
-    if 64 < r.levels {
+    if MOST_LEVELS < r.levels {
         return false;
     }
-    r.count <= 64
+    r.count as usize <= MOST_ENTRIES
 }
 
 // Whether the file opens with the four bytes.
 fn opens(file: &[u8]) -> bool
-    requires { ⌜ 8 ≤ length (now file) ⌝ }
+    requires { ⌜ headerLength ≤ length (now file) ⌝ }
     ensures { λ a. ⌜ a ≡ openingTest (now (file .entry)) ⌝ }
 {
     if file[0] != OPENING[0] {
@@ -60,13 +64,13 @@ fn opens(file: &[u8]) -> bool
 
 // Whether there are 1 to 32 nodes, and the three bytes after their count are zero.
 fn counted(file: &[u8]) -> bool
-    requires { ⌜ 8 ≤ length (now file) ⌝ }
+    requires { ⌜ headerLength ≤ length (now file) ⌝ }
     ensures { λ a. ⌜ a ≡ (countTest (nodeCount (now (file .entry))) && zerosTest (now (file .entry))) ⌝ }
 {
     if file[4] < 1 {
         return false;
     }
-    if 32 < file[4] {
+    if MOST_NODES < file[4] {
         return false;
     }
     if file[5] != 0 {
@@ -82,7 +86,7 @@ fn counted(file: &[u8]) -> bool
 pub(crate) fn check_header(file: &[u8]) -> Checked
     ensures { λ a. ⌜ outcome a ≡ headerCheck (now (file .entry)) ⌝ }
 {
-    if file.len() < 8 {
+    if file.len() < HEADER_BYTES {
         return Checked::Refused(Refusal::ShortFile);
     }
     if !opens(file) {
@@ -107,7 +111,7 @@ fn placed_at(file: &[u8], row: usize, required: usize) -> bool
 
 // Checks each row (4) and its offset (5), then that the file ends with the last body (6).
 pub(crate) fn check_layout(file: &[u8], nodes: usize) -> Checked
-    requires { ⌜ (nodes ≤ 32) × (bodiesStart nodes ≤ length (now file)) ⌝ }
+    requires { ⌜ (nodes ≤ mostNodes) × (bodiesStart nodes ≤ length (now file)) ⌝ }
     ensures { λ a. ⌜ outcome a ≡ layoutCheck (now (file .entry)) 0 0 (bodiesStart nodes) (rowsFrom (now (file .entry)) 0 nodes) ⌝ }
 {
     let mut least: u32 = 0;
@@ -135,7 +139,7 @@ pub(crate) fn check_layout(file: &[u8], nodes: usize) -> Checked
 
 // Checks the entries of one body (7 and 8).
 fn check_body(file: &[u8], row: usize, start: usize, count: usize) -> Checked
-    requires { ⌜ start + count * 20 ≤ length (now file) ⌝ }
+    requires { ⌜ start + count * entryLength ≤ length (now file) ⌝ }
     ensures { λ a. ⌜ outcome a ≡ entriesCheck row 0 (entriesAt (now (file .entry)) start count) ⌝ }
 {
     let mut k = start;
@@ -154,7 +158,7 @@ fn check_body(file: &[u8], row: usize, start: usize, count: usize) -> Checked
 
 // Checks the entries of every body, row by row.
 fn check_by_row(file: &[u8], nodes: usize) -> Checked
-    requires { ⌜ bodiesStart nodes + entryCount (rowsFrom (now file) 0 nodes) * 20 ≤ length (now file) ⌝ }
+    requires { ⌜ bodiesStart nodes + entryCount (rowsFrom (now file) 0 nodes) * entryLength ≤ length (now file) ⌝ }
     ensures { λ a.
         ⌜ outcome a ≡
         nodesCheck 0 (rowsFrom (now (file .entry)) 0 nodes)
@@ -178,7 +182,7 @@ fn check_by_row(file: &[u8], nodes: usize) -> Checked
 // Checks the entries of every body. All as one body first, since a single loop is the quickest way through an accepted
 // file; only one that is refused goes row by row, for the place.
 pub(crate) fn check_bodies(file: &[u8], nodes: usize) -> Checked
-    requires { ⌜ length (now file) ≡ bodiesStart nodes + entryCount (rowsFrom (now file) 0 nodes) * 20 ⌝ }
+    requires { ⌜ length (now file) ≡ bodiesStart nodes + entryCount (rowsFrom (now file) 0 nodes) * entryLength ⌝ }
     ensures { λ a.
         ⌜ outcome a ≡
         nodesCheck 0 (rowsFrom (now (file .entry)) 0 nodes)
@@ -194,11 +198,11 @@ pub(crate) fn check_bodies(file: &[u8], nodes: usize) -> Checked
 
 // Checks each row (4), then that there are as many words as their entries have (6).
 pub(crate) fn check_rows(rows: &[u32], words: usize) -> Checked
-    requires { ⌜ length (now rows) ≤ 32 ⌝ }
+    requires { ⌜ length (now rows) ≤ mostNodes ⌝ }
     ensures { λ a.
         ⌜ outcome a ≡
         (rowsCheck 0 0 (map rowOf (now (rows .entry)))
-        andThen mustHold (eqb words (entryCount (map rowOf (now (rows .entry))) * 5)) (at 6 0 0)) ⌝ }
+        andThen mustHold (eqb words (entryCount (map rowOf (now (rows .entry))) * entrySize)) (at 6 0 0)) ⌝ }
 {
     let mut least: u32 = 0;
     let mut total: usize = 0;
@@ -212,7 +216,7 @@ pub(crate) fn check_rows(rows: &[u32], words: usize) -> Checked
         total += r.count as usize;
         i += 1;
     }
-    if words != total * 5 {
+    if words != total * ENTRY_WORDS {
         return Checked::Refused(Refusal::FileLength);
     }
     Checked::Accepted
@@ -220,7 +224,7 @@ pub(crate) fn check_rows(rows: &[u32], words: usize) -> Checked
 
 // Checks the entries of every row.
 pub(crate) fn check_nodes(rows: &[u32], words: &[u32]) -> Checked
-    requires { ⌜ entryCount (map rowOf (now rows)) * 5 ≤ length (now words) ⌝ }
+    requires { ⌜ entryCount (map rowOf (now rows)) * entrySize ≤ length (now words) ⌝ }
     ensures { λ a.
         ⌜ outcome a ≡
         nodesCheck 0 (map rowOf (now (rows .entry)))

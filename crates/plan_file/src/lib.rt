@@ -1,7 +1,8 @@
 // Plan files: checking, reading, writing, and finding a node.
 //
-// In memory a plan is words of 32 bits: one for a row, which is the first four bytes of its row in the file, and five for
-// an entry, which are its 20 bytes, both low byte first (specs/Plan.antt). So the fields keep the file's widths.
+// In memory a plan is words of 32 bits: one for a row, which is the first four bytes of its row in the file, and
+// those of its entries, which are the bytes of the bodies, both low byte first (specs/Plan.antt). So the fields keep the
+// file's widths.
 mod checks;
 mod read;
 mod store;
@@ -16,18 +17,20 @@ use read::copy_words;
 use read::row_of;
 use read::wide;
 use read::word_at;
-use store::put_bodies;
 use store::put_contents;
 use store::put_header;
+use store::put_words;
 use task_model::Checked;
+use task_model::ENTRY_WORDS;
+use task_model::NodeWords;
 use task_model::Refusal;
 ghost use mathlib.Core.Path.{_≡_};
 ghost use mathlib.Core.Logic.{_↔_};
 ghost use lib.ListN.{length};
 ghost use Prim.Native.Nat.{_+_, _≤_, _<_};
 ghost use Rattle.task_model.specs.Refusals.{outcome, accepted};
-ghost use Rattle.plan_file.specs.Plan.{wordsOf};
-ghost use Rattle.plan_file.specs.Encoding.{bodiesStart};
+ghost use Rattle.task_model.specs.Words.{wordsOf};
+ghost use Rattle.plan_file.specs.Encoding.{headerLength, bodiesStart};
 ghost use Rattle.plan_file.specs.Decoding.{nodeCount, rowAt, rowsFrom};
 ghost use Rattle.plan_file.specs.Check.{fileCheck, wordsCheck};
 ghost use Rattle.plan_file.specs.Limits.{IsPlanFile, IsPlanInMemory};
@@ -45,6 +48,9 @@ const HEADER_BYTES: usize = 8;
 const ROW_BYTES: usize = 8;
 
 const ENTRY_BYTES: usize = 20;
+
+// The most nodes of a plan.
+const MOST_NODES: u8 = 32;
 
 // A row of the contents without its offset.
 pub struct Row {
@@ -81,7 +87,7 @@ pub fn row_at(file: &[u8], row: usize) -> Row
 
 // The node count, in the byte after the opening ones.
 pub fn node_count(file: &[u8]) -> usize
-    requires { ⌜ 8 ≤ length (now file) ⌝ }
+    requires { ⌜ headerLength ≤ length (now file) ⌝ }
     ensures { λ n. ⌜ (n ≡ nodeCount (now (file .entry))) × (n < 256) ⌝ }
 {
     wide(file[4]) as usize
@@ -130,7 +136,7 @@ pub fn check_plan(rows: &[u32], entries: &[u32]) -> Checked
     if rows.len() < 1 {
         return Checked::Refused(Refusal::NodeCount);
     }
-    if 32 < rows.len() {
+    if (MOST_NODES as usize) < rows.len() {
         return Checked::Refused(Refusal::NodeCount);
     }
     let counted = check_rows(rows, entries.len());
@@ -159,11 +165,11 @@ pub fn write_plan(rows: &[u32], entries: &[u32], file: &mut [u8]) -> Written
     }
     put_header(file, rows.len());
     put_contents(file, rows);
-    put_bodies(file, start, entries, entries.len() / 5);
+    put_words(file, start, entries, entries.len());
     Written::Length(length)
 }
 
-// Reads a file's plan into buffers: a word for each row, five for each entry. Refuses as check_file does, then a buffer
+// Reads a file's plan into buffers: a word for each row, and those of each entry. Refuses as check_file does, then a buffer
 // that is too short (10). What is filled, write_plan writes as the same bytes.
 pub fn read_plan(file: &[u8], rows: &mut [u32], entries: &mut [u32]) -> ReadPlan
     ensures { λ a.
@@ -189,25 +195,25 @@ pub fn read_plan(file: &[u8], rows: &mut [u32], entries: &mut [u32]) -> ReadPlan
     copy_words(file, start, entries, words);
     ReadPlan::Filled {
         rows: nodes,
-        entries: words / 5,
+        entries: words / ENTRY_WORDS,
     }
 }
 
 // Copies the entries of a row of an accepted file to the array's start, as a node is lent, and gives the row.
-pub fn load_node(file: &[u8], row: usize, words: &mut [u32; 320]) -> Row
+pub fn load_node(file: &[u8], row: usize, words: &mut NodeWords) -> Row
     requires { ⌜ (fileCheck (now file) ≡ accepted) × (row < nodeCount (now file)) ⌝ }
     ensures { λ r.
         ⌜ Loaded (now (file .entry)) row r (now (words .entry)) (now (words .exit)) ⌝ }
 {
     let r = row_at(file, row);
     let start = word_at(file, HEADER_BYTES + row * ROW_BYTES + 4) as usize;
-    copy_words(file, start, words, r.count as usize * 5);
+    copy_words(file, start, words, r.count as usize * ENTRY_WORDS);
     r
 }
 
 // Finds the node with a number, and copies its entries to the array's start, as a node is lent. Refuses as check_file
 // does, then a number that no node has (9).
-pub fn find_node(file: &[u8], number: u16, words: &mut [u32; 320]) -> FoundNode
+pub fn find_node(file: &[u8], number: u16, words: &mut NodeWords) -> FoundNode
     ensures { λ a. ⌜ findGives a ≡ findAnswer (now (file .entry)) number ⌝ }
     ensures { λ a.
         ⌜ now (words .exit) ≡

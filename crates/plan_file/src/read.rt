@@ -9,7 +9,7 @@ ghost use mathlib.Core.List.{_∷_, [], map};
 ghost use lib.ListN.{length};
 ghost use Prim.Native.Nat.{_+_, _*_, _≤_, _<_};
 ghost use Rattle.plan_file.specs.Plan.{rowWord, rowOf};
-ghost use Rattle.plan_file.specs.Encoding.{bodiesStart};
+ghost use Rattle.plan_file.specs.Encoding.{entryLength, bodiesStart};
 ghost use Rattle.plan_file.specs.Decoding.{wordAt, wordsFrom, rowsFrom, entryIn};
 ghost use Rattle.plan_file.specs.Buffers.{over};
 
@@ -42,9 +42,9 @@ pub(crate) fn row_of(word: u32) -> Row
     }
 }
 
-// The entry that 20 bytes of a file hold.
+// The entry that stands in a file from byte `k` on.
 pub(crate) fn entry_in(file: &[u8], k: usize) -> Entry
-    requires { ⌜ k + 20 ≤ length (now file) ⌝ }
+    requires { ⌜ k + entryLength ≤ length (now file) ⌝ }
     ensures { λ e. ⌜ e ≡ entryIn (now (file .entry)) k ⌝ }
 {
     entry_with(

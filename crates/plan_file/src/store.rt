@@ -6,12 +6,11 @@ use super::ROW_BYTES;
 use super::read::row_of;
 ghost use mathlib.Core.Path.{_≡_};
 ghost use mathlib.Core.List.{map};
-ghost use lib.ListN.{length};
+ghost use lib.ListN.{length, take};
 ghost use Prim.Native.Nat.{_+_, _*_, _≤_};
-ghost use Rattle.task_model.specs.Words.{entryFrom, entriesFrom};
-ghost use Rattle.plan_file.specs.Plan.{rowOf};
-ghost use Rattle.plan_file.specs.Encoding.{low, bodiesStart, headerBytes, rowBytes, contentsBytes, bodiesBytes, entryBytes};
-ghost use Rattle.plan_file.specs.Buffers.{over};
+ghost use Rattle.plan_file.specs.Plan.{mostNodes, rowOf};
+ghost use Rattle.plan_file.specs.Encoding.{headerLength, rowLength, low, bodiesStart, headerBytes, rowBytes, contentsBytes};
+ghost use Rattle.plan_file.specs.Buffers.{over, bytesOf};
 
 // Stores a word as four bytes, low byte first.
 fn put_word(file: &mut [u8], k: usize, word: u32)
@@ -26,28 +25,16 @@ fn put_word(file: &mut [u8], k: usize, word: u32)
 
 // Stores a row, given as its word, with its offset.
 fn put_row(file: &mut [u8], k: usize, word: u32, offset: u32)
-    requires { ⌜ k + 8 ≤ length (now file) ⌝ }
+    requires { ⌜ k + rowLength ≤ length (now file) ⌝ }
     ensures { λ _. ⌜ now (file .exit) ≡ over (now (file .entry)) k (rowBytes offset (rowOf word)) ⌝ }
 {
     put_word(file, k, word);
     put_word(file, k + 4, offset);
 }
 
-// Stores the entry that five words hold from word `j` on.
-fn put_entry(file: &mut [u8], k: usize, words: &[u32], j: usize)
-    requires { ⌜ (k + 20 ≤ length (now file)) × (j + 5 ≤ length (now words)) ⌝ }
-    ensures { λ _. ⌜ now (file .exit) ≡ over (now (file .entry)) k (entryBytes (entryFrom (now (words .entry)) j)) ⌝ }
-{
-    put_word(file, k, words[j]);
-    put_word(file, k + 4, words[j + 1]);
-    put_word(file, k + 8, words[j + 2]);
-    put_word(file, k + 12, words[j + 3]);
-    put_word(file, k + 16, words[j + 4]);
-}
-
 // Stores the opening bytes, the node count and three zero bytes.
 pub(crate) fn put_header(file: &mut [u8], nodes: usize)
-    requires { ⌜ 8 ≤ length (now file) ⌝ }
+    requires { ⌜ headerLength ≤ length (now file) ⌝ }
     ensures { λ _. ⌜ now (file .exit) ≡ over (now (file .entry)) 0 (headerBytes nodes) ⌝ }
 {
     file[0] = OPENING[0];
@@ -62,10 +49,10 @@ pub(crate) fn put_header(file: &mut [u8], nodes: usize)
 
 // Stores the contents, each row with its offset.
 pub(crate) fn put_contents(file: &mut [u8], rows: &[u32])
-    requires { ⌜ (length (now rows) ≤ 32) × (bodiesStart (length (now rows)) ≤ length (now file)) ⌝ }
+    requires { ⌜ (length (now rows) ≤ mostNodes) × (bodiesStart (length (now rows)) ≤ length (now file)) ⌝ }
     ensures { λ _.
         ⌜ now (file .exit) ≡
-        over (now (file .entry)) 8
+        over (now (file .entry)) headerLength
         (contentsBytes (bodiesStart (length (now (rows .entry)))) (map rowOf (now (rows .entry)))) ⌝ }
 {
     let mut offset: usize = HEADER_BYTES + rows.len() * ROW_BYTES;
@@ -78,14 +65,14 @@ pub(crate) fn put_contents(file: &mut [u8], rows: &[u32])
     }
 }
 
-// Stores the bodies from byte `start` on.
-pub(crate) fn put_bodies(file: &mut [u8], start: usize, words: &[u32], count: usize)
-    requires { ⌜ (start + count * 20 ≤ length (now file)) × (count * 5 ≤ length (now words)) ⌝ }
-    ensures { λ _. ⌜ now (file .exit) ≡ over (now (file .entry)) start (bodiesBytes (entriesFrom (now (words .entry)) 0 count)) ⌝ }
+// Stores the first `count` words, from byte `k` on.
+pub(crate) fn put_words(file: &mut [u8], k: usize, words: &[u32], count: usize)
+    requires { ⌜ (k + count * 4 ≤ length (now file)) × (count ≤ length (now words)) ⌝ }
+    ensures { λ _. ⌜ now (file .exit) ≡ over (now (file .entry)) k (bytesOf (take count (now (words .entry)))) ⌝ }
 {
-    let mut j: usize = 0;
-    while j < count {
-        put_entry(file, start + j * ENTRY_BYTES, words, j * 5);
-        j += 1;
+    let mut i: usize = 0;
+    while i < count {
+        put_word(file, k + i * 4, words[i]);
+        i += 1;
     }
 }

@@ -18,7 +18,8 @@ ghost use Rattle.plan_file.specs.Encoding.{encoding};
 ghost use Rattle.plan_file.specs.Find.{findCheck, nodeFound};
 ghost use Rattle.plan_file.specs.Limits.{IsPlanFile};
 ghost use Rattle.plan_file.specs.RoundTrips.{WrittenAgain, ReadAgain};
-ghost use Rattle.plan_file.specs.Plan.{rowWord, wordsOf, planOf};
+ghost use Rattle.plan_file.specs.Plan.{rowWord, planOf};
+ghost use Rattle.task_model.specs.Words.{wordsOf};
 ghost use Rattle.planner.specs.Mapping.{fileAnswer, fileBuffer, NodeDemand3};
 ghost use Rattle.listing.specs.Listing.{listing, listAnswer};
 ghost use Rattle.planner_c.specs.Returned.{returned, back, given, checked, filled, sized, levelled};
@@ -59,7 +60,7 @@ pub extern "C" fn maiplur_check(file: &[u8], values: &mut [usize; 2]) -> u32
     }
 }
 
-// Reads a file's plan into buffers: a word for each row, five for each entry. Gives how many rows and entries. What is
+// Reads a file's plan into buffers: a word for each row, and those of each entry. Gives how many rows and entries. What is
 // filled, maiplur_write writes as the same bytes.
 #[no_mangle]
 pub extern "C" fn maiplur_read(

@@ -1,14 +1,15 @@
-// The session for C. It is lent as 322 words: its level count, its entry count and the words of its entries.
+// The session for C. It is lent as words: its level count, its entry count and the words of a node.
 use super::give;
 use super::refuse;
 use completion::Timing;
 use planner::MappedNode;
 use session::Changed;
+use session::SessionWords;
 use session::TimeAnswer;
 use session::from_words;
 use session::to_words;
 use task_model::Checked;
-use task_model::Entry;
+use task_model::EntryWords;
 ghost use mathlib.Core.Path.{_≡_};
 ghost use lib.ListN.{length};
 ghost use Rattle.task_model.specs.Refusals.{outcome, accepted};
@@ -24,15 +25,8 @@ ghost use Rattle.session.specs.InWords.{sessionIn, wordsLeft};
 ghost use Rattle.planner_c.specs.Returned.{returned, checked, levelled, givenTime, timed};
 ghost use Rattle.planner_c.specs.Changes.{Changes};
 
-// The entry that five words hold.
-fn entry_in(words: &[u32; 5]) -> Entry
-    ensures { λ e. ⌜ e ≡ entryFrom (now (words .entry)) 0 ⌝ }
-{
-    task_model::entry_with(words[0], words[1], words[2], words[3], words[4])
-}
-
 // Ends a change: an accepted one stores its session, a refused one leaves the words alone.
-fn keep(c: Changed, words: &mut [u32; 322], values: &mut [usize; 2]) -> u32
+fn keep(c: Changed, words: &mut SessionWords, values: &mut [usize; 2]) -> u32
     ensures { λ a. ⌜ returned a (now (values .exit)) ≡ checked (outcome (c .answer)) ⌝ }
     ensures { λ a. ⌜ now (words .exit) ≡ wordsLeft (outcome (c .answer)) (c .session) (now (words .entry)) ⌝ }
 {
@@ -50,7 +44,7 @@ fn keep(c: Changed, words: &mut [u32; 322], values: &mut [usize; 2]) -> u32
 // Opens a session, whatever the words held: an empty node with the given level count.
 #[no_mangle]
 pub extern "C" fn maiplur_session_open(
-    words: &mut [u32; 322],
+    words: &mut SessionWords,
     levels: u8,
     values: &mut [usize; 2],
 ) -> u32
@@ -65,7 +59,7 @@ pub extern "C" fn maiplur_session_open(
 // Sets the level count.
 #[no_mangle]
 pub extern "C" fn maiplur_session_set_levels(
-    words: &mut [u32; 322],
+    words: &mut SessionWords,
     levels: u8,
     values: &mut [usize; 2],
 ) -> u32
@@ -80,9 +74,9 @@ pub extern "C" fn maiplur_session_set_levels(
 // Inserts an entry before a position; just after the last entry it appends.
 #[no_mangle]
 pub extern "C" fn maiplur_session_insert(
-    words: &mut [u32; 322],
+    words: &mut SessionWords,
     position: usize,
-    entry: &[u32; 5],
+    entry: &EntryWords,
     values: &mut [usize; 2],
 ) -> u32
     ensures { λ a.
@@ -90,7 +84,7 @@ pub extern "C" fn maiplur_session_insert(
         (returned a (now (values .exit))) (now (words .exit)) ⌝ }
 {
     let s = from_words(*words);
-    let e = entry_in(entry);
+    let e = task_model::entry_of(entry, 0);
     let c = session::inserted(s, position, e);
     keep(c, words, values)
 }
@@ -98,7 +92,7 @@ pub extern "C" fn maiplur_session_insert(
 // Removes the entry at a position.
 #[no_mangle]
 pub extern "C" fn maiplur_session_remove(
-    words: &mut [u32; 322],
+    words: &mut SessionWords,
     position: usize,
     values: &mut [usize; 2],
 ) -> u32
@@ -113,9 +107,9 @@ pub extern "C" fn maiplur_session_remove(
 // Replaces the entry at a position.
 #[no_mangle]
 pub extern "C" fn maiplur_session_replace(
-    words: &mut [u32; 322],
+    words: &mut SessionWords,
     position: usize,
-    entry: &[u32; 5],
+    entry: &EntryWords,
     values: &mut [usize; 2],
 ) -> u32
     ensures { λ a.
@@ -123,7 +117,7 @@ pub extern "C" fn maiplur_session_replace(
         (returned a (now (values .exit))) (now (words .exit)) ⌝ }
 {
     let s = from_words(*words);
-    let e = entry_in(entry);
+    let e = task_model::entry_of(entry, 0);
     let c = session::replaced(s, position, e);
     keep(c, words, values)
 }
@@ -143,7 +137,7 @@ fn give_time(t: Timing, values: &mut [usize; 2]) -> u32
 // the rounds.
 #[no_mangle]
 pub extern "C" fn maiplur_session_time(
-    words: &[u32; 322],
+    words: &SessionWords,
     first: usize,
     last: usize,
     i: usize,
@@ -164,7 +158,7 @@ pub extern "C" fn maiplur_session_time(
 // Maps the node, one byte an entry from the buffer's start. Gives the levels used.
 #[no_mangle]
 pub extern "C" fn maiplur_session_map(
-    words: &[u32; 322],
+    words: &SessionWords,
     levels: &mut [u8],
     values: &mut [usize; 2],
 ) -> u32

@@ -9,7 +9,7 @@ use borrow.Author.Tests.{le-leb, lt-leb, lt-ltb, le-ltb, leb-true, ltb-true}
 use Rattle.task_model.specs.declared.Entry.{Entry}
 use Rattle.task_model.specs.declared.Checked.{Checked}
 use Rattle.task_model.specs.Refusals.{Numbered, at, accepted, refused, outcome, _andThen_}
-use Rattle.task_model.specs.Limits.{Node, AllHold}
+use Rattle.task_model.specs.Limits.{mostLevels, mostEntries, Node, AllHold}
 use Rattle.task_model.specs.Checks.{entryCheck, nodeCheck}
 use Rattle.task_model.proofs.Laws.{and-true, decided, length-entries}
 use Rattle.task_model.proofs.Theorems.{node-accepted}
@@ -28,15 +28,15 @@ pub levels-low : (levels : ℕ) → levels < 1 → levelsCheck levels ≡ refuse
 unfolding levelsCheck
 levels-low levels h = rw (lt-leb 1 levels h)
 
-pub levels-high : (levels : ℕ) → 1 ≤ levels → 64 < levels → levelsCheck levels ≡ refused (at 4 0 0)
+pub levels-high : (levels : ℕ) → 1 ≤ levels → mostLevels < levels → levelsCheck levels ≡ refused (at 4 0 0)
 unfolding levelsCheck
-levels-high levels l h = rw (le-leb 1 levels l, lt-leb levels 64 h)
+levels-high levels l h = rw (le-leb 1 levels l, lt-leb levels mostLevels h)
 
-pub levels-within : (levels : ℕ) → 1 ≤ levels → levels ≤ 64 → levelsCheck levels ≡ accepted
+pub levels-within : (levels : ℕ) → 1 ≤ levels → levels ≤ mostLevels → levelsCheck levels ≡ accepted
 unfolding levelsCheck
-levels-within levels l h = rw (le-leb 1 levels l, le-leb levels 64 h)
+levels-within levels l h = rw (le-leb 1 levels l, le-leb levels mostLevels h)
 
-pub levels-accepted : (levels : ℕ) → levelsCheck levels ≡ accepted → (1 ≤ levels) × (levels ≤ 64)
+pub levels-accepted : (levels : ℕ) → levelsCheck levels ≡ accepted → (1 ≤ levels) × (levels ≤ mostLevels)
 unfolding levelsCheck
 levels-accepted levels a =
     let q = and-true _ _ (demanded _ _ a) in
@@ -63,17 +63,17 @@ module _ (n : Node) (p : ℕ) where
     unfolding operationCheck
     insert-outside h = rw (lt-leb p (length (n .entries)) h)
 
-    pub insert-full : p ≤ length (n .entries) → 64 ≤ length (n .entries) → operationCheck (inserting p e) n ≡ refused (at 13 0 0)
+    pub insert-full : p ≤ length (n .entries) → mostEntries ≤ length (n .entries) → operationCheck (inserting p e) n ≡ refused (at 13 0 0)
     unfolding operationCheck
-    insert-full h l = rw (le-leb p (length (n .entries)) h, le-ltb (length (n .entries)) 64 l)
+    insert-full h l = rw (le-leb p (length (n .entries)) h, le-ltb (length (n .entries)) mostEntries l)
 
-    pub insert-entry : p ≤ length (n .entries) → length (n .entries) < 64
+    pub insert-entry : p ≤ length (n .entries) → length (n .entries) < mostEntries
         → operationCheck (inserting p e) n ≡ entryCheck 0 p e
     unfolding operationCheck
-    insert-entry h l = rw (le-leb p (length (n .entries)) h, lt-ltb (length (n .entries)) 64 l)
+    insert-entry h l = rw (le-leb p (length (n .entries)) h, lt-ltb (length (n .entries)) mostEntries l)
 
     pub insert-accepted : operationCheck (inserting p e) n ≡ accepted
-        → (p ≤ length (n .entries)) × (length (n .entries) < 64) × (entryCheck 0 p e ≡ accepted)
+        → (p ≤ length (n .entries)) × (length (n .entries) < mostEntries) × (entryCheck 0 p e ≡ accepted)
     unfolding operationCheck
     insert-accepted a =
         let q = both-accepted _ _ a in
@@ -168,33 +168,33 @@ module _ (s : Session) where
   sized : length (nodeIn s .entries) ≡ s .count
   sized = length-entries (s .words) 0 (s .count)
 
-  few : nodeCheck 0 (nodeIn s) ≡ accepted → s .count ≤ 64
+  few : nodeCheck 0 (nodeIn s) ≡ accepted → s .count ≤ mostEntries
   few p = omega (arith, node-accepted 0 (nodeIn s) .0 p .fewEntries, sized)
 
   module _ (p : ℕ) where
-    pub insert-ready : (e : Entry) → stepCheck (inserting p e) (nodeIn s) ≡ accepted → (p ≤ s .count) × (s .count < 64)
+    pub insert-ready : (e : Entry) → stepCheck (inserting p e) (nodeIn s) ≡ accepted → (p ≤ s .count) × (s .count < mostEntries)
     insert-ready e a =
         let q = insert-accepted (nodeIn s) p e (step-accepted (inserting p e) (nodeIn s) a .1) in
         (omega (arith, sized), omega (arith, sized))
 
-    pub remove-ready : stepCheck (removing p) (nodeIn s) ≡ accepted → (p < s .count) × (s .count ≤ 64)
+    pub remove-ready : stepCheck (removing p) (nodeIn s) ≡ accepted → (p < s .count) × (s .count ≤ mostEntries)
     unfolding lentCheck
     remove-ready a =
         let q = step-accepted (removing p) (nodeIn s) a in
         (omega (arith, sized, remove-accepted (nodeIn s) p (q .1)), few (q .0))
 
-    pub replace-ready : (e : Entry) → stepCheck (replacing p e) (nodeIn s) ≡ accepted → (p < s .count) × (s .count ≤ 64)
+    pub replace-ready : (e : Entry) → stepCheck (replacing p e) (nodeIn s) ≡ accepted → (p < s .count) × (s .count ≤ mostEntries)
     unfolding lentCheck
     replace-ready e a =
         let q = step-accepted (replacing p e) (nodeIn s) a in
         (omega (arith, sized, replace-accepted (nodeIn s) p e (q .1) .0), few (q .0))
 
-  pub levels-ready : (levels : ℕ) → stepCheck (settingLevels levels) (nodeIn s) ≡ accepted → s .count ≤ 64
+  pub levels-ready : (levels : ℕ) → stepCheck (settingLevels levels) (nodeIn s) ≡ accepted → s .count ≤ mostEntries
   unfolding lentCheck
   levels-ready levels a = few (step-accepted (settingLevels levels) (nodeIn s) a .0)
 
   pub time-ready : (first last i : ℕ) → stepCheck (timing first last i) (nodeIn s) ≡ accepted
-      → AllHold (nodeIn s .entries) × ((first ≤ i) × (i ≤ last) × (last < s .count) × (s .count ≤ 64))
+      → AllHold (nodeIn s .entries) × ((first ≤ i) × (i ≤ last) × (last < s .count) × (s .count ≤ mostEntries))
   unfolding lentCheck
   time-ready first last i a =
       let q = step-accepted (timing first last i) (nodeIn s) a in

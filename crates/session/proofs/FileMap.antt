@@ -10,7 +10,7 @@ use Rattle.task_model.specs.Refusals.{accepted}
 use Rattle.task_model.specs.Limits.{Node, entryAt, EntryHolds, NodeHolds}
 use Rattle.task_model.specs.Words.{entryFrom}
 use Rattle.task_model.proofs.Laws.{length-entries, entry-of}
-use Rattle.plan_file.specs.Plan.{Plan, entryCount, EntryFits, EntriesFit, PlanFits}
+use Rattle.plan_file.specs.Plan.{Plan, entryCount, PlanFits}
 use Rattle.plan_file.specs.Encoding.{encoding}
 use Rattle.plan_file.specs.Decoding.{planIn, nodeCount}
 use Rattle.plan_file.specs.Check.{fileCheck, planCheck}
@@ -21,7 +21,7 @@ use Rattle.planner.specs.Mapping.{heldAnswer, heldBuffer, fileAnswer, fileBuffe
 use Rattle.session.specs.declared.Session.{Session}
 use Rattle.session.specs.State.{nodeIn}
 use Rattle.session.specs.Plan.{oneRow}
-use Rattle.session.proofs.Reading.{Kept, narrow}
+use Rattle.session.proofs.Reading.{Kept, kept-fit}
 
 -- the node of any row of an accepted file, mapped under the number of that row
 module _ (f : List ℕ) (a : fileCheck f ≡ accepted) (i number : ℕ) (has : i < length (planIn f .rows))
@@ -42,24 +42,6 @@ module _ (f : List ℕ) (a : fileCheck f ≡ accepted) (i number : ℕ) (has : i
 
 -- a node within the limits, with numbers of 16 bits, is a plan of one row that the writer accepts
 module _ (n : Node) (k : Kept n) (number : ℕ) (short : number < 65536) where
-  entry-fits : (e : Entry) → EntryHolds e → e .number < 65536 → EntryFits e
-  entry-fits e h l =
-      let w = narrow e h l in
-      let t = h .times in
-      record {
-        number = l;
-        kind = w .kind;
-        calls = w .calls;
-        wcet = omega arith;
-        period = omega arith;
-        deadline = omega arith;
-        blocking = omega arith;
-      }
-
-  all-fit : (es : List Entry) → ((j : ℕ) → j < length es → EntryFits (entryAt es j)) → EntriesFit es
-  all-fit [] f = tt
-  all-fit (e ∷ es) f = (f 0 (omega arith), all-fit es (λ j h. f (suc j) (omega arith)))
-
   one-fits : PlanFits (oneRow number n)
   one-fits =
       record {
@@ -71,7 +53,7 @@ module _ (n : Node) (k : Kept n) (number : ℕ) (short : number < 65536) where
           },
           tt,
         );
-        entries = all-fit (n .entries) (λ j h. entry-fits _ (k .holds .each j h) (k .numbers j h));
+        entries = kept-fit n k;
       }
 
   only-node : nodeOfRow (oneRow number n) 0 ≡ n

@@ -1,4 +1,4 @@
--- What the types say of a session that is handed over by value: it has 320 words, each of 32 bits.
+-- What the types say of a session that is handed over by value: it has the words of a node, each of 32 bits.
 use Prim.Native.Nat.{ℕ, zero, suc, _<_}
 use mathlib.Core.Path.{_≡_, _∙_, sym}
 use mathlib.Core.List.{List, [], _∷_, map}
@@ -11,26 +11,23 @@ use denote.Laws.{Is}
 use denote.Plain.{UInt}
 use denote.Array.{Array, each}
 use denote.Struct.Laws as LL
+use Rattle.task_model.specs.Words.{WordsFit, nodeSize}
 use Rattle.session.specs.declared.Session.{Session}
 use Rattle.session.proofs.Session as T
 use Rattle.session.proofs.Session.Laws as T′
 
--- every number of a list is a word of 32 bits
-abbrev pub Words : List ℕ → Type 0
-Words ws = (k : ℕ) → getD ws k 0 < 4294967296
-
 pub record Held (s : Session) : Type 0 where
-  pub size : length (s .words) ≡ 320
-  pub words : Words (s .words)
+  pub size : length (s .words) ≡ nodeSize
+  pub words : WordsFit (s .words)
 
-each-word : (xs : List ℕ) (us : List Val) → shadow (each ℕ (UInt w32 .own) xs us) → Words xs
+each-word : (xs : List ℕ) (us : List Val) → shadow (each ℕ (UInt w32 .own) xs us) → WordsFit xs
 each-word [] us p k = omega arith
 each-word (x ∷ xs) [] p k = absurd p
 each-word (x ∷ xs) (u ∷ us) p zero = p .0 .1
 each-word (x ∷ xs) (u ∷ us) p (suc k) = each-word xs us (p .1) k
 
 array-words : (n : ℕ) (xs : List ℕ) (vs : List Val) → Is (Array (UInt w32) n) (map (λ v. v) xs) vs
-    → (length xs ≡ n) × Words xs
+    → (length xs ≡ n) × WordsFit xs
 array-words n xs vs p = (
   sym (length-map xs (λ v. v)) ∙ p .1 .0 .1,
   λ k. rw (List·getD-map {A = ℕ} {B = ℕ} (λ v. v) xs k 0) at (each-word (map (λ v. v) xs) (p .0) (p .1 .1) k),
@@ -38,5 +35,5 @@ array-words n xs vs p = (
 
 pub held : (s : Session) → Is T.the-row s (LL.vals T.the-type T′.the-laws s) → Held s
 held s is =
-    let o = array-words 320 (s .words) _ (LL.owed T.the-type T′.the-laws s _ is .1 .1 .0) in
+    let o = array-words nodeSize (s .words) _ (LL.owed T.the-type T′.the-laws s _ is .1 .1 .0) in
     record { size = o .0; words = o .1 }

@@ -12,10 +12,10 @@ use Rattle.session.specs.declared.Session.{Session}
 use Rattle.session.specs.State.{nodeIn}
 use Rattle.session.specs.Operations.{Operation, stepCheck}
 use Rattle.session.specs.Steps.{sessionAfter, sessionAfterAll, Follows}
-use Rattle.session.specs.InWords.{sessionIn, wordsIn, wordsLeft, wordsAfter, wordsAfterAll}
+use Rattle.session.specs.InWords.{sessionSize, sessionIn, wordsIn, wordsLeft, wordsAfter, wordsAfterAll}
 use Rattle.session.proofs.Checking.{after-refused}
 
-pub words-back : (w : List ℕ) → length w ≡ 322 → wordsIn (sessionIn w) ≡ w
+pub words-back : (w : List ℕ) → length w ≡ sessionSize → wordsIn (sessionIn w) ≡ w
 words-back [] h = absurd (omega arith)
 words-back (levels ∷ []) h = absurd (omega arith)
 words-back (levels ∷ count ∷ words) h = refl

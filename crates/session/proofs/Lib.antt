@@ -1,7 +1,6 @@
 -- Laws that the functions' proofs cite, and the theorems of the session.
 pub mod Held
 pub mod Copying
-pub mod Words
 pub mod Filling
 pub mod Building
 pub mod Checking

@@ -7,7 +7,7 @@ use native.Mathlib.Omega.{arith}
 use lib.ListN.{length}
 use Rattle.task_model.specs.declared.Entry.{Entry}
 use Rattle.task_model.specs.Refusals.{Numbered, accepted, refused}
-use Rattle.task_model.specs.Limits.{Node, EntryHolds, NodeHolds}
+use Rattle.task_model.specs.Limits.{mostLevels, mostEntries, Node, EntryHolds, NodeHolds}
 use Rattle.task_model.proofs.Theorems.{either, entry-accepted, node-accepted}
 use Rattle.session.specs.State.{nodeIn, sessionOf}
 use Rattle.session.specs.Operations.{Operation, opening, inserting, removing, replacing, settingLevels, mapping, timing, Callable, AllCallable, operationCheck, emptyNode, changed, nodeAfter, nodeAfterAll, answersAll, lentCheck, stepCheck}
@@ -21,7 +21,7 @@ use Rattle.session.proofs.Checking.{lent-goes-on, levels-accepted, inse
 abbrev Short : Entry → Type 0
 Short e = e .number < 65536
 
-pub kept-empty : (levels : ℕ) → 1 ≤ levels → levels ≤ 64 → Kept (emptyNode levels)
+pub kept-empty : (levels : ℕ) → 1 ≤ levels → levels ≤ mostLevels → Kept (emptyNode levels)
 kept-empty levels l h =
     record {
       holds = record { someLevels = l; fewLevels = h; fewEntries = omega arith; each = λ j h. absurd (omega arith) };
@@ -29,7 +29,7 @@ kept-empty levels l h =
     }
 
 -- a list of entries in the place of another
-kept-with : (n : Node) (es : List Entry) → Kept n → length es ≤ 64 → Each EntryHolds es → Each Short es
+kept-with : (n : Node) (es : List Entry) → Kept n → length es ≤ mostEntries → Each EntryHolds es → Each Short es
     → Kept (record { levels = n .levels; entries = es })
 kept-with n es k few holds short =
     record {

@@ -7,7 +7,7 @@ use native.Mathlib.Omega.{arith}
 use lib.ListN.{length}
 use Rattle.task_model.specs.declared.Entry.{Entry}
 use Rattle.task_model.specs.Refusals.{Numbered, at, accepted, refused}
-use Rattle.task_model.specs.Limits.{Node}
+use Rattle.task_model.specs.Limits.{mostLevels, Node}
 use Rattle.task_model.specs.Checks.{nodeCheck}
 use Rattle.task_model.proofs.Laws.{node-sizes, length-entries}
 use Rattle.task_model.proofs.Theorems.{node-accepted, either}
@@ -28,7 +28,7 @@ use Rattle.session.specs.Timing.{timeAnswer}
 use Rattle.session.specs.Mapping.{mapAnswer, mapBuffer}
 use Rattle.session.specs.Plan.{oneRow}
 use Rattle.session.specs.Steps.{sessionMade, sessionAfter, sessionAfterAll, answersOf}
-use Rattle.session.specs.InWords.{sessionIn, wordsIn, wordsAfter, wordsAfterAll}
+use Rattle.session.specs.InWords.{sessionSize, sessionIn, wordsIn, wordsAfter, wordsAfterAll}
 use Rattle.session.proofs.Reading.{Kept, read-back}
 use Rattle.session.proofs.Checking.{levels-within, lent-stops, insert-outside, insert-full, time-inside, time-else, time-refused, time-given, time-ready, after-refused, after-accepted}
 use Rattle.session.proofs.Mapping.{own-answer, own-buffer, own-demand, map-outcome}
@@ -38,7 +38,7 @@ use Rattle.session.proofs.Rows.{kept-empty, own-checks, rows-session, r
 
 -- From the opening, by any row of operations, refused ones included, and whatever the memory held before. `levels` is
 -- the level count at opening, `os` the row.
-module _ (levels : ℕ) (some : 1 ≤ levels) (few : levels ≤ 64) (os : List Operation) (call : AllCallable os) (s : Session) where
+module _ (levels : ℕ) (some : 1 ≤ levels) (few : levels ≤ mostLevels) (os : List Operation) (call : AllCallable os) (s : Session) where
   opened-accepted : stepCheck (opening levels) (nodeIn s) ≡ accepted
   unfolding stepCheck lentCheck operationCheck
   opened-accepted = levels-within levels some few
@@ -199,14 +199,14 @@ module _ (s : Session) (h : Sound s) (number : ℕ) (short : number < 65536) whe
   )
 
 -- A session as 322 words: each form is the inverse of the other.
-pub words-inverse : (w : List ℕ) → length w ≡ 322 → wordsIn (sessionIn w) ≡ w
+pub words-inverse : (w : List ℕ) → length w ≡ sessionSize → wordsIn (sessionIn w) ≡ w
 words-inverse w h = words-back w h
 
 pub session-inverse : (s : Session) → sessionIn (wordsIn s) ≡ s
 session-inverse s = refl
 
 -- Zero in every word is the session that is not open.
-pub zero-words : sessionIn (zeros 322) ≡ blankSession
+pub zero-words : sessionIn (zeros sessionSize) ≡ blankSession
 zero-words = refl
 
 -- A refused operation leaves the words untouched.
@@ -215,17 +215,17 @@ pub words-unchanged : (o : Operation) (w : List ℕ) (r : Numbered) → stepChec
 words-unchanged o w r p = words-refused o w r p
 
 -- Mapping and timing leave them untouched, whatever they answer.
-words-read : (o : Operation) (w : List ℕ) → length w ≡ 322 → sessionMade o (sessionIn w) ≡ sessionIn w → wordsAfter o w ≡ w
+words-read : (o : Operation) (w : List ℕ) → length w ≡ sessionSize → sessionMade o (sessionIn w) ≡ sessionIn w → wordsAfter o w ≡ w
 words-read o w h q =
     ⊎-elim
     (λ p. words-accepted o w p ∙ ap wordsIn (after-accepted o (sessionIn w) p ∙ q) ∙ words-back w h)
     (λ p. words-refused o w (p .0) (p .1))
     (either (stepCheck o (nodeIn (sessionIn w))))
 
-pub words-mapped : (room : ℕ) (w : List ℕ) → length w ≡ 322 → wordsAfter (mapping room) w ≡ w
+pub words-mapped : (room : ℕ) (w : List ℕ) → length w ≡ sessionSize → wordsAfter (mapping room) w ≡ w
 words-mapped room w h = words-read (mapping room) w h refl
 
-pub words-timed : (first last i : ℕ) (w : List ℕ) → length w ≡ 322 → wordsAfter (timing first last i) w ≡ w
+pub words-timed : (first last i : ℕ) (w : List ℕ) → length w ≡ sessionSize → wordsAfter (timing first last i) w ≡ w
 words-timed first last i w h = words-read (timing first last i) w h refl
 
 -- After any row of operations the words hold the session after that row, so what is said of sessions above holds of them.

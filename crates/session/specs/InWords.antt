@@ -1,12 +1,17 @@
--- A session that is lent as an array of 322 words: the level count, the entry count, and the words of the entries.
-use Prim.Native.Nat.{ℕ}
+-- A session that is lent as an array of words: the level count, the entry count, and the words of a node.
+use Prim.Native.Nat.{ℕ, _+_}
 use mathlib.Core.List.{List, [], _∷_}
 use lib.ListN.{getD, drop}
 use Rattle.task_model.specs.Refusals.{Outcome, accepted, refused}
+use Rattle.task_model.specs.Words.{nodeSize}
 use Rattle.session.specs.declared.Session.{Session}
 use Rattle.session.specs.State.{nodeIn}
 use Rattle.session.specs.Operations.{Operation, stepCheck}
 use Rattle.session.specs.Steps.{sessionAfter}
+
+-- How many words these are.
+abbrev pub sessionSize : ℕ
+sessionSize = 2 + nodeSize
 
 -- The session that words hold, and the words of a session.
 abbrev pub sessionIn : List ℕ → Session

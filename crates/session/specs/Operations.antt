@@ -7,7 +7,7 @@ use lib.ListN.{length, take, drop}
 use lib.Dec.{leb, ltb}
 use Rattle.task_model.specs.declared.Entry.{Entry}
 use Rattle.task_model.specs.Refusals.{at, Outcome, accepted, refused, _andThen_, mustHold}
-use Rattle.task_model.specs.Limits.{Node}
+use Rattle.task_model.specs.Limits.{mostLevels, mostEntries, Node}
 use Rattle.task_model.specs.Checks.{entryCheck, nodeCheck}
 use Rattle.level_map.specs.Answer.{Answer, mapped}
 use Rattle.level_map.specs.Answer as map
@@ -47,7 +47,7 @@ refusalIn (map.refused r) = refused r
 
 -- 1 to 64 levels (4).
 unfoldable pub levelsCheck : ℕ → Outcome
-levelsCheck levels = mustHold (leb 1 levels && leb levels 64) (at 4 0 0)
+levelsCheck levels = mustHold (leb 1 levels && leb levels mostLevels) (at 4 0 0)
 
 -- The checks of an operation on a node, in their order. Opening and setting levels: 4. Insert: 12, 13, 7, 8. Replace: 12,
 -- 7, 8. Remove and timing: 12. Mapping: 10, 11.
@@ -55,7 +55,7 @@ unfoldable pub operationCheck : Operation → Node → Outcome
 operationCheck (opening levels) n = levelsCheck levels
 operationCheck (inserting position e) n =
     mustHold (leb position (length (n .entries))) (at 12 0 0)
-    andThen mustHold (ltb (length (n .entries)) 64) (at 13 0 0)
+    andThen mustHold (ltb (length (n .entries)) mostEntries) (at 13 0 0)
     andThen entryCheck 0 position e
 operationCheck (removing position) n = mustHold (ltb position (length (n .entries))) (at 12 0 0)
 operationCheck (replacing position e) n =

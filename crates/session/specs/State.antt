@@ -4,8 +4,7 @@ use mathlib.Core.Path.{_≡_}
 use mathlib.Core.List.{List, _++_}
 use lib.ListN.{length, replicate}
 use Rattle.task_model.specs.Limits.{Node, NodeHolds}
-use Rattle.task_model.specs.Words.{nodeOf}
-use Rattle.plan_file.specs.Plan.{wordsOf}
+use Rattle.task_model.specs.Words.{nodeSize, wordsOf, nodeOf}
 use Rattle.session.specs.declared.Session.{Session}
 
 -- The node that a session holds: its level count, and the entries that its first words hold.
@@ -18,7 +17,7 @@ zeros n = replicate n 0
 
 -- Words from the start on, and zero in every slot beyond them.
 unfoldable pub filled : List ℕ → List ℕ
-filled ws = ws ++ zeros (320 - length ws)
+filled ws = ws ++ zeros (nodeSize - length ws)
 
 -- The session of a node. Nothing in it is left free.
 unfoldable pub sessionOf : Node → Session
@@ -31,4 +30,4 @@ pub record Sound (s : Session) : Type 0 where
 
 -- A session that is not open: no levels, no entries.
 abbrev pub blankSession : Session
-blankSession = record { levels = 0; count = 0; words = zeros 320 }
+blankSession = record { levels = 0; count = 0; words = zeros nodeSize }

@@ -2,6 +2,8 @@
 use super::Session;
 use task_model::Checked;
 use task_model::Entry;
+use task_model::MOST_ENTRIES;
+use task_model::MOST_LEVELS;
 use task_model::Refusal;
 use task_model::check_entry;
 use task_model::check_node;
@@ -15,7 +17,7 @@ ghost use Rattle.session.specs.Operations.{inserting, removing, replacin
 pub fn check_session(s: Session) -> Checked
     ensures { λ a. ⌜ outcome a ≡ nodeCheck 0 (nodeIn s) ⌝ }
 {
-    if 64 < s.levels {
+    if (MOST_LEVELS as u32) < s.levels {
         return Checked::Refused(Refusal::Row { row: 0 });
     }
     let words = s.words;
@@ -29,7 +31,7 @@ pub fn check_levels(levels: u8) -> Checked
     if levels < 1 {
         return Checked::Refused(Refusal::Row { row: 0 });
     }
-    if 64 < levels {
+    if MOST_LEVELS < levels {
         return Checked::Refused(Refusal::Row { row: 0 });
     }
     Checked::Accepted
@@ -48,7 +50,7 @@ pub fn check_insert(s: Session, position: usize, e: Entry) -> Checked
     if count < position {
         return Checked::Refused(Refusal::OutsideList);
     }
-    if 64 <= count {
+    if MOST_ENTRIES <= count {
         return Checked::Refused(Refusal::FullList);
     }
     check_entry(0, position, e)

@@ -19,6 +19,8 @@ use planner::MappedNode;
 use planner::map_held;
 use task_model::Checked;
 use task_model::Entry;
+use task_model::NODE_WORDS;
+use task_model::NodeWords;
 use task_model::Refusal;
 ghost use mathlib.Core.Path.{_≡_};
 ghost use Rattle.session.specs.State.{nodeIn, blankSession};
@@ -28,12 +30,17 @@ ghost use Rattle.session.specs.Mapping.{Maps};
 ghost use Rattle.session.specs.Timing.{timeGives, timeAnswer};
 ghost use Rattle.session.specs.InWords.{sessionIn, wordsIn};
 
-// One node, and room for 64 entries: 322 words of 32 bits, without padding. `words` has five to an entry.
+// How many words of 32 bits a session has: its level count, its entry count, and the words of a node.
+pub const SESSION_WORDS: usize = 2 + NODE_WORDS;
+
+pub type SessionWords = [u32; SESSION_WORDS];
+
+// One node, with room for all entries that it may have, in words of 32 bits without padding.
 #[repr(C)]
 pub struct Session {
     levels: u32,
     count: u32,
-    words: [u32; 320],
+    words: NodeWords,
 }
 
 // What an operation answers, and the session that it leaves.
@@ -55,7 +62,7 @@ pub fn blank() -> Session
     Session {
         levels: 0,
         count: 0,
-        words: [0u32; 320],
+        words: [0u32; NODE_WORDS],
     }
 }
 
@@ -66,7 +73,7 @@ pub fn opened(s: Session, levels: u8) -> Changed
     let empty = Session {
         levels: levels as u32,
         count: 0,
-        words: [0u32; 320],
+        words: [0u32; NODE_WORDS],
     };
     let answer = check_levels(levels);
     let Checked::Accepted = answer else {
@@ -209,12 +216,12 @@ pub fn map(s: &Session, out: &mut [u8]) -> MappedNode
     mapped(*s, out)
 }
 
-// The session that 322 words hold: the level count, the entry count, and the words of the entries.
-pub fn from_words(w: [u32; 322]) -> Session
+// The session that words hold.
+pub fn from_words(w: SessionWords) -> Session
     ensures { λ s. ⌜ s ≡ sessionIn w ⌝ }
 {
-    let mut words = [0u32; 320];
-    for j in 0..320 {
+    let mut words = [0u32; NODE_WORDS];
+    for j in 0..NODE_WORDS {
         words[j] = w[2 + j];
     }
     Session {
@@ -225,14 +232,14 @@ pub fn from_words(w: [u32; 322]) -> Session
 }
 
 // The words of a session.
-pub fn to_words(s: Session) -> [u32; 322]
+pub fn to_words(s: Session) -> SessionWords
     ensures { λ w. ⌜ w ≡ wordsIn s ⌝ }
 {
     let words = s.words;
-    let mut w = [0u32; 322];
+    let mut w = [0u32; SESSION_WORDS];
     w[0] = s.levels;
     w[1] = s.count;
-    for j in 0..320 {
+    for j in 0..NODE_WORDS {
         w[2 + j] = words[j];
     }
     w

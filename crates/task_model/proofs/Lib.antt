@@ -3,3 +3,4 @@ pub mod Outcomes
 pub mod Laws
 pub mod Theorems
 pub mod Refusals
+pub mod Words

@@ -1,11 +1,12 @@
 // The task model: an entry's fields, the limits that they keep, and why a call is refused.
 ghost use mathlib.Core.Path.{_≡_};
 ghost use lib.ListN.{length};
+ghost use lib.Seq.{sets};
 ghost use Prim.Native.Nat.{_+_, _*_, _<_, _≤_};
 ghost use Rattle.task_model.specs.Refusals.{outcome, numbered, numbersIn};
 ghost use Rattle.task_model.specs.Limits.{mostEntries};
 ghost use Rattle.task_model.specs.Checks.{kindTest, timesTest, entryCheck, entriesCheck, nodeCheck};
-ghost use Rattle.task_model.specs.Words.{entrySize, entryFrom, entryOf, entriesFrom, nodeOf};
+ghost use Rattle.task_model.specs.Words.{entrySize, nodeSize, entryWords, entryFrom, entryOf, entriesFrom, nodeOf};
 ghost use mathlib.Core.List.{[], _∷_};
 
 // The longest period and the longest blocking, in ticks; the most levels and the most entries of a node.
@@ -19,6 +20,8 @@ pub const MOST_ENTRIES: usize = 64;
 pub const ENTRY_WORDS: usize = 5;
 
 pub const NODE_WORDS: usize = MOST_ENTRIES * ENTRY_WORDS;
+
+pub type EntryWords = [u32; ENTRY_WORDS];
 
 pub type NodeWords = [u32; NODE_WORDS];
 
@@ -186,6 +189,18 @@ pub fn entry_at(words: &NodeWords, position: usize) -> Entry
     ensures { λ e. ⌜ e ≡ entryOf (now (words .entry)) position ⌝ }
 {
     entry_of(words, position * ENTRY_WORDS)
+}
+
+// Stores an entry's words in those of a node, from word `k` on.
+pub fn store_entry(words: &mut NodeWords, k: usize, e: Entry)
+    requires { ⌜ (k + entrySize ≤ length (now words)) × (length (now words) ≡ nodeSize) ⌝ }
+    ensures { λ _. ⌜ now (words .exit) ≡ sets (now (words .entry)) k (entryWords e) ⌝ }
+{
+    words[k] = e.number as u32 + e.kind as u32 * 65536 + e.calls as u32 * 16777216;
+    words[k + 1] = e.wcet;
+    words[k + 2] = e.period;
+    words[k + 3] = e.deadline;
+    words[k + 4] = e.blocking;
 }
 
 // Accepts `count` entries that are all within the limits, from entry `first` of the words on; refuses the first that is

@@ -5,6 +5,7 @@ use mathlib.Core.Path.{_≡_, _∙_, sym, ap}
 use native.Mathlib.Omega.{arith}
 use lib.ListN.{length, length-map}
 use borrow.Author.Needs.{needs}
+use Rattle.task_model.specs.Words.{entrySize}
 use Rattle.task_model.specs.Refusals.{outcome}
 use Rattle.task_model.specs.declared.Checked.{Checked}
 use Rattle.plan_file.specs.Check.{countTest}
@@ -24,6 +25,9 @@ told c o p = sym (c .check-rows .ensures) ∙ ap outcome p
 
 returns : tie.Need-returns
 returns c = plan-ensures (c .before .before .before .args .rows .now) (c .before .before .before .args .entries .now) (sym (handed-count _ _ _ (count-false _ (λ h1 h2. omega (arith, length-map (c .before .before .before .args .rows .now) rowOf)))))
+
+cast-if2 : tie.Need-cast-if2
+cast-if2 c = search needs
 
 returns-2 : tie.Need-returns-2
 returns-2 c = plan-ensures (c .before .before .before .before .args .rows .now) (c .before .before .before .before .args .entries .now) (sym (handed-count _ _ _ (count-false _ (λ h1 h2. omega (arith, length-map (c .before .before .before .before .args .rows .now) rowOf)))))
@@ -49,7 +53,7 @@ check-nodes-requires c κs = omega (arith, tally-holds _ _ (told (c .before .bef
 returns-4 : tie.Need-returns-4
 returns-4 c =
     let n = tally-holds _ _ (told (c .before .before .before) _ (c .before .enum-told .given .1)) .1 in
-    let e : length (c .before .before .before .before .before .before .before .before .args .entries .now) / 5 ≡ entryCount (map rowOf (c .before .before .before .before .before .before .before .before .args .rows .now)) = omega arith in
+    let e : length (c .before .before .before .before .before .before .before .before .args .entries .now) / entrySize ≡ entryCount (map rowOf (c .before .before .before .before .before .before .before .before .args .rows .now)) = omega arith in
     plan-ensures (c .before .before .before .before .before .before .before .before .args .rows .now) (c .before .before .before .before .before .before .before .before .args .entries .now)
     (rw (← e) at (c .check-nodes .ensures)
     ∙ sym (handed-nodes _ _ _ (counted (c .before .before .before)) (told (c .before .before .before) _ (c .before .enum-told .given .1))))
@@ -59,6 +63,7 @@ check-plan-spec =
     tie.close
     (tie.spec
     returns
+    cast-if2
     returns-2
     check-rows-requires
     enum-told

@@ -3,6 +3,7 @@ use mathlib.Core.Path.{_≡_, _∙_, refl, sym, ap}
 use native.Mathlib.Omega.{arith}
 use lib.ListN.{length}
 use borrow.Author.Needs.{needs}
+use Rattle.task_model.specs.Words.{entrySize}
 use Rattle.task_model.specs.Refusals.{outcome, accepted}
 use Rattle.plan_file.specs.Decoding.{nodeCount, rowsIn}
 use Rattle.plan_file.specs.Encoding.{bodiesStart, Bytes}
@@ -28,7 +29,7 @@ told c = sym (c .before .before .check-file .ensures .0) ∙ ap outcome (c .enum
 
 -- how many words the entries have
 counted : (c : tie.After-node-count)
-    → (length (c .before .before .before .before .before .before .before .args .file .now) - (8 + c .node-count .result * 8)) / 4 ≡ entryCount (rowsIn (c .before .before .before .before .before .before .before .args .file .now)) * 5
+    → (length (c .before .before .before .before .before .before .before .args .file .now) - (8 + c .node-count .result * 8)) / 4 ≡ entryCount (rowsIn (c .before .before .before .before .before .before .before .args .file .now)) * entrySize
 counted c = omega (arith, c .node-count .ensures .0, file-holds _ (told (c .before)) .ends)
 
 returns : tie.Need-returns

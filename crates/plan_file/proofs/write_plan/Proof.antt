@@ -5,7 +5,7 @@ use lib.ListN.{length, length-map}
 use borrow.Author.Needs.{needs}
 use Rattle.task_model.specs.Refusals.{outcome, accepted}
 use Rattle.plan_file.specs.Check.{wordsCheck}
-use Rattle.plan_file.specs.Plan.{rowOf}
+use Rattle.plan_file.specs.Plan.{mostNodes, rowOf}
 use Rattle.plan_file.proofs.Writing.{written, write-refused, write-short, write-fits}
 use Rattle.plan_file.proofs.Handed.{handed-holds}
 use Rattle.plan_file.proofs.Buffers.{over-start}
@@ -23,7 +23,7 @@ enum-known-checked c = search needs
 told : (c : tie.After-enum-told) → wordsCheck (c .before .before .before .before .before .before .args .rows .now) (c .before .before .before .before .before .before .args .entries .now) ≡ accepted
 told c = sym (c .before .before .check-plan .ensures .0) ∙ ap outcome (c .enum-told .given .1)
 
-few : (c : tie.After-enum-told) → length (c .before .before .before .before .before .before .args .rows .now) ≤ 32
+few : (c : tie.After-enum-told) → length (c .before .before .before .before .before .before .args .rows .now) ≤ mostNodes
 few c = omega (arith, handed-holds _ _ _ (told c) .few, length-map (c .before .before .before .before .before .before .args .rows .now) rowOf)
 
 returns : tie.Need-returns
@@ -59,8 +59,8 @@ put-header-requires c κs = search needs
 put-contents-requires : tie.Need-put-contents-requires
 put-contents-requires c κs = omega (arith, few (c .before .before .before .before .before .before), c .before .before .before .put-header .kept .0)
 
-put-bodies-requires : tie.Need-put-bodies-requires
-put-bodies-requires c κs = search needs
+put-words-requires : tie.Need-put-words-requires
+put-words-requires c κs = search needs
 
 same-length : tie.Need-same-length
 same-length c = search needs
@@ -71,8 +71,8 @@ returns-3 c =
     (λ i. c .before .before .before .before .before .before .before .before .before .before .before .before .before .before .before .before .before .shared-slice-known2 .given i .fits)
     (record {
       answer = sym (write-fits _ _ _ (told (c .before .before .before .before .before .before .before .before .before .before .before .before .before)) (omega arith));
-      fileThere = rw (c .before .before .put-bodies .ensures, c .before .before .before .before .before .before .put-contents .ensures, c .before .before .before .before .before .before .before .before .before .before .put-header .ensures)
-          (written (c .before .before .before .before .before .before .before .before .before .before .before .before .before .before .before .before .before .before .before .args .rows .now) (c .before .before .before .before .before .before .before .before .before .before .before .before .before .before .before .before .before .before .before .args .entries .now) _ ∙ over-start _ _);
+      fileThere = rw (c .before .before .put-words .ensures, c .before .before .before .before .before .before .put-contents .ensures, c .before .before .before .before .before .before .before .before .before .before .put-header .ensures)
+          (written (c .before .before .before .before .before .before .before .before .before .before .before .before .before .before .before .before .before .before .before .args .rows .now) (c .before .before .before .before .before .before .before .before .before .before .before .before .before .before .before .before .before .before .before .args .entries .now) (told (c .before .before .before .before .before .before .before .before .before .before .before .before .before)) _ ∙ over-start _ _);
     })
 
 pub write-plan-spec : {M : Type 1} → statement M
@@ -90,6 +90,6 @@ write-plan-spec =
     returns-2
     put-header-requires
     put-contents-requires
-    put-bodies-requires
+    put-words-requires
     same-length
     returns-3)

@@ -6,22 +6,24 @@ use lib.Seq.{paste, paste-zero, getD-drop}
 use mir.Syntax.{w32}
 use borrow.Kind.Array.{eInt, good-length}
 use borrow.Author.Needs.{needs}
+use Rattle.session.specs.InWords.{sessionSize}
+use Rattle.task_model.specs.Words.{nodeSize}
 use Rattle.session.specs.State.{zeros}
 use Rattle.session.proofs.Copying.{copy-next, copy-all}
 use Rattle.session.proofs.from_words.Statement.{statement}
 use Rattle.session.proofs.from_words.Tie as tie
 
 abbrev Inv-loop : tie.InvT-loop
-Inv-loop w words₀ j₀ words j = (j ≤ 320) × (length w ≡ 322) × (words ≡ paste (zeros 320) 0 (drop 2 w) j)
+Inv-loop w words₀ j₀ words j = (j ≤ nodeSize) × (length w ≡ sessionSize) × (words ≡ paste (zeros nodeSize) 0 (drop 2 w) j)
 
 abbrev μ-loop : tie.MeasureT-loop
-μ-loop w words₀ j₀ words j = 320 - j
+μ-loop w words₀ j₀ words j = nodeSize - j
 
 loop-holds : tie.Need-loop-holds Inv-loop μ-loop
 loop-holds c = (
   omega arith,
-  good-length (eInt w32) 322 (c .args .t1) _ (c .good .0),
-  paste-zero (zeros 320) 0 (drop 2 (c .args .t1)),
+  good-length (eInt w32) sessionSize (c .args .t1) _ (c .good .0),
+  paste-zero (zeros nodeSize) 0 (drop 2 (c .args .t1)),
 )
 
 add-words : tie.Need-add-words Inv-loop μ-loop
@@ -53,7 +55,7 @@ loop-again c =
       omega arith,
       i .1,
       ap (set (c .before .loop .words) j) (sym (getD-drop 2 w j 0))
-          ∙ copy-next (zeros 320) 0 (drop 2 w) j j _ (omega arith) (omega arith) (omega (arith, length-drop 2 w)) (i .2),
+          ∙ copy-next (zeros nodeSize) 0 (drop 2 w) j j _ (omega arith) (omega arith) (omega (arith, length-drop 2 w)) (i .2),
     )
 
 array-read-t16 : tie.Need-array-read-t16 Inv-loop μ-loop
@@ -66,9 +68,9 @@ returns : tie.Need-returns Inv-loop μ-loop
 returns c =
     let w = c .before .before .args .t1 in
     let i = c .before .loop .inv in
-    let e : c .before .loop .j ≡ 320 = omega arith in
+    let e : c .before .loop .j ≡ nodeSize = omega arith in
     let all : c .before .loop .words ≡ drop 2 w =
-    i .2 ∙ ap (paste (zeros 320) 0 (drop 2 w)) e ∙ copy-all (zeros 320) 0 (drop 2 w) 320 (omega (arith, length-drop 2 w)) refl in
+    i .2 ∙ ap (paste (zeros nodeSize) 0 (drop 2 w)) e ∙ copy-all (zeros nodeSize) 0 (drop 2 w) nodeSize (omega (arith, length-drop 2 w)) refl in
     rw all
 
 pub from-words-spec : {M : Type 1} → statement M

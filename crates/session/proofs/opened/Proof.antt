@@ -1,6 +1,6 @@
 use mathlib.Core.Path.{refl, ap}
 use Rattle.task_model.specs.Refusals.{outcome}
-use Rattle.plan_file.specs.Plan.{wordsOf}
+use Rattle.task_model.specs.Words.{wordsOf}
 use Rattle.session.specs.State.{filled, sessionOf}
 use Rattle.session.specs.Operations.{lentCheck, operationCheck, stepCheck, changed}
 use Rattle.session.proofs.Checking.{follows-refused, follows-accepted}

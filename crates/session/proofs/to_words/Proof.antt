@@ -5,6 +5,7 @@ use native.Mathlib.Omega.{arith}
 use lib.ListN.{length}
 use lib.Seq.{paste, paste-zero}
 use borrow.Author.Needs.{needs}
+use Rattle.task_model.specs.Words.{nodeSize}
 use Rattle.session.specs.declared.Session.{Session}
 use Rattle.session.specs.State.{zeros}
 use Rattle.session.proofs.Held.{held}
@@ -13,14 +14,14 @@ use Rattle.session.proofs.to_words.Statement.{statement}
 use Rattle.session.proofs.to_words.Tie as tie
 
 abbrev Inv-loop : tie.InvT-loop
-Inv-loop words w₀ j₀ w j = (j ≤ 320) × (length words ≡ 320) × (w ≡ paste w₀ 2 words j)
+Inv-loop words w₀ j₀ w j = (j ≤ nodeSize) × (length words ≡ nodeSize) × (w ≡ paste w₀ 2 words j)
 
 abbrev μ-loop : tie.MeasureT-loop
-μ-loop words w₀ j₀ w j = 320 - j
+μ-loop words w₀ j₀ w j = nodeSize - j
 
 -- the array before the loop
 abbrev start : Session → List ℕ
-start s = s .levels ∷ s .count ∷ zeros 320
+start s = s .levels ∷ s .count ∷ zeros nodeSize
 
 array-write-w : tie.Need-array-write-w Inv-loop μ-loop
 array-write-w c = search needs
@@ -66,8 +67,8 @@ returns : tie.Need-returns Inv-loop μ-loop
 returns c =
     let s = c .before .before .before .args .s in
     let i = c .before .loop .inv in
-    let e : c .before .loop .j ≡ 320 = omega arith in
-    i .2 ∙ ap (paste (start s) 2 (s .words)) e ∙ copy-all (start s) 2 (s .words) 320 (omega arith) refl
+    let e : c .before .loop .j ≡ nodeSize = omega arith in
+    i .2 ∙ ap (paste (start s) 2 (s .words)) e ∙ copy-all (start s) 2 (s .words) nodeSize (omega arith) refl
 
 pub to-words-spec : {M : Type 1} → statement M
 to-words-spec =

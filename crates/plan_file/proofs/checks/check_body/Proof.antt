@@ -3,6 +3,7 @@ use mathlib.Core.Path.{_≡_, _∙_, sym, ap}
 use native.Mathlib.Omega.{arith}
 use native.Mathlib.Nat.{sub-zero}
 use borrow.Author.Needs.{needs}
+use Rattle.plan_file.specs.Encoding.{entryLength}
 use Rattle.task_model.specs.Checks.{entryCheck, entriesCheck}
 use Rattle.task_model.specs.Refusals.{outcome}
 use Rattle.task_model.specs.declared.Checked.{Checked}
@@ -13,7 +14,7 @@ use Rattle.plan_file.proofs.checks.check_body.Tie as tie
 
 abbrev Inv-loop : tie.InvT-loop
 Inv-loop file row start count k₀ position₀ k position =
-    (k ≡ start + position * 20)
+    (k ≡ start + position * entryLength)
     × (position ≤ count)
     × (entriesCheck row position (entriesAt file k (count - position)) ≡ entriesCheck row 0 (entriesAt file start count))
 

@@ -9,7 +9,7 @@ use Rattle.task_model.specs.Refusals.{outcome}
 use Rattle.task_model.specs.declared.Checked.{Checked}
 use Rattle.plan_file.specs.Check.{nodesCheck}
 use Rattle.plan_file.specs.Decoding.{rowAt, rowsFrom, entriesAt}
-use Rattle.plan_file.specs.Encoding.{bodiesStart}
+use Rattle.plan_file.specs.Encoding.{entryLength, bodiesStart}
 use Rattle.plan_file.specs.Plan.{entryCount}
 use Rattle.plan_file.specs.declared.Row.{Row}
 use Rattle.plan_file.proofs.Bodies.{bodiesFrom, bodies-next, bodies-stop, bodies-end}
@@ -20,7 +20,7 @@ use Rattle.plan_file.proofs.checks.check_by_row.Tie as tie
 abbrev Inv-loop : tie.InvT-loop
 Inv-loop file nodes start₀ row₀ start row =
     (row ≤ nodes)
-    × (start + entryCount (rowsFrom file row (nodes - row)) * 20 ≤ length file)
+    × (start + entryCount (rowsFrom file row (nodes - row)) * entryLength ≤ length file)
     × (bodiesFrom file start row nodes
     ≡ nodesCheck 0 (rowsFrom file 0 nodes) (entriesAt file (bodiesStart nodes) (entryCount (rowsFrom file 0 nodes))))
 

@@ -9,7 +9,7 @@ use borrow.Author.Tests.{not-true, not-false, eq-eqb, ne-eqb, eqb-true, eqb-fals
 use borrow.Author.Needs.{needs}
 use Rattle.plan_file.specs.Check.{rowTest, layoutCheck}
 use Rattle.plan_file.specs.Decoding.{rowAt, offsetAt, rowsFrom}
-use Rattle.plan_file.specs.Encoding.{bodiesStart}
+use Rattle.plan_file.specs.Encoding.{rowLength, headerLength, bodiesStart}
 use Rattle.plan_file.proofs.Contents.{at-row, at-offset, at-next, at-end}
 use Rattle.task_model.proofs.Outcomes.{mustHold-accepts, mustHold-refuses}
 use Rattle.plan_file.proofs.checks.check_layout.Statement.{statement}
@@ -19,7 +19,7 @@ abbrev Inv-loop : tie.InvT-loop
 Inv-loop file nodes least₀ required₀ row₀ least required row =
     (row ≤ nodes)
     × (least ≤ 65536)
-    × (required ≤ 8 + nodes * 8 + row * 5100)
+    × (required ≤ headerLength + nodes * rowLength + row * 5100)
     × (layoutCheck file row least required (rowsFrom file row (nodes - row)) ≡ layoutCheck file 0 0 (bodiesStart nodes) (rowsFrom file 0 nodes))
 
 abbrev μ-loop : tie.MeasureT-loop

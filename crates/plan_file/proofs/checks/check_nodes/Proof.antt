@@ -5,7 +5,7 @@ use native.Mathlib.Omega.{arith}
 use native.Mathlib.Nat.{zero-add}
 use lib.ListN.{length, getD}
 use borrow.Author.Needs.{needs}
-use Rattle.task_model.specs.Words.{entriesFrom}
+use Rattle.task_model.specs.Words.{entrySize, entriesFrom}
 use Rattle.task_model.specs.Checks.{entriesCheck}
 use Rattle.task_model.specs.Refusals.{outcome}
 use Rattle.task_model.specs.declared.Checked.{Checked}
@@ -20,7 +20,7 @@ use Rattle.plan_file.proofs.checks.check_nodes.Tie as tie
 abbrev Inv-loop : tie.InvT-loop
 Inv-loop rows words first₀ row₀ first row =
     (row ≤ length rows)
-    × ((first + entryCount (rowsAfter rows row)) * 5 ≤ length words)
+    × ((first + entryCount (rowsAfter rows row)) * entrySize ≤ length words)
     × (listedFrom rows words first row
     ≡ nodesCheck 0 (map rowOf rows) (entriesFrom words 0 (entryCount (map rowOf rows))))
 

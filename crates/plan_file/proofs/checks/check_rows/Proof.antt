@@ -8,6 +8,7 @@ use lib.Dec.{eqb}
 use lib.ListN.{length, getD}
 use borrow.Author.Tests.{not-true, not-false, eq-eqb, ne-eqb}
 use borrow.Author.Needs.{needs}
+use Rattle.task_model.specs.Words.{entrySize}
 use Rattle.task_model.specs.Refusals.{at, _andThen_, mustHold}
 use Rattle.plan_file.specs.Check.{rowTest, rowsCheck}
 use Rattle.plan_file.specs.Plan.{entryCount, rowOf}
@@ -22,7 +23,7 @@ Inv-loop rows words least₀ total₀ i₀ least total i =
     × (least ≤ 65536)
     × (total ≤ i * 255)
     × (tallyFrom rows words i least total
-    ≡ rowsCheck 0 0 (map rowOf rows) andThen mustHold (eqb words (entryCount (map rowOf rows) * 5)) (at 6 0 0))
+    ≡ rowsCheck 0 0 (map rowOf rows) andThen mustHold (eqb words (entryCount (map rowOf rows) * entrySize)) (at 6 0 0))
 
 abbrev μ-loop : tie.MeasureT-loop
 μ-loop rows words least₀ total₀ i₀ least total i = length rows - i
@@ -85,13 +86,13 @@ mul-if2 c = search needs
 
 returns-2 : tie.Need-returns-2 Inv-loop μ-loop
 returns-2 c =
-    sym (mustHold-refuses _ _ (ne-eqb (c .before .before .before .before .args .words) (c .before .before .loop .total * 5) (λ e. omega arith)))
+    sym (mustHold-refuses _ _ (ne-eqb (c .before .before .before .before .args .words) (c .before .before .loop .total * entrySize) (λ e. omega arith)))
     ∙ sym (tally-end _ _ _ _ _ (c .before .loop-test .left))
     ∙ c .before .before .loop .inv .3
 
 returns-3 : tie.Need-returns-3 Inv-loop μ-loop
 returns-3 c =
-    sym (mustHold-accepts _ _ (eq-eqb (c .before .before .before .before .args .words) (c .before .before .loop .total * 5) (omega arith)))
+    sym (mustHold-accepts _ _ (eq-eqb (c .before .before .before .before .args .words) (c .before .before .loop .total * entrySize) (omega arith)))
     ∙ sym (tally-end _ _ _ _ _ (c .before .loop-test .left))
     ∙ c .before .before .loop .inv .3
 

@@ -17,8 +17,11 @@ returns-2 c = sym (row-false _ _ (λ h. omega arith))
 returns-3 : tie.Need-returns-3
 returns-3 c = sym (row-false _ _ (λ h. omega arith))
 
+cast-result : tie.Need-cast-result
+cast-result c = search needs
+
 returns-4 : tie.Need-returns-4
 returns-4 c = row-rest _ _ (omega arith) (omega arith) (omega arith)
 
 pub row-holds-spec : {M : Type 1} → statement M
-row-holds-spec = tie.close (tie.spec cast-if1 returns returns-2 returns-3 returns-4)
+row-holds-spec = tie.close (tie.spec cast-if1 returns returns-2 returns-3 cast-result returns-4)

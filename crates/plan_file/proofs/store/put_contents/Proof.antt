@@ -5,7 +5,7 @@ use native.Mathlib.Omega.{arith}
 use lib.Seq.{take-all}
 use lib.ListN.{length, take}
 use borrow.Author.Needs.{needs}
-use Rattle.plan_file.specs.Encoding.{bodiesStart, contentsBytes}
+use Rattle.plan_file.specs.Encoding.{entryLength, bodiesStart, contentsBytes}
 use Rattle.plan_file.specs.Plan.{entryCount, rowOf}
 use Rattle.plan_file.specs.Buffers.{over}
 use Rattle.plan_file.specs.declared.Row.{Row}
@@ -18,7 +18,7 @@ abbrev Inv-loop : tie.InvT-loop
 Inv-loop file₀ rows offset₀ row₀ file offset row =
     (row ≤ length rows)
     × (length file ≡ length file₀)
-    × (offset ≡ bodiesStart (length rows) + entryCount (map rowOf (take row rows)) * 20)
+    × (offset ≡ bodiesStart (length rows) + entryCount (map rowOf (take row rows)) * entryLength)
     × (offset ≤ bodiesStart (length rows) + row * 5100)
     × (file ≡ over file₀ 8 (contentsBytes (bodiesStart (length rows)) (map rowOf (take row rows))))
 

@@ -8,8 +8,8 @@ use Rattle.planner_c.proofs.sessions.maiplur_session_replace.Tie as tie
 from-words-requires : tie.Need-from-words-requires
 from-words-requires c κs = search needs
 
-entry-in-requires : tie.Need-entry-in-requires
-entry-in-requires c κs = search needs
+entry-of-requires : tie.Need-entry-of-requires
+entry-of-requires c κs = search needs
 
 replaced-requires : tie.Need-replaced-requires
 replaced-requires c κs = search needs
@@ -19,12 +19,12 @@ keep-requires c κs = search needs
 
 returns : tie.Need-returns
 returns c =
-    let a = c .before .before .before .before .before .before .before .args in
+    let a = c .before .before .before .before .before .before .before .before .args in
     let k = c .keep .ensures in
-    let h = rw (c .before .before .before .before .entry-in .ensures) at (c .before .before .before .replaced .ensures) in
-    changes (replacing (a .position) (entryFrom (a .entry .now) 0)) (a .words .now) (c .before .before .before .before .before .from-words .ensures) h (k .0) (k .1)
+    let h = rw (c .before .before .before .before .entry-of .ensures) at (c .before .before .before .replaced .ensures) in
+    changes (replacing (a .position) (entryFrom (a .entry .now) 0)) (a .words .now) (c .before .before .before .before .before .before .from-words .ensures) h (k .0) (k .1)
 
 pub maiplur-session-replace-spec : {M : Type 1} → statement M
 maiplur-session-replace-spec =
     tie.close
-    (tie.spec from-words-requires entry-in-requires replaced-requires keep-requires returns)
+    (tie.spec from-words-requires entry-of-requires replaced-requires keep-requires returns)

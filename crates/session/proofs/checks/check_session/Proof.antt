@@ -5,6 +5,9 @@ use borrow.Author.Needs.{needs}
 use Rattle.session.proofs.checks.check_session.Statement.{statement}
 use Rattle.session.proofs.checks.check_session.Tie as tie
 
+cast-if1 : tie.Need-cast-if1
+cast-if1 c = search needs
+
 returns : tie.Need-returns
 returns c = sym (node-sizes _ _ (λ h1 h2 h3. omega arith))
 
@@ -22,4 +25,4 @@ returns-2 c = c .check-node .ensures
 
 pub check-session-spec : {M : Type 1} → statement M
 check-session-spec =
-    tie.close (tie.spec returns cast-check-node cast-check-node-2 check-node-requires returns-2)
+    tie.close (tie.spec cast-if1 returns cast-check-node cast-check-node-2 check-node-requires returns-2)

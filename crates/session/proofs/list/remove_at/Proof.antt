@@ -2,6 +2,7 @@ use mathlib.Core.Path.{_≡_}
 use native.Mathlib.Omega.{arith}
 use lib.ListN.{length}
 use borrow.Author.Needs.{needs}
+use Rattle.task_model.specs.Words.{nodeSize}
 use Rattle.session.proofs.Held.{Held, held}
 use Rattle.session.proofs.Building.{head-size, remove-built}
 use Rattle.session.proofs.list.remove_at.Statement.{statement}
@@ -27,7 +28,7 @@ module _ (c : tie.After-copy-words) where
   kept : Held (at-start .args .s)
   kept = held (at-start .args .s) (at-start .good .0)
 
-  head-sized : length (c .copy-words .last .1 .1 .1 .0) ≡ 320
+  head-sized : length (c .copy-words .last .1 .1 .1 .0) ≡ nodeSize
   head-sized =
       head-size (at-start .args .s) kept (omega arith) (at-start .args .at) (omega arith) _ (c .copy-words .ensures)
 

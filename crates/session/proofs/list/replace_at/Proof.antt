@@ -2,6 +2,7 @@ use mathlib.Core.Path.{_≡_}
 use native.Mathlib.Omega.{arith}
 use lib.ListN.{length}
 use borrow.Author.Needs.{needs}
+use Rattle.task_model.specs.Words.{nodeSize}
 use Rattle.session.proofs.Held.{Held, held}
 use Rattle.session.proofs.Building.{head-size, entry-size, replace-built}
 use Rattle.session.proofs.list.replace_at.Statement.{statement}
@@ -27,12 +28,12 @@ module _ (c : tie.After-copy-words) where
   kept : Held (at-start .args .s)
   kept = held (at-start .args .s) (at-start .good .0)
 
-  head-sized : length (c .copy-words .last .1 .1 .1 .0) ≡ 320
+  head-sized : length (c .copy-words .last .1 .1 .1 .0) ≡ nodeSize
   head-sized =
       head-size (at-start .args .s) kept (omega arith) (at-start .args .at) (omega arith) _ (c .copy-words .ensures)
 
 -- and after the store
-entry-sized : (c : tie.After-store-entry) → length (c .store-entry .last .0) ≡ 320
+entry-sized : (c : tie.After-store-entry) → length (c .store-entry .last .0) ≡ nodeSize
 entry-sized c =
     let b = at-start (c .before .before) in
     entry-size (b .args .s) (kept (c .before .before)) (omega arith) (b .args .at) (omega arith) _

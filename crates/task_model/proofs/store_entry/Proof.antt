@@ -1,7 +1,7 @@
-use Rattle.session.proofs.Filling.{stored-five}
+use Rattle.task_model.proofs.Words.{stored-five}
 use borrow.Author.Needs.{needs}
-use Rattle.session.proofs.list.store_entry.Statement.{statement}
-use Rattle.session.proofs.list.store_entry.Tie as tie
+use Rattle.task_model.proofs.store_entry.Statement.{statement}
+use Rattle.task_model.proofs.store_entry.Tie as tie
 
 cast-words : tie.Need-cast-words
 cast-words c = search needs
