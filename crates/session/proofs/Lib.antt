@@ -14,4 +14,3 @@ pub mod Lent
 pub mod LentOne
 pub mod LentTwo
 pub mod Mapping
-pub mod FileMap

@@ -1,6 +1,6 @@
--- The map of a session is that of its node in a file.
+-- The map of a session is that of its node in a plan file: laws, and then the theorems.
 use Prim.Native.Nat.{ℕ, zero, suc, _<_}
-use mathlib.Core.Path.{_≡_, _∙_, refl, ap}
+use mathlib.Core.Path.{_≡_, _∙_, refl, ap, sym}
 use mathlib.Core.List.{List, [], _∷_}
 use native.Mathlib.Omega.{arith}
 use lib.ListN.{length}
@@ -9,7 +9,10 @@ use Rattle.task_model.specs.declared.Entry.{Entry}
 use Rattle.task_model.specs.Refusals.{accepted}
 use Rattle.task_model.specs.Limits.{Node, entryAt, EntryHolds, NodeHolds}
 use Rattle.task_model.specs.Words.{entryFrom}
+use Rattle.task_model.specs.Answers.{left}
+use Rattle.task_model.specs.Checks.{nodeCheck}
 use Rattle.task_model.proofs.Laws.{length-entries, entry-of}
+use Rattle.task_model.proofs.Theorems.{node-accepted}
 use Rattle.plan_file.specs.Plan.{Plan, entryCount, EntryFits, EntriesFit, PlanFits}
 use Rattle.plan_file.specs.Encoding.{encoding}
 use Rattle.plan_file.specs.Decoding.{planIn, nodeCount}
@@ -17,11 +20,15 @@ use Rattle.plan_file.specs.Check.{fileCheck, planCheck}
 use Rattle.plan_file.specs.Find.{rowIn, nodeOfRow, findCheck, nodeFound}
 use Rattle.plan_file.proofs.Contents.{length-rows}
 use Rattle.plan_file.proofs.Theorems.{write-read, accepted-exactly, plan-limits, finds, nodes-hold}
-use Rattle.planner.specs.Mapping.{heldAnswer, heldBuffer, fileAnswer, fileBuffer}
+use Rattle.level_map.specs.Answer.{mapOf, heldAnswer}
+use Rattle.planner.specs.Mapping.{fileAnswer}
+use Rattle.planner.proofs.Answers.{file-found}
 use Rattle.session.specs.declared.Session.{Session}
-use Rattle.session.specs.State.{nodeIn}
-use Rattle.session.specs.Plan.{oneRow}
+use Rattle.session.specs.State.{nodeIn, Sound}
+use Rattle.session.specs.Mapping.{mapAnswer}
 use Rattle.session.proofs.Reading.{Kept, narrow}
+use Rattle.session.proofs.Mapping.{own-answer}
+use Rattle.planner_c.specs.OneRow.{oneRow}
 
 -- the node of any row of an accepted file, mapped under the number of that row
 module _ (f : List ℕ) (a : fileCheck f ≡ accepted) (i number : ℕ) (has : i < length (planIn f .rows))
@@ -29,15 +36,10 @@ module _ (f : List ℕ) (a : fileCheck f ≡ accepted) (i number : ℕ) (has : i
   found : (findCheck f number ≡ accepted) × (nodeFound f number ≡ nodeOfRow (planIn f) i)
   found = finds f a number i has named
 
-  pub row-answer : (room : ℕ) → fileAnswer f number room ≡ heldAnswer (nodeOfRow (planIn f) i) room
-  unfolding fileAnswer
-  row-answer room = rw (found .0, fileAnswer) (ap (λ m. heldAnswer m room) (found .1))
+  row-answer : (room : ℕ) → fileAnswer f number room ≡ heldAnswer (nodeOfRow (planIn f) i) room
+  row-answer room = file-found f number (found .0) room ∙ ap (λ n. heldAnswer n room) (found .1)
 
-  pub row-buffer : (buffer : List ℕ) → fileBuffer f number buffer ≡ heldBuffer (nodeOfRow (planIn f) i) buffer
-  unfolding fileBuffer
-  row-buffer buffer = rw (found .0, fileBuffer) (ap (λ m. heldBuffer m buffer) (found .1))
-
-  pub row-holds : NodeHolds (nodeOfRow (planIn f) i)
+  row-holds : NodeHolds (nodeOfRow (planIn f) i)
   row-holds = nodes-hold f a i (omega (arith, length-rows f 0 (nodeCount f)))
 
 -- a node within the limits, with numbers of 16 bits, is a plan of one row that the writer accepts
@@ -86,7 +88,7 @@ module _ (n : Node) (k : Kept n) (number : ℕ) (short : number < 65536) where
   unfolding entryCount
   counted = omega arith
 
-  pub one-accepted : planCheck (oneRow number n) ≡ accepted
+  one-accepted : planCheck (oneRow number n) ≡ accepted
   one-accepted =
       plan-limits (oneRow number n) .1
       (record {
@@ -101,23 +103,23 @@ module _ (n : Node) (k : Kept n) (number : ℕ) (short : number < 65536) where
   abbrev file : List ℕ
   file = encoding (oneRow number n)
 
-  pub one-file : fileCheck file ≡ accepted
+  one-file : fileCheck file ≡ accepted
   one-file = accepted-exactly file .1 (oneRow number n, one-fits, one-accepted, refl) .1
 
   one-plan : planIn file ≡ oneRow number n
   one-plan = write-read (oneRow number n) one-fits one-accepted
 
-  pub one-row : 0 < length (planIn file .rows)
+  one-row : 0 < length (planIn file .rows)
   one-row = omega (arith, ap (λ (p : Plan). length (p .rows)) one-plan)
 
-  pub one-number : rowIn (planIn file .rows) 0 .number ≡ number
+  one-number : rowIn (planIn file .rows) 0 .number ≡ number
   one-number = ap (λ (p : Plan). rowIn (p .rows) 0 .number) one-plan
 
-  pub one-node : nodeOfRow (planIn file) 0 ≡ n
+  one-node : nodeOfRow (planIn file) 0 ≡ n
   one-node = ap (λ (p : Plan). nodeOfRow p 0) one-plan ∙ only-node
 
 -- what words hold has numbers of 16 bits
-pub kept-in : (s : Session) → NodeHolds (nodeIn s) → Kept (nodeIn s)
+kept-in : (s : Session) → NodeHolds (nodeIn s) → Kept (nodeIn s)
 unfolding entryFrom
 kept-in s h =
     record {
@@ -127,3 +129,43 @@ kept-in s h =
           let i : j < s .count = omega (arith, length-entries (s .words) 0 (s .count)) in
           rw (entry-of (s .words) (s .count) j i) (omega arith);
     }
+
+-- The map of a session is that of the same node in a file: in any accepted file, at any row that holds this node, mapped
+-- under that row's number. Answer, count and bytes are the same.
+module _ (s : Session) (f : List ℕ) (a : fileCheck f ≡ accepted) (i number : ℕ) (has : i < length (planIn f .rows))
+    (named : rowIn (planIn f .rows) i .number ≡ number) (same : nodeOfRow (planIn f) i ≡ nodeIn s) where
+  row-checks : nodeCheck 0 (nodeIn s) ≡ accepted
+  row-checks = node-accepted 0 (nodeIn s) .1 (rw (← same) (row-holds f a i number has named))
+
+  -- Mapping the file answers as mapping the session does.
+  pub file-answers : (room : ℕ) → fileAnswer f number room ≡ mapAnswer (nodeIn s) room
+  file-answers room =
+      row-answer f a i number has named room ∙ ap (λ n. heldAnswer n room) same ∙ sym (own-answer (nodeIn s) row-checks room)
+
+  -- And it leaves any buffer as mapping the session does.
+  pub file-writes : (buffer : List ℕ)
+      → left (fileAnswer f number (length buffer)) (mapOf (nodeFound f number)) buffer
+      ≡ left (mapAnswer (nodeIn s) (length buffer)) (mapOf (nodeIn s)) buffer
+  file-writes buffer =
+      rw (file-answers (length buffer), found f a i number has named .1, same)
+
+-- There is such a file, under any number: that of the node as a plan of one row, which the writer accepts.
+module _ (s : Session) (h : Sound s) (number : ℕ) (short : number < 65536) where
+  kept : Kept (nodeIn s)
+  kept = kept-in s (h .within)
+
+  -- The writer accepts that plan.
+  pub one-row-written : planCheck (oneRow number (nodeIn s)) ≡ accepted
+  one-row-written = one-accepted (nodeIn s) kept number short
+
+  -- Its file is accepted, and its only row has the number and the node.
+  pub one-row-read : (fileCheck (encoding (oneRow number (nodeIn s))) ≡ accepted)
+      × (0 < length (planIn (encoding (oneRow number (nodeIn s))) .rows))
+      × (rowIn (planIn (encoding (oneRow number (nodeIn s))) .rows) 0 .number ≡ number)
+      × (nodeOfRow (planIn (encoding (oneRow number (nodeIn s)))) 0 ≡ nodeIn s)
+  one-row-read = (
+    one-file (nodeIn s) kept number short,
+    one-row (nodeIn s) kept number short,
+    one-number (nodeIn s) kept number short,
+    one-node (nodeIn s) kept number short,
+  )
