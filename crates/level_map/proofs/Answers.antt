@@ -1,39 +1,43 @@
 -- What the program answers and writes, against the map of the node.
-use Prim.Native.Nat.{ℕ, _-_}
-use mathlib.Core.Path.{_≡_, sym, _∙_, ap}
+use Prim.Native.Nat.{ℕ, _-_, _≤_, _<_}
+use mathlib.Core.Path.{_≡_, refl, sym, _∙_, ap}
 use mathlib.Core.Option.{none}
 use mathlib.Core.List.{List, _++_}
+use native.Mathlib.Omega.{arith}
 use lib.ListN.{length, take, drop, length-map}
 use lib.Seq.{length-take-le}
-use Rattle.task_model.specs.declared.Entry.{Entry}
-use Rattle.task_model.specs.Limits.{AllHold}
+use Rattle.task_model.specs.Limits.{Node, NodeHolds}
 use Rattle.task_model.specs.Refusals.{at}
+use Rattle.task_model.specs.Answers.{Answer, gives, refuses, left}
 use Rattle.level_map.specs.Map.{theMap}
-use Rattle.level_map.specs.Answer.{Answer, mapped, refused, answerOf, bufferOf, Demand3}
+use Rattle.level_map.specs.Answer.{heldAnswer, mapOf, NodeDemand3}
 use Rattle.level_map.specs.Groups.{levelsByRank, RanksMap}
-use Rattle.level_map.proofs.Theorems.{demand-three}
+use Rattle.level_map.proofs.Theorems.{held-short, held-map, held-none, demand-three}
 
 -- The answer `a`, with the buffer `before` the call and `after` it, is right: by the definition, and so by promise 3.
-abbrev pub Right : List Entry → ℕ → ℕ → Answer → List ℕ → List ℕ → Type 0
-Right es most n a before after =
-    (a ≡ answerOf (theMap es most)) × ((after ≡ bufferOf (theMap es most) before) × Demand3 es most a (take n after))
+abbrev pub Right : Node → Answer ℕ → List ℕ → List ℕ → Type 0
+Right n a before after =
+    (a ≡ heldAnswer n (length before)) × ((after ≡ left a (mapOf n) before) × NodeDemand3 n before a after)
 
-module _ (es : List Entry) (hold : AllHold es) (most n : ℕ) (count : length es ≡ n) where
-  right : (a : Answer) (before after : List ℕ) → a ≡ answerOf (theMap es most) → after ≡ bufferOf (theMap es most) before
-      → Right es most n a before after
-  right a before after p q = (p, (q, rw (p, q, ← count) (demand-three es hold most before)))
+module _ (n : Node) (holds : NodeHolds n) (before : List ℕ) where
+  right : (a : Answer ℕ) (after : List ℕ) → a ≡ heldAnswer n (length before) → after ≡ left a (mapOf n) before → Right n a before after
+  right a after p q = (p, (q, rw (q, p) (demand-three n (holds .each) before)))
+
+  -- 10, and the buffer is untouched
+  pub right-short : length before < length (n .entries) → Right n (refuses (at 10 0 0)) before before
+  right-short h = right _ before (sym (held-short n (length before) h)) refl
 
   -- no map: 11, and the buffer is untouched
-  pub right-none : (before : List ℕ) → theMap es most ≡ none → Right es most n (refused (at 11 0 0)) before before
-  unfolding answerOf bufferOf
-  right-none before p = right (refused (at 11 0 0)) before before (rw p) (rw p)
+  pub right-none : length (n .entries) ≤ length before → theMap (n .entries) (n .levels) ≡ none
+      → Right n (refuses (at 11 0 0)) before before
+  right-none h p = right _ before (sym (held-none n (length before) h p)) refl
 
   -- a map by its ranks: the count of groups, and a level for each entry
-  pub right-map : (groups : ℕ) (ranks before after : List ℕ) → RanksMap (theMap es most) n most groups ranks
-      → after ≡ levelsByRank groups (take n ranks) ++ drop n before → Right es most n (mapped groups) before after
-  unfolding answerOf bufferOf
-  right-map groups ranks before after r q =
-      let m = levelsByRank groups (take n ranks) in
-      let long : length m ≡ n = length-map (take n ranks) (λ x. groups - x) ∙ length-take-le n ranks (r .each) in
-      let kept : after ≡ m ++ drop (length m) before = rw long q in
-      right (mapped groups) before after (rw (r .found) (ap mapped (sym (r .counted)))) (rw (r .found) kept)
+  pub right-map : (count groups : ℕ) (ranks after : List ℕ) → length (n .entries) ≡ count → count ≤ length before
+      → RanksMap (theMap (n .entries) (n .levels)) count (n .levels) groups ranks
+      → after ≡ levelsByRank groups (take count ranks) ++ drop count before → Right n (gives groups) before after
+  right-map count groups ranks after e fits r q =
+      let m = levelsByRank groups (take count ranks) in
+      let h = held-map n (length before) (omega arith) m (r .found) in
+      let long : length m ≡ count = length-map (take count ranks) (λ x. groups - x) ∙ length-take-le count ranks (r .each) in
+      right (gives groups) after (sym (h .0 ∙ ap gives (r .counted))) (rw (h .1, long) q)

@@ -3,19 +3,21 @@ use Prim.Native.Nat.{ℕ, zero, suc, _≤_, _<_}
 use mathlib.Core.Path.{_≡_, refl}
 use mathlib.Core.Bool.{true, false, false≢true}
 use mathlib.Core.Option.{none, some}
-use mathlib.Core.List.{List, []}
+use mathlib.Core.List.{List, [], _++_}
 use mathlib.Core.Logic.{_⊎_, inl, inr, by-cases, ⊎-elim, _↔_}
 use native.Mathlib.Omega.{arith}
 use native.Mathlib.Decide.{decLt}
-use lib.ListN.{length, take}
+use lib.ListN.{length, take, drop}
 use lib.Seq.{take-at}
+use borrow.Author.Tests.{le-leb, lt-leb}
 use Rattle.task_model.specs.declared.Entry.{Entry}
-use Rattle.task_model.specs.Limits.{AllHold}
+use Rattle.task_model.specs.Limits.{Node, AllHold}
 use Rattle.task_model.specs.Refusals.{Numbered, at}
+use Rattle.task_model.specs.Answers.{gives, refuses, left}
 use Rattle.completion.specs.Test.{completionTest, isOnTime}
 use Rattle.level_map.specs.Assignments.{levelOf, Assignment, NoneLate, Passing, levelsUsed}
 use Rattle.level_map.specs.Map.{IsMap, Chosen, maps, mapsWith, firstOf, noneLateTo, passTest, theMap}
-use Rattle.level_map.specs.Answer.{mapped, refused, answerOf, bufferOf, Mapping, Demand3}
+use Rattle.level_map.specs.Answer.{mapOf, heldCheck, heldAnswer, Mapping, NodeDemand3}
 use Rattle.level_map.proofs.Tests.{by-test}
 use Rattle.level_map.proofs.Search.{greedy}
 use Rattle.level_map.proofs.Optimal.{cutLevels, leastUrgent, Best}
@@ -62,7 +64,7 @@ pub map-first : (es : List Entry) (n : ℕ) → length es ≡ n → (most : ℕ)
 unfolding theMap
 map-first es n e most = rw e
 
-not-both : {c : ℕ} {r : Numbered} → mapped c ≡ refused r → ⊥
+not-both : {c : ℕ} {r : Numbered} → gives c ≡ refuses r → ⊥
 not-both p = let z : _≡_ {A = ℕ} 0 1 = cc in omega arith
 
 module _ (es : List Entry) (hold : AllHold es) (most : ℕ) where
@@ -99,7 +101,7 @@ module _ (es : List Entry) (hold : AllHold es) (most : ℕ) where
       → (k : ℕ) → leastUrgent k m ≤ leastUrgent k g
   map-holding g p = map-best g p .holding
 
-  mapping : (m : List ℕ) → theMap es most ≡ some m → Mapping es most (levelsUsed m) m
+  pub mapping : (m : List ℕ) → theMap es most ≡ some m → Mapping es most (levelsUsed m) m
   mapping m p =
       let b = map-best m p in
       record {
@@ -109,25 +111,41 @@ module _ (es : List Entry) (hold : AllHold es) (most : ℕ) where
         fewest = λ a x. b .fewest a (x .assignment) (x .inTime);
       }
 
-  -- Promise 3 of docs/SPEC.md holds of the answer, and of what is read from the buffer's start.
-  pub demand-three : (buffer : List ℕ)
-      → Demand3 es most (answerOf (theMap es most)) (take (length es) (bufferOf (theMap es most) buffer))
-  unfolding answerOf bufferOf
-  demand-three buffer =
-      ⊎-elim
-      (λ r.
-      let m = cutLevels (r .0) (length es) in
-      let d = mapping m (r .2) in
-      let front : take (length es) (bufferOf (some m) buffer) ≡ m = take-at m _ (length es) (d .passing .assignment .each) in
-      rw (r .2, front)
-      (record {
-        refusal = ((λ p. absurd (not-both p)), λ f. absurd (f m (d .passing)));
-        given = inr (levelsUsed m, refl, d);
-      }))
-      (λ r.
-      rw (r .1)
-      (record { refusal = ((λ p a x. r .2 a (x .assignment) (x .inTime)), λ f. refl); given = inl refl }))
-      map-cases
+-- What a node at hand is answered: 10, or by its map.
+module _ (n : Node) (room : ℕ) where
+  pub held-short : room < length (n .entries) → heldAnswer n room ≡ refuses (at 10 0 0)
+  unfolding heldAnswer heldCheck
+  held-short h = rw (lt-leb (length (n .entries)) room h)
+
+  pub held-map : length (n .entries) ≤ room → (m : List ℕ) → theMap (n .entries) (n .levels) ≡ some m
+      → (heldAnswer n room ≡ gives (levelsUsed m)) × (mapOf n ≡ m)
+  unfolding heldAnswer heldCheck mapOf
+  held-map h m p = ((rw (le-leb (length (n .entries)) room h, p)), (rw p))
+
+  pub held-none : length (n .entries) ≤ room → theMap (n .entries) (n .levels) ≡ none → heldAnswer n room ≡ refuses (at 11 0 0)
+  unfolding heldAnswer heldCheck
+  held-none h p = rw (le-leb (length (n .entries)) room h, p)
+
+-- Promise 3 of docs/SPEC.md holds of the answer, and of what is read from the buffer's start.
+pub demand-three : (n : Node) → AllHold (n .entries) → (buffer : List ℕ)
+    → NodeDemand3 n buffer (heldAnswer n (length buffer)) (left (heldAnswer n (length buffer)) (mapOf n) buffer)
+demand-three n hold buffer fits =
+    ⊎-elim
+    (λ r.
+    let m = cutLevels (r .0) (length (n .entries)) in
+    let h = held-map n (length buffer) fits m (r .2) in
+    let d = mapping (n .entries) hold (n .levels) m (r .2) in
+    let front : take (length (n .entries)) (m ++ drop (length m) buffer) ≡ m =
+    take-at m (drop (length m) buffer) (length (n .entries)) (d .passing .assignment .each) in
+    rw (h .0, h .1, front)
+    (record {
+      refusal = ((λ p. absurd (not-both p)), λ f. absurd (f m (d .passing)));
+      given = inr (levelsUsed m, refl, d);
+    }))
+    (λ r.
+    rw (held-none n (length buffer) fits (r .1))
+    (record { refusal = ((λ p a x. r .2 a (x .assignment) (x .inTime)), λ f. refl); given = inl refl }))
+    (map-cases (n .entries) hold (n .levels))
 
 first-empty : (most : ℕ) → firstOf (passTest []) (maps most 0) ≡ some []
 unfolding maps mapsWith firstOf passTest noneLateTo
@@ -139,6 +157,5 @@ pub map-empty : (most : ℕ) → theMap [] most ≡ some []
 unfolding theMap
 map-empty most = first-empty most
 
-pub answer-empty : (most : ℕ) → answerOf (theMap [] most) ≡ mapped 0
-unfolding answerOf
-answer-empty most = rw (map-empty most)
+pub answer-empty : (most room : ℕ) → heldAnswer (record { levels = most; entries = [] }) room ≡ gives 0
+answer-empty most room = held-map (record { levels = most; entries = [] }) room (omega arith) [] (map-empty most) .0

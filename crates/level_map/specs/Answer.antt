@@ -1,36 +1,50 @@
--- What the mapper answers, and what it leaves in the buffer; 'Promise 3: maps' of docs/SPEC.md.
+-- What the mapper answers (docs/SPEC.md, 'The order of the checks' and 'Promise 3: maps'). What it leaves in the buffer is
+-- `left` of task_model's specs/Answers.
 use Prim.Native.Nat.{ℕ, _≤_}
 use mathlib.Core.Path.{_≡_}
+use mathlib.Core.Bool.{Bool, true, false}
 use mathlib.Core.Logic.{_↔_, _⊎_}
 use mathlib.Core.Option.{Option, none, some}
-use mathlib.Core.List.{List, _++_}
-use lib.ListN.{length, drop}
+use mathlib.Core.List.{List, []}
+use lib.ListN.{length, take}
+use lib.Dec.{leb}
 use Rattle.task_model.specs.declared.Entry.{Entry}
-use Rattle.task_model.specs.Refusals.{Numbered, at}
-use Rattle.level_map.specs.declared.Mapped.{Mapped}
-use Rattle.level_map.specs.declared.Mapped.the-variants.{Levels, NoMap}
+use Rattle.task_model.specs.Refusals.{at, numbered, Outcome, _andThen_, mustHold}
+use Rattle.task_model.specs.Answers.{Answer, gives, refuses, giving}
+use Rattle.task_model.specs.Limits.{Node}
+use Rattle.level_map.specs.declared.MappedNode.{MappedNode}
+use Rattle.level_map.specs.declared.MappedNode.the-variants.{Levels, Refused}
 use Rattle.level_map.specs.Assignments.{NoneLate, Passing, levelsUsed}
-use Rattle.level_map.specs.Map.{Chosen}
+use Rattle.level_map.specs.Map.{Chosen, theMap}
 
--- The count of the map's levels, or the refusal.
-pub data Answer : Type 0 where
-  mapped : (levels : ℕ) → Answer
-  refused : Numbered → Answer
+-- What the code's answer says: the count of the map's levels, or the refusal's number, row and entry.
+abbrev pub answer : MappedNode → Answer ℕ
+answer (Levels count) = gives count
+answer (Refused r) = refuses (numbered r)
 
--- What the code's answer says.
-abbrev pub answer : Mapped → Answer
-answer (Levels c) = mapped c
-answer NoMap = refused (at 11 0 0)
+-- Whether there is a map; and its levels, one an entry, with none where there is no map.
+abbrev pub isSome : Option (List ℕ) → Bool
+isSome none = false
+isSome (some m) = true
 
--- The answer for a node, and the buffer as the call leaves it: the map from its start, one byte an entry, and the bytes
--- beyond kept; where there is no map, untouched.
-unfoldable pub answerOf : Option (List ℕ) → Answer
-answerOf none = refused (at 11 0 0)
-answerOf (some m) = mapped (levelsUsed m)
+abbrev pub levelsIn : Option (List ℕ) → List ℕ
+levelsIn none = []
+levelsIn (some m) = m
 
-unfoldable pub bufferOf : Option (List ℕ) → List ℕ → List ℕ
-bufferOf none buffer = buffer
-bufferOf (some m) buffer = m ++ drop (length m) buffer
+-- The levels of a node's map.
+unfoldable pub mapOf : Node → List ℕ
+mapOf n = levelsIn (theMap (n .entries) (n .levels))
+
+-- Mapping a node that is at hand into a buffer of `room` bytes: 10 where a byte an entry does not fit, then 11 where no map
+-- passes.
+unfoldable pub heldCheck : Node → ℕ → Outcome
+heldCheck n room =
+    mustHold (leb (length (n .entries)) room) (at 10 0 0)
+    andThen mustHold (isSome (theMap (n .entries) (n .levels))) (at 11 0 0)
+
+-- It gives the count of the map's levels.
+unfoldable pub heldAnswer : Node → ℕ → Answer ℕ
+heldAnswer n room = giving (heldCheck n room) (levelsUsed (mapOf n))
 
 -- Promise 3: refused exactly when nothing passes, and what is given is the best. Of a map that is given with a count it
 -- says: it is an assignment that lets every entry end by its deadline; it is the choice of 'The map' in docs/SPEC.md; its
@@ -43,6 +57,11 @@ pub record Mapping (es : List Entry) (most count : ℕ) (m : List ℕ) : Type 0 
 
 -- Promise 3 of an answer, with the map read from the buffer's start: refused exactly when no assignment lets every entry
 -- end by its deadline; and otherwise a map.
-pub record Demand3 (es : List Entry) (most : ℕ) (a : Answer) (m : List ℕ) : Type 0 where
-  pub refusal : (a ≡ refused (at 11 0 0)) ↔ ((l : List ℕ) → Passing es most l → ⊥)
-  pub given : (a ≡ refused (at 11 0 0)) ⊎ ((count : ℕ) × (a ≡ mapped count) × Mapping es most count m)
+pub record Demand3 (es : List Entry) (most : ℕ) (a : Answer ℕ) (m : List ℕ) : Type 0 where
+  pub refusal : (a ≡ refuses (at 11 0 0)) ↔ ((l : List ℕ) → Passing es most l → ⊥)
+  pub given : (a ≡ refuses (at 11 0 0)) ⊎ ((count : ℕ) × (a ≡ gives count) × Mapping es most count m)
+
+-- Promise 3 for a node that is mapped into a long enough buffer, with the map read from the buffer's start.
+abbrev pub NodeDemand3 : Node → List ℕ → Answer ℕ → List ℕ → Type 0
+NodeDemand3 n before a after =
+    length (n .entries) ≤ length before → Demand3 (n .entries) (n .levels) a (take (length (n .entries)) after)

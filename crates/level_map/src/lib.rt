@@ -4,9 +4,10 @@ ghost use mathlib.Core.List.{_++_};
 ghost use Prim.Native.Nat.{ℕ, _-_, _≤_, _<_};
 ghost use lib.ListN.{length, getD, take, drop, replicate};
 ghost use Rattle.task_model.specs.Limits.{mostEntries, AllHold, NodeHolds};
+ghost use Rattle.task_model.specs.Answers.{left};
 ghost use Rattle.task_model.specs.Words.{entriesOf, nodeOf};
 ghost use Rattle.level_map.specs.Map.{theMap};
-ghost use Rattle.level_map.specs.Answer.{answer, answerOf, bufferOf, Demand3};
+ghost use Rattle.level_map.specs.Answer.{answer, heldAnswer, mapOf, NodeDemand3};
 ghost use Rattle.level_map.specs.Groups.{GroupPasses, LeastStart, levelsByRank, Ranked};
 use completion::Ending;
 use completion::behind_late;
@@ -14,10 +15,16 @@ use completion::ends_on_time;
 use completion::wcet_sum;
 use task_model::MOST_ENTRIES;
 use task_model::NodeWords;
+use task_model::Refusal;
 
-// A map, with the number of its levels, or that no map passes.
-// `answer` in specs/Answer gives the number that a user sees.
-pub enum Mapped {
+// A map, with the number of its levels, or why there is none.
+pub enum MappedNode {
+    Levels(u8),
+    Refused(Refusal),
+}
+
+// How many groups the search made, or that no map passes.
+enum Mapped {
     Levels(u8),
     NoMap,
 }
@@ -98,18 +105,21 @@ fn write_levels(ranks: &[u8; MOST_ENTRIES], count: usize, groups: u8, out: &mut 
     }
 }
 
-// Maps a node within the limits: one byte an entry from the start of `out`, which is untouched where no map passes.
-pub fn map_node(words: &NodeWords, count: usize, levels: u8, out: &mut [u8]) -> Mapped
-    requires { ⌜ NodeHolds (nodeOf (now words) count levels) ⌝ ∗ ⌜ count ≤ length (now out) ⌝ }
-    ensures answered { λ a. ⌜ answer a ≡ answerOf (theMap (entriesOf (now (words .entry)) count) levels) ⌝ }
-    ensures written { λ a. ⌜ now (out .exit) ≡ bufferOf (theMap (entriesOf (now (words .entry)) count) levels) (now (out .entry)) ⌝ }
-    ensures best { λ a. ⌜ Demand3 (entriesOf (now (words .entry)) count) levels (answer a) (take count (now (out .exit))) ⌝ }
+// Maps a node that is at hand and within the limits: one byte an entry from the start of `out`. Refuses a buffer with less
+// than a byte an entry (10), and a node without a map (11), and leaves the buffer untouched then.
+pub fn map_held(words: &NodeWords, count: usize, levels: u8, out: &mut [u8]) -> MappedNode
+    requires { ⌜ NodeHolds (nodeOf (now words) count levels) ⌝ }
+    ensures answered { λ a. ⌜ answer a ≡ heldAnswer (nodeOf (now (words .entry)) count levels) (length (now (out .entry))) ⌝ }
+    ensures written { λ a. ⌜ now (out .exit) ≡ left (answer a) (mapOf (nodeOf (now (words .entry)) count levels)) (now (out .entry)) ⌝ }
+    ensures best { λ a. ⌜ NodeDemand3 (nodeOf (now (words .entry)) count levels) (now (out .entry)) (answer a) (now (out .exit)) ⌝ }
 {
+    if out.len() < count {
+        return MappedNode::Refused(Refusal::ShortBuffer);
+    }
     let mut ranks = [0u8; MOST_ENTRIES];
-    let mapped = rank_groups(words, count, levels, &mut ranks);
-    let Mapped::Levels(groups) = mapped else {
-        return mapped;
+    let Mapped::Levels(groups) = rank_groups(words, count, levels, &mut ranks) else {
+        return MappedNode::Refused(Refusal::NoMap);
     };
     write_levels(&ranks, count, groups, out);
-    mapped
+    MappedNode::Levels(groups)
 }

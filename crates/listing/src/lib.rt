@@ -17,7 +17,7 @@ ghost use Rattle.listing.specs.Lines.{planLine, nodeLine, noMapLine, ent
 ghost use Rattle.listing.specs.Listing.{entryText, entriesText, nodeText, nodesText, listing, listAnswer, listedGives};
 ghost use Rattle.task_model.specs.Answers.{left};
 use completion::Timing;
-use level_map::Mapped;
+use level_map::MappedNode;
 use task_model::Checked;
 use task_model::MOST_ENTRIES;
 use task_model::NODE_WORDS;
@@ -188,8 +188,8 @@ fn put_node(file: &[u8], row: usize, out: &mut [u8], at: usize) -> usize
     let mut levels = [0u8; MOST_ENTRIES];
     let r = plan_file::load_node(file, row, &mut words);
     let count = r.count as usize;
-    let mapped = level_map::map_node(&words, count, r.levels, &mut levels);
-    let Mapped::Levels(used) = mapped else {
+    let mapped = level_map::map_held(&words, count, r.levels, &mut levels);
+    let MappedNode::Levels(used) = mapped else {
         return put_no_map_line(out, at, r.number);
     };
     let next = put_node_line(out, at, r.number, used, r.levels);

@@ -1,90 +1,52 @@
--- The answers of the mapping, case by case.
-use Prim.Native.Nat.{ℕ, _≤_, _<_}
-use mathlib.Core.Path.{_≡_, _∙_, refl, ap, sym}
+-- The answers of the mapping from a file, case by case.
+use Prim.Native.Nat.{ℕ}
+use mathlib.Core.Path.{_≡_, _∙_, refl, sym}
 use mathlib.Core.List.{List}
-use native.Mathlib.Omega.{arith}
 use lib.ListN.{length}
-use borrow.Author.Tests.{le-leb, lt-leb}
-use Rattle.task_model.specs.Refusals.{Numbered, at, Outcome}
-use Rattle.task_model.specs.Refusals as check
-use Rattle.task_model.specs.Limits.{Node, NodeHolds}
-use Rattle.plan_file.specs.Answers.{Shape, findAnswer}
-use Rattle.task_model.specs.Answers.{gives, refuses, giving}
-use Rattle.plan_file.specs.Find.{findCheck, nodeFound}
-use Rattle.level_map.specs.Map.{theMap}
-use Rattle.level_map.specs.Answer.{Answer, refused, answerOf, bufferOf}
-use Rattle.level_map.proofs.Theorems.{demand-three}
+use Rattle.task_model.specs.Refusals.{Numbered, accepted, refused}
+use Rattle.task_model.specs.Answers.{Answer, gives, refuses, left}
+use Rattle.task_model.specs.Limits.{Node}
+use Rattle.task_model.proofs.Outcomes.{giving-refuses, giving-gives}
 use Rattle.task_model.proofs.Theorems.{not-both}
-use Rattle.planner.proofs.Nodes.{found-holds}
-use Rattle.planner.specs.Mapping.{heldAnswer, heldBuffer, fileAnswer, fileBuffer, NodeDemand3}
+use Rattle.plan_file.specs.Answers.{Shape, findAnswer}
+use Rattle.plan_file.specs.Find.{findCheck, nodeFound}
+use Rattle.level_map.specs.Answer.{mapOf, heldAnswer, NodeDemand3}
+use Rattle.level_map.proofs.Answers.{Right}
+use Rattle.planner.specs.Mapping.{fileAnswer}
 
-module _ (n : Node) (buffer : List ℕ) where
-  pub held-short : length buffer < length (n .entries)
-      → (heldAnswer n (length buffer) ≡ refused (at 10 0 0)) × (heldBuffer n buffer ≡ buffer)
-  unfolding heldAnswer heldBuffer
-  held-short h =
-      ((rw (lt-leb (length (n .entries)) (length buffer) h, heldAnswer)), (rw (lt-leb (length (n .entries)) (length buffer) h, heldBuffer)))
+module _ (f : List ℕ) (number : ℕ) where
+  pub file-refused : (r : Numbered) → findCheck f number ≡ refused r → (room : ℕ) → fileAnswer f number room ≡ refuses r
+  unfolding fileAnswer
+  file-refused r p room = rw p
 
-  pub held-fits : length (n .entries) ≤ length buffer
-      → (heldAnswer n (length buffer) ≡ answerOf (theMap (n .entries) (n .levels)))
-      × (heldBuffer n buffer ≡ bufferOf (theMap (n .entries) (n .levels)) buffer)
-  unfolding heldAnswer heldBuffer
-  held-fits h =
-      ((rw (le-leb (length (n .entries)) (length buffer) h, heldAnswer)), (rw (le-leb (length (n .entries)) (length buffer) h, heldBuffer)))
+  pub file-found : findCheck f number ≡ accepted → (room : ℕ) → fileAnswer f number room ≡ heldAnswer (nodeFound f number) room
+  unfolding fileAnswer heldAnswer
+  file-found p room = rw p
 
-  -- promise 3 of a node within the limits
-  pub held-demand : NodeHolds n → NodeDemand3 n buffer (heldAnswer n (length buffer)) (heldBuffer n buffer)
-  held-demand holds fits =
-      rw (held-fits fits .0, held-fits fits .1) (demand-three (n .entries) (holds .each) (n .levels) buffer)
+  -- what the finder's answer says of its check
+  find-refuses : (r : Numbered) → refuses r ≡ findAnswer f number → findCheck f number ≡ refused r
+  unfolding findAnswer
+  find-refuses r p = giving-refuses (findCheck f number) _ r p
 
-module _ (f : List ℕ) (number : ℕ) (buffer : List ℕ) where
-  pub file-refused : (r : Numbered) → findCheck f number ≡ check.refused r
-      → (fileAnswer f number (length buffer) ≡ refused r) × (fileBuffer f number buffer ≡ buffer)
-  unfolding fileAnswer fileBuffer
-  file-refused r p = ((rw (p, fileAnswer)), (rw (p, fileBuffer)))
+  pub find-gives : (s : Shape) → gives s ≡ findAnswer f number → findCheck f number ≡ accepted
+  unfolding findAnswer
+  find-gives s p = giving-gives (findCheck f number) _ s p .0
 
-  pub file-found : findCheck f number ≡ check.accepted
-      → (fileAnswer f number (length buffer) ≡ heldAnswer (nodeFound f number) (length buffer))
-      × (fileBuffer f number buffer ≡ heldBuffer (nodeFound f number) buffer)
-  unfolding fileAnswer fileBuffer
-  file-found p = ((rw (p, fileAnswer)), (rw (p, fileBuffer)))
+  -- what the contract of the mapping from a file says, for a file that is refused and for a node that is found
+  module _ (buffer : List ℕ) where
+    abbrev Promise : Answer ℕ → List ℕ → Type 0
+    Promise a after =
+        (a ≡ fileAnswer f number (length buffer))
+        × ((after ≡ left a (mapOf (nodeFound f number)) buffer)
+        × (findCheck f number ≡ accepted → NodeDemand3 (nodeFound f number) buffer a after))
 
--- what the finder's answer says of its check
-giving-refuses : {A : Type 0} (o : Outcome) (a : A) (r : Numbered) → refuses r ≡ giving o a → o ≡ check.refused r
-giving-refuses check.accepted a r p = absurd (let z : _≡_ {A = ℕ} 0 1 = cc in omega arith)
-giving-refuses (check.refused s) a r p = cc
+    pub refused-promise : (r : Numbered) → refuses r ≡ findAnswer f number → Promise (refuses r) buffer
+    refused-promise r p =
+        let q = find-refuses r p in
+        (sym (file-refused r q (length buffer)), (refl, λ t. absurd (not-both t q)))
 
-giving-gives : {A : Type 0} (o : Outcome) (a b : A) → gives b ≡ giving o a → (o ≡ check.accepted) × (b ≡ a)
-giving-gives check.accepted a b p = (refl, cc)
-giving-gives (check.refused s) a b p = absurd (let z : _≡_ {A = ℕ} 0 1 = cc in omega arith)
-
-pub find-refuses : (f : List ℕ) (number : ℕ) (r : Numbered) → refuses r ≡ findAnswer f number → findCheck f number ≡ check.refused r
-unfolding findAnswer
-find-refuses f number r p = giving-refuses (findCheck f number) _ r p
-
-pub find-gives : (f : List ℕ) (number : ℕ) (s : Shape) → gives s ≡ findAnswer f number → findCheck f number ≡ check.accepted
-unfolding findAnswer
-find-gives f number s p = giving-gives (findCheck f number) _ s p .0
-
--- what the contract of the mapping from a file says, for a file that is refused and for a node that is found
-module _ (f : List ℕ) (number : ℕ) (buffer : List ℕ) where
-  abbrev Promise : Answer → List ℕ → Type 0
-  Promise a after =
-      (a ≡ fileAnswer f number (length buffer))
-      × ((after ≡ fileBuffer f number buffer)
-      × (findCheck f number ≡ check.accepted → NodeDemand3 (nodeFound f number) buffer a after))
-
-  pub refused-promise : (r : Numbered) → refuses r ≡ findAnswer f number → Promise (refused r) buffer
-  refused-promise r p =
-      let q = find-refuses f number r p in
-      let h = file-refused f number buffer r q in
-      (sym (h .0), (sym (h .1), λ t. absurd (not-both t q)))
-
-  pub found-promise : (s : Shape) → gives s ≡ findAnswer f number → (n : Node) → n ≡ nodeFound f number → (a : Answer)
-      (after : List ℕ) → a ≡ heldAnswer n (length buffer) → after ≡ heldBuffer n buffer → Promise a after
-  found-promise s p n e a after x y =
-      let q = find-gives f number s p in
-      let h = file-found f number buffer q in
-      let u : a ≡ heldAnswer (nodeFound f number) (length buffer) = x ∙ ap (λ m. heldAnswer m (length buffer)) e in
-      let v : after ≡ heldBuffer (nodeFound f number) buffer = y ∙ ap (λ m. heldBuffer m buffer) e in
-      (u ∙ sym (h .0), (v ∙ sym (h .1), λ t. rw (u, v) (held-demand (nodeFound f number) buffer (found-holds f number q))))
+    pub found-promise : (s : Shape) → gives s ≡ findAnswer f number → (n : Node) → n ≡ nodeFound f number → (a : Answer ℕ)
+        (after : List ℕ) → Right n a buffer after → Promise a after
+    found-promise s p n e a after h =
+        let r = rw e at h in
+        (r .0 ∙ sym (file-found (find-gives s p) (length buffer)), (r .1 .0, λ t. r .1 .1))

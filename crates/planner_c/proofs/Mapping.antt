@@ -5,20 +5,21 @@ use mathlib.Core.List.{List}
 use lib.ListN.{length}
 use Rattle.task_model.specs.Refusals.{accepted}
 use Rattle.task_model.specs.Checks.{nodeCheck}
-use Rattle.planner.specs.declared.MappedNode.{MappedNode}
-use Rattle.planner.specs.Mapping.{answer, NodeDemand3}
+use Rattle.task_model.specs.Answers.{left}
+use Rattle.level_map.specs.declared.MappedNode.{MappedNode}
+use Rattle.level_map.specs.Answer.{answer, mapOf, NodeDemand3}
 use Rattle.session.specs.declared.Session.{Session}
 use Rattle.session.specs.State.{nodeIn}
-use Rattle.session.specs.Mapping.{mapAnswer, mapBuffer, Maps}
+use Rattle.session.specs.Mapping.{mapAnswer, Maps}
 use Rattle.session.proofs.Mapping.{own-demand}
-use Rattle.planner_c.specs.Returned.{Returned, levelled}
+use Rattle.planner_c.specs.Returned.{Returned, sized}
 
 module _ {s : Session} (t : Session) (read : s ≡ t) (buffer : List ℕ) {a : MappedNode} {after : List ℕ} (h : Maps (nodeIn s) buffer a after) where
-  pub map-returned : (r : Returned) → r ≡ levelled (answer a) → r ≡ levelled (mapAnswer (nodeIn t) (length buffer))
-  map-returned r p = p ∙ ap levelled (h .answers ∙ ap (λ x. mapAnswer (nodeIn x) (length buffer)) read)
+  pub map-returned : (r : Returned) → r ≡ sized (answer a) → r ≡ sized (mapAnswer (nodeIn t) (length buffer))
+  map-returned r p = p ∙ ap sized (h .answers ∙ ap (λ x. mapAnswer (nodeIn x) (length buffer)) read)
 
-  pub map-buffer : after ≡ mapBuffer (nodeIn t) buffer
-  map-buffer = h .written ∙ ap (λ x. mapBuffer (nodeIn x) buffer) read
+  pub map-buffer : after ≡ left (mapAnswer (nodeIn t) (length buffer)) (mapOf (nodeIn t)) buffer
+  map-buffer = rw (h .answers, read) at (h .written)
 
   pub map-demand : nodeCheck 0 (nodeIn t) ≡ accepted
       → NodeDemand3 (nodeIn t) buffer (mapAnswer (nodeIn t) (length buffer)) after

@@ -5,7 +5,6 @@ use Rattle.task_model.specs.Refusals.{Numbered, Outcome, accepted, refused}
 use Rattle.completion.specs.Test.{Completion, on-time, late}
 use Rattle.plan_file.specs.Answers.{Sizes}
 use Rattle.task_model.specs.Answers.{Answer, gives, refuses}
-use Rattle.level_map.specs.Answer as map
 
 -- The number that is returned, and the values as the call leaves them.
 pub record Returned : Type 0 where
@@ -34,15 +33,10 @@ abbrev pub filled : Answer Sizes → Returned
 filled (gives s) = given (s .rows) (s .entries)
 filled (refuses r) = back r
 
--- The writer and the listing give a length.
+-- The writer and the listing give a length, the mapper how many levels the map uses.
 abbrev pub sized : Answer ℕ → Returned
 sized (gives n) = given n 0
 sized (refuses r) = back r
-
--- The mapper gives the number of levels that the map uses.
-abbrev pub levelled : map.Answer → Returned
-levelled (map.mapped n) = given n 0
-levelled (map.refused r) = back r
 
 -- Timing gives the completion time and the rounds; a late entry has no time, and 0 stands in its place.
 abbrev pub givenTime : Completion → Returned

@@ -20,13 +20,14 @@ ghost use Rattle.plan_file.specs.Limits.{IsPlanFile};
 ghost use Rattle.plan_file.specs.RoundTrips.{WrittenAgain, ReadAgain};
 ghost use Rattle.plan_file.specs.Plan.{rowWord, planOf};
 ghost use Rattle.task_model.specs.Words.{wordsOf};
-ghost use Rattle.planner.specs.Mapping.{fileAnswer, fileBuffer, NodeDemand3};
+ghost use Rattle.level_map.specs.Answer.{mapOf, NodeDemand3};
+ghost use Rattle.planner.specs.Mapping.{fileAnswer};
 ghost use Rattle.listing.specs.Listing.{listing, listAnswer};
-ghost use Rattle.planner_c.specs.Returned.{returned, back, given, checked, filled, sized, levelled};
+ghost use Rattle.planner_c.specs.Returned.{returned, back, given, checked, filled, sized};
+use level_map::MappedNode;
 use listing::Listed;
 use plan_file::ReadPlan;
 use plan_file::Written;
-use planner::MappedNode;
 use task_model::Checked;
 use task_model::Refusal;
 
@@ -132,8 +133,11 @@ pub extern "C" fn maiplur_map(
 ) -> u32
     ensures { λ a.
         ⌜ returned a (now (values .exit)) ≡
-        levelled (fileAnswer (now (file .entry)) number (length (now (levels .entry)))) ⌝ }
-    ensures { λ a. ⌜ now (levels .exit) ≡ fileBuffer (now (file .entry)) number (now (levels .entry)) ⌝ }
+        sized (fileAnswer (now (file .entry)) number (length (now (levels .entry)))) ⌝ }
+    ensures { λ a.
+        ⌜ now (levels .exit) ≡
+        left (fileAnswer (now (file .entry)) number (length (now (levels .entry))))
+        (mapOf (nodeFound (now (file .entry)) number)) (now (levels .entry)) ⌝ }
     ensures { λ a.
         ⌜ (findCheck (now (file .entry)) number ≡ accepted →
         NodeDemand3 (nodeFound (now (file .entry)) number) (now (levels .entry))

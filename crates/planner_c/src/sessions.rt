@@ -2,7 +2,7 @@
 use super::give;
 use super::refuse;
 use completion::Timing;
-use planner::MappedNode;
+use level_map::MappedNode;
 use session::Changed;
 use session::SessionWords;
 use session::TimeAnswer;
@@ -12,17 +12,18 @@ use task_model::Checked;
 use task_model::EntryWords;
 ghost use mathlib.Core.Path.{_≡_};
 ghost use lib.ListN.{length};
+ghost use Rattle.task_model.specs.Answers.{left};
 ghost use Rattle.task_model.specs.Refusals.{outcome, accepted};
 ghost use Rattle.task_model.specs.Checks.{nodeCheck};
 ghost use Rattle.task_model.specs.Words.{entryFrom};
 ghost use Rattle.completion.specs.Test.{completion};
-ghost use Rattle.planner.specs.Mapping.{NodeDemand3};
+ghost use Rattle.level_map.specs.Answer.{mapOf, NodeDemand3};
 ghost use Rattle.session.specs.State.{nodeIn};
 ghost use Rattle.session.specs.Operations.{opening, inserting, removing, replacing, settingLevels};
 ghost use Rattle.session.specs.Timing.{timeAnswer};
-ghost use Rattle.session.specs.Mapping.{mapAnswer, mapBuffer};
+ghost use Rattle.session.specs.Mapping.{mapAnswer};
 ghost use Rattle.session.specs.InWords.{sessionIn, wordsLeft};
-ghost use Rattle.planner_c.specs.Returned.{returned, checked, levelled, givenTime, timed};
+ghost use Rattle.planner_c.specs.Returned.{returned, checked, sized, givenTime, timed};
 ghost use Rattle.planner_c.specs.Changes.{Changes};
 
 // Ends a change: an accepted one stores its session, a refused one leaves the words alone.
@@ -164,9 +165,11 @@ pub extern "C" fn maiplur_session_map(
 ) -> u32
     ensures { λ a.
         ⌜ returned a (now (values .exit)) ≡
-        levelled (mapAnswer (nodeIn (sessionIn (now (words .entry)))) (length (now (levels .entry)))) ⌝ }
+        sized (mapAnswer (nodeIn (sessionIn (now (words .entry)))) (length (now (levels .entry)))) ⌝ }
     ensures { λ a.
-        ⌜ now (levels .exit) ≡ mapBuffer (nodeIn (sessionIn (now (words .entry)))) (now (levels .entry)) ⌝ }
+        ⌜ now (levels .exit) ≡
+        left (mapAnswer (nodeIn (sessionIn (now (words .entry)))) (length (now (levels .entry))))
+        (mapOf (nodeIn (sessionIn (now (words .entry))))) (now (levels .entry)) ⌝ }
     ensures { λ a.
         ⌜ (nodeCheck 0 (nodeIn (sessionIn (now (words .entry)))) ≡ accepted →
         NodeDemand3 (nodeIn (sessionIn (now (words .entry)))) (now (levels .entry))

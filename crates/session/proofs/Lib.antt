@@ -13,4 +13,3 @@ pub mod Lent
 pub mod LentOne
 pub mod LentTwo
 pub mod Mapping
-pub mod FileMap

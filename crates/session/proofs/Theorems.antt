@@ -1,7 +1,7 @@
 -- The theorems of the session.
 use Prim.Native.Nat.{ℕ, _≤_, _<_}
 use mathlib.Core.Path.{_≡_, _∙_, refl, sym, ap}
-use mathlib.Core.Logic.{⊎-elim}
+use mathlib.Core.Logic.{⊎-elim, _↔_}
 use mathlib.Core.List.{List, _∷_}
 use native.Mathlib.Omega.{arith}
 use lib.ListN.{length}
@@ -10,29 +10,24 @@ use Rattle.task_model.specs.Refusals.{Numbered, at, accepted, refused}
 use Rattle.task_model.specs.Limits.{mostLevels, Node}
 use Rattle.task_model.specs.Checks.{nodeCheck}
 use Rattle.task_model.proofs.Laws.{node-sizes, length-entries}
+use Rattle.task_model.proofs.Outcomes.{giving-refuses}
 use Rattle.task_model.proofs.Theorems.{node-accepted, either}
 use Rattle.completion.specs.Group.{groupLevel}
 use Rattle.completion.specs.Test.{Completion, completionTest, on-time}
 use Rattle.completion.specs.Right.{RightTiming}
 use Rattle.completion.proofs.Theorems.{timing-right}
-use Rattle.plan_file.specs.Encoding.{encoding}
-use Rattle.plan_file.specs.Decoding.{planIn}
-use Rattle.plan_file.specs.Check.{fileCheck, planCheck}
-use Rattle.plan_file.specs.Find.{rowIn, nodeOfRow}
-use Rattle.planner.specs.Mapping.{heldAnswer, heldBuffer, fileAnswer, fileBuffer, NodeDemand3}
+use Rattle.level_map.specs.Answer.{mapOf, heldAnswer, NodeDemand3}
 use Rattle.session.specs.declared.Session.{Session}
 use Rattle.session.specs.State.{nodeIn, sessionOf, Sound, zeros, blankSession}
-use Rattle.session.specs.Operations.{refusalIn, Operation, opening, inserting, removing, replacing, settingLevels, mapping, timing, AllCallable, operationCheck, emptyNode, nodeAfterAll, answersAll, lentCheck, stepCheck, changed}
-use Rattle.task_model.specs.Answers.{gives, refuses}
+use Rattle.session.specs.Operations.{Operation, opening, inserting, removing, replacing, settingLevels, mapping, timing, AllCallable, operationCheck, emptyNode, nodeAfterAll, answersAll, lentCheck, stepCheck, changed}
+use Rattle.task_model.specs.Answers.{gives, refuses, left}
 use Rattle.session.specs.Timing.{timeAnswer}
-use Rattle.session.specs.Mapping.{mapAnswer, mapBuffer}
-use Rattle.session.specs.Plan.{oneRow}
+use Rattle.session.specs.Mapping.{mapAnswer}
 use Rattle.session.specs.Steps.{sessionMade, sessionAfter, sessionAfterAll, answersOf}
 use Rattle.session.specs.InWords.{sessionSize, sessionIn, wordsIn, wordsAfter, wordsAfterAll}
 use Rattle.session.proofs.Reading.{Kept, read-back}
 use Rattle.session.proofs.Checking.{levels-within, lent-stops, insert-outside, insert-full, time-inside, time-else, time-refused, time-given, time-ready, after-refused, after-accepted}
-use Rattle.session.proofs.Mapping.{own-answer, own-buffer, own-demand, map-outcome}
-use Rattle.session.proofs.FileMap.{row-answer, row-buffer, row-holds, kept-in, one-accepted, one-file, one-row, one-number, one-node}
+use Rattle.session.proofs.Mapping.{own-answer, own-demand}
 use Rattle.session.proofs.InWords.{words-back, words-refused, words-accepted, rows-words}
 use Rattle.session.proofs.Rows.{kept-empty, own-checks, rows-session, rows-answers, rows-kept}
 
@@ -145,8 +140,10 @@ pub time-some : (s : Session) (first last i time rounds : ℕ)
 time-some s first last i time rounds p = time-right s first last i (on-time time rounds) p .least time rounds refl .some
 
 -- Mapping, as an operation of a row, is refused exactly as its answer says; on any session.
-pub map-refusal : (s : Session) (room : ℕ) → stepCheck (mapping room) (nodeIn s) ≡ refusalIn (mapAnswer (nodeIn s) room)
-map-refusal s room = map-outcome (nodeIn s) room
+pub map-refusal : (s : Session) (room : ℕ) (r : Numbered)
+    → stepCheck (mapping room) (nodeIn s) ≡ refused r ↔ mapAnswer (nodeIn s) room ≡ refuses r
+unfolding mapAnswer
+map-refusal s room r = ((λ p. rw p), λ p. giving-refuses (stepCheck (mapping room) (nodeIn s)) _ r (sym p))
 
 -- Mapping a sound session checks 10, then 11, and answers and writes as mapping a node at hand does.
 module _ (s : Session) (h : Sound s) where
@@ -156,47 +153,16 @@ module _ (s : Session) (h : Sound s) where
   pub map-answers : (room : ℕ) → mapAnswer (nodeIn s) room ≡ heldAnswer (nodeIn s) room
   map-answers = own-answer (nodeIn s) within-checks
 
-  pub map-writes : (buffer : List ℕ) → mapBuffer (nodeIn s) buffer ≡ heldBuffer (nodeIn s) buffer
-  map-writes = own-buffer (nodeIn s) within-checks
+  pub map-writes : (buffer : List ℕ)
+      → left (mapAnswer (nodeIn s) (length buffer)) (mapOf (nodeIn s)) buffer
+      ≡ left (heldAnswer (nodeIn s) (length buffer)) (mapOf (nodeIn s)) buffer
+  map-writes buffer = ap (λ a. left a (mapOf (nodeIn s)) buffer) (map-answers (length buffer))
 
   -- Promise 3 of docs/SPEC.md, into a buffer of a byte an entry or more.
   pub map-demand-three : (buffer : List ℕ)
-      → NodeDemand3 (nodeIn s) buffer (mapAnswer (nodeIn s) (length buffer)) (mapBuffer (nodeIn s) buffer)
+      → NodeDemand3 (nodeIn s) buffer (mapAnswer (nodeIn s) (length buffer))
+      (left (mapAnswer (nodeIn s) (length buffer)) (mapOf (nodeIn s)) buffer)
   map-demand-three buffer = own-demand (nodeIn s) within-checks buffer
-
--- The map of a session is that of the same node in a file: in any accepted file, at any row that holds this node, mapped
--- under that row's number. Answer, count and bytes are the same.
-module _ (s : Session) (f : List ℕ) (a : fileCheck f ≡ accepted) (i number : ℕ) (has : i < length (planIn f .rows))
-    (named : rowIn (planIn f .rows) i .number ≡ number) (same : nodeOfRow (planIn f) i ≡ nodeIn s) where
-  row-checks : nodeCheck 0 (nodeIn s) ≡ accepted
-  row-checks = node-accepted 0 (nodeIn s) .1 (rw (← same) (row-holds f a i number has named))
-
-  pub file-answers : (room : ℕ) → fileAnswer f number room ≡ mapAnswer (nodeIn s) room
-  file-answers room =
-      row-answer f a i number has named room ∙ ap (λ n. heldAnswer n room) same ∙ sym (own-answer (nodeIn s) row-checks room)
-
-  pub file-writes : (buffer : List ℕ) → fileBuffer f number buffer ≡ mapBuffer (nodeIn s) buffer
-  file-writes buffer =
-      row-buffer f a i number has named buffer ∙ ap (λ n. heldBuffer n buffer) same ∙ sym (own-buffer (nodeIn s) row-checks buffer)
-
--- There is such a file, under any number: that of the node as a plan of one row, which the writer accepts.
-module _ (s : Session) (h : Sound s) (number : ℕ) (short : number < 65536) where
-  kept : Kept (nodeIn s)
-  kept = kept-in s (h .within)
-
-  pub one-row-written : planCheck (oneRow number (nodeIn s)) ≡ accepted
-  one-row-written = one-accepted (nodeIn s) kept number short
-
-  pub one-row-read : (fileCheck (encoding (oneRow number (nodeIn s))) ≡ accepted)
-      × (0 < length (planIn (encoding (oneRow number (nodeIn s))) .rows))
-      × (rowIn (planIn (encoding (oneRow number (nodeIn s))) .rows) 0 .number ≡ number)
-      × (nodeOfRow (planIn (encoding (oneRow number (nodeIn s)))) 0 ≡ nodeIn s)
-  one-row-read = (
-    one-file (nodeIn s) kept number short,
-    one-row (nodeIn s) kept number short,
-    one-number (nodeIn s) kept number short,
-    one-node (nodeIn s) kept number short,
-  )
 
 -- A session as 322 words: each form is the inverse of the other.
 pub words-inverse : (w : List ℕ) → length w ≡ sessionSize → wordsIn (sessionIn w) ≡ w

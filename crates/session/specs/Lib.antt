@@ -4,5 +4,4 @@ pub mod Operations
 pub mod Steps
 pub mod Timing
 pub mod Mapping
-pub mod Plan
 pub mod InWords

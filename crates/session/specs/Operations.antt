@@ -9,9 +9,7 @@ use Rattle.task_model.specs.declared.Entry.{Entry}
 use Rattle.task_model.specs.Refusals.{at, Outcome, accepted, refused, _andThen_, mustHold}
 use Rattle.task_model.specs.Limits.{mostLevels, mostEntries, Node}
 use Rattle.task_model.specs.Checks.{entryCheck, nodeCheck}
-use Rattle.level_map.specs.Answer.{Answer, mapped}
-use Rattle.level_map.specs.Answer as map
-use Rattle.planner.specs.Mapping.{heldAnswer}
+use Rattle.level_map.specs.Answer.{heldCheck}
 
 pub data Operation : Type 0 where
   -- open a session with a level count
@@ -40,11 +38,6 @@ abbrev pub AllCallable : List Operation → Type 0
 AllCallable [] = Unit
 AllCallable (o ∷ os) = Callable o × AllCallable os
 
--- What a mapping's answer finds to refuse.
-abbrev pub refusalIn : Answer → Outcome
-refusalIn (mapped count) = accepted
-refusalIn (map.refused r) = refused r
-
 -- 1 to 64 levels (4).
 unfoldable pub levelsCheck : ℕ → Outcome
 levelsCheck levels = mustHold (leb 1 levels && leb levels mostLevels) (at 4 0 0)
@@ -61,7 +54,7 @@ operationCheck (removing position) n = mustHold (ltb position (length (n .entrie
 operationCheck (replacing position e) n =
     mustHold (ltb position (length (n .entries))) (at 12 0 0) andThen entryCheck 0 position e
 operationCheck (settingLevels levels) n = levelsCheck levels
-operationCheck (mapping room) n = refusalIn (heldAnswer n room)
+operationCheck (mapping room) n = heldCheck n room
 operationCheck (timing first last i) n =
     mustHold (leb first i && leb i last && ltb last (length (n .entries))) (at 12 0 0)
 

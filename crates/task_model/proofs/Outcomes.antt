@@ -1,7 +1,10 @@
--- Laws of checks that follow one another.
+-- Laws of checks that follow one another, and of the answers after them.
+use Prim.Native.Nat.{ℕ}
 use mathlib.Core.Path.{_≡_, refl}
 use mathlib.Core.Bool.{Bool, true, false}
+use native.Mathlib.Omega.{arith}
 use Rattle.task_model.specs.Refusals.{Numbered, Outcome, accepted, refused, _andThen_, mustHold}
+use Rattle.task_model.specs.Answers.{gives, refuses, giving}
 use Rattle.task_model.proofs.Theorems.{not-both}
 
 pub then-refused : (a b : Outcome) (r : Numbered) → a ≡ refused r → a andThen b ≡ refused r
@@ -27,3 +30,12 @@ mustHold-refuses b r p = rw p
 pub demanded : (b : Bool) (r : Numbered) → mustHold b r ≡ accepted → b ≡ true
 demanded true r p = refl
 demanded false r p = absurd (not-both p refl)
+
+-- what an answer says of the checks before it
+pub giving-refuses : {A : Type 0} (o : Outcome) (a : A) (r : Numbered) → refuses r ≡ giving o a → o ≡ refused r
+giving-refuses accepted a r p = absurd (let z : _≡_ {A = ℕ} 0 1 = cc in omega arith)
+giving-refuses (refused s) a r p = cc
+
+pub giving-gives : {A : Type 0} (o : Outcome) (a b : A) → gives b ≡ giving o a → (o ≡ accepted) × (b ≡ a)
+giving-gives accepted a b p = (refl, cc)
+giving-gives (refused s) a b p = absurd (let z : _≡_ {A = ℕ} 0 1 = cc in omega arith)

@@ -4,7 +4,7 @@ use mathlib.Core.Option.{some}
 use mathlib.Core.List.{List, _++_}
 use native.Mathlib.Nat.{zero-add, le-refl}
 use native.Mathlib.Omega.{arith}
-use lib.ListN.{length}
+use lib.ListN.{length, drop, replicate}
 use Rattle.task_model.specs.declared.Entry.{Entry}
 use Rattle.task_model.specs.Limits.{NodeHolds}
 use Rattle.task_model.specs.Words.{entriesOf, nodeOf}
@@ -14,10 +14,10 @@ use Rattle.plan_file.specs.Decoding.{nodeCount, rowAt, planIn}
 use Rattle.plan_file.specs.Find.{rowIn, nodeOfRow}
 use Rattle.plan_file.proofs.Nodes.{row-get}
 use Rattle.plan_file.proofs.Theorems.{nodes-hold}
-use Rattle.level_map.specs.declared.Mapped.the-variants.{Levels}
+use Rattle.level_map.specs.declared.MappedNode.the-variants.{Levels}
 use Rattle.level_map.specs.Assignments.{levelsUsed}
 use Rattle.level_map.specs.Map.{theMap}
-use Rattle.level_map.specs.Answer.{answer}
+use Rattle.level_map.specs.Answer.{answer, mapOf}
 use Rattle.level_timing.specs.Levels.{NeverFalls}
 use Rattle.listing.specs.Lines.{nodeLine}
 use Rattle.listing.specs.Listing.{entriesText, nodeText}
@@ -34,8 +34,8 @@ load-node-requires c κs = search needs
 cast-count : tie.Need-cast-count
 cast-count c = search needs
 
-slice-aggregate-map-node : tie.Need-slice-aggregate-map-node
-slice-aggregate-map-node c = search needs
+slice-aggregate-map-held : tie.Need-slice-aggregate-map-held
+slice-aggregate-map-held c = search needs
 
 -- the node that was loaded
 module _ (c : tie.After-load-node) where
@@ -68,10 +68,8 @@ module _ (c : tie.After-load-node) where
       ≡ nodeText (rowIn (planIn f .rows) (at-start .args .row) .number) (nodeOfRow (planIn f) (at-start .args .row))
   named = ap₂ nodeText number held
 
-map-node-requires : tie.Need-map-node-requires
-map-node-requires c κs =
-    let k = c .before .before .before in
-    (holds k, omega (arith, holds k .fewEntries, length-entries (words k) 0 (row k .count)))
+map-held-requires : tie.Need-map-held-requires
+map-held-requires c κs = holds (c .before .before .before)
 
 enum-known-mapped : tie.Need-enum-known-mapped
 enum-known-mapped c = search needs
@@ -89,14 +87,14 @@ returns : tie.Need-returns
 returns c =
     let k = c .before .before .before .before .before .before .before .before .before .before .before in
     let n = nodeOf (words k) (row k .count) (row k .levels) in
-    let none = answered-none _ (sym (ap answer (c .before .before .before .before .enum-told .given .1)) ∙ c .before .before .before .before .before .before .before .map-node .ensures .0) in
+    let none = answered-none n 64 (holds k .fewEntries) _ (sym (ap answer (c .before .before .before .before .enum-told .given .1)) ∙ c .before .before .before .before .before .before .before .map-held .ensures .0) in
     upto-same (sym (node-no-map (row k .number) n none) ∙ named k) (upto-more 3613 (omega arith) (c .before .before .put-no-map-line .ensures))
 
 put-node-line-requires : tie.Need-put-node-line-requires
 put-node-line-requires c κs = search needs
 
 -- its map, and the array that holds it
-module _ (c : tie.After-map-node) (used : ℕ) (e : c .map-node .result ≡ Levels used) where
+module _ (c : tie.After-map-held) (used : ℕ) (e : c .map-held .result ≡ Levels used) where
   abbrev at-load : tie.After-load-node
   at-load = c .before .before .before .before
 
@@ -104,23 +102,29 @@ module _ (c : tie.After-map-node) (used : ℕ) (e : c .map-node .result ≡ Leve
   es = entriesOf (words at-load) (row at-load .count)
 
   abbrev filled : List ℕ
-  filled = c .map-node .last .1 .1 .1 .0
+  filled = c .map-held .last .1 .1 .1 .0
 
   length-es : length es ≡ row at-load .count
   length-es = length-entries (words at-load) 0 (row at-load .count)
 
   the-map : (m : List ℕ) × (theMap es (row at-load .levels) ≡ some m) × (used ≡ levelsUsed m)
-  the-map = answered-map used (theMap es (row at-load .levels)) (sym (ap answer e) ∙ c .map-node .ensures .0)
+      × (mapOf (nodeOf (words at-load) (row at-load .count) (row at-load .levels)) ≡ m)
+  the-map =
+      answered-map (nodeOf (words at-load) (row at-load .count) (row at-load .levels)) 64 (holds at-load .fewEntries) used
+      (sym (ap answer e) ∙ c .map-held .ensures .0)
+
+  written : filled ≡ the-map .0 ++ drop (length (the-map .0)) (replicate 64 0)
+  written = rw (e, the-map .3) at (c .map-held .ensures .1 .0)
 
   rises : NeverFalls (row at-load .count) filled
-  rises = rw length-es at (filled-rises es (holds at-load .each) _ _ _ _ (the-map .1) (c .map-node .ensures .1 .0))
+  rises = rw length-es at (filled-rises es (holds at-load .each) _ _ _ _ (the-map .1) written)
 
   lines : nodeLine (row at-load .number) used (row at-load .levels) ++ entriesText es filled (row at-load .count)
       ≡ nodeText (row at-load .number) (nodeOf (words at-load) (row at-load .count) (row at-load .levels))
   lines =
       ap₂ (λ u t. nodeLine (row at-load .number) u (row at-load .levels) ++ t) (the-map .2)
       (ap (entriesText es filled) (sym length-es)
-      ∙ same-entries es (the-map .0) filled (filled-levels es (holds at-load .each) _ _ _ _ (the-map .1) (c .map-node .ensures .1 .0))
+      ∙ same-entries es (the-map .0) filled (filled-levels es (holds at-load .each) _ _ _ _ (the-map .1) written)
       (length es) (le-refl _))
       ∙ sym (node-mapped (row at-load .number) (nodeOf (words at-load) (row at-load .count) (row at-load .levels)) (the-map .0) (the-map .1))
 
@@ -154,8 +158,8 @@ put-node-spec =
     (tie.spec
     load-node-requires
     cast-count
-    slice-aggregate-map-node
-    map-node-requires
+    slice-aggregate-map-held
+    map-held-requires
     enum-known-mapped
     enum-told
     put-no-map-line-requires

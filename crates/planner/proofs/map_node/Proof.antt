@@ -47,8 +47,7 @@ returns-2 : tie.Need-returns-2
 returns-2 c =
     let k = c .before .before .before .before .before .before .before .before in
     let e = c .before .before .before .before .before .before .found2 .given .1 in
-    let m = c .before .before .map-held .ensures in
-    found-promise _ _ _ _ (given k _ _ e) _ (held k _ _ e) _ _ (m .0) (m .1)
+    found-promise _ _ _ _ (given k _ _ e) _ (held k _ _ e) _ _ (c .before .before .map-held .ensures)
 
 pub map-node-spec : {M : Type 1} → statement M
 map-node-spec =

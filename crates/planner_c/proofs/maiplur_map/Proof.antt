@@ -1,6 +1,6 @@
 use mathlib.Core.Path.{_∙_, ap, sym}
-use Rattle.planner.specs.Mapping.{answer}
-use Rattle.planner_c.specs.Returned.{levelled}
+use Rattle.level_map.specs.Answer.{answer}
+use Rattle.planner_c.specs.Returned.{sized}
 use borrow.Author.Needs.{needs}
 use Rattle.planner_c.proofs.maiplur_map.Statement.{statement}
 use Rattle.planner_c.proofs.maiplur_map.Tie as tie
@@ -29,8 +29,8 @@ same-length c = search needs
 returns : tie.Need-returns
 returns c =
     let e = c .before .before .before .before .before .before .before .map-node .ensures in (
-      c .give .ensures ∙ ap levelled (sym (ap answer (c .before .before .before .mapped .given .1)) ∙ e .0),
-      (e .1 .0, rw (e .0) at (e .1 .1)),
+      c .give .ensures ∙ ap sized (sym (ap answer (c .before .before .before .mapped .given .1)) ∙ e .0),
+      rw (e .0) at (e .1),
     )
 
 same-length-2 : tie.Need-same-length-2
@@ -39,8 +39,8 @@ same-length-2 c = search needs
 returns-2 : tie.Need-returns-2
 returns-2 c =
     let e = c .before .before .before .before .before .before .before .map-node .ensures in (
-      c .refuse .ensures ∙ ap levelled (sym (ap answer (c .before .before .before .mapped2 .given .1)) ∙ e .0),
-      (e .1 .0, rw (e .0) at (e .1 .1)),
+      c .refuse .ensures ∙ ap sized (sym (ap answer (c .before .before .before .mapped2 .given .1)) ∙ e .0),
+      rw (e .0) at (e .1),
     )
 
 pub maiplur-map-spec : {M : Type 1} → statement M

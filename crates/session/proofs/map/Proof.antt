@@ -41,9 +41,9 @@ use denote.Exit.{yes}
 use Rattle.session.specs.State.{nodeIn}
 use Rattle.session.specs.Mapping.{Maps}
 use Rattle.session.specs.declared.Session.{Session}
-use Rattle.planner.specs.declared.MappedNode.{MappedNode}
-use Rattle.planner.proofs.MappedNode as TA
-use Rattle.planner.proofs.MappedNode.Laws as TA′
+use Rattle.level_map.specs.declared.MappedNode.{MappedNode}
+use Rattle.level_map.proofs.MappedNode as TA
+use Rattle.level_map.proofs.MappedNode.Laws as TA′
 use Rattle.session.proofs.Session as T
 use Rattle.session.proofs.Session.Laws as T′
 use Rattle.session.proofs.Lent.{vals}

@@ -5,7 +5,7 @@ use Rattle.task_model.specs.Limits.{NodeHolds}
 use Rattle.task_model.specs.Checks.{nodeCheck}
 use Rattle.task_model.proofs.Theorems.{node-accepted}
 use Rattle.session.specs.State.{nodeIn}
-use Rattle.session.proofs.Mapping.{forged-answer, forged-buffer, own-answer, own-buffer, maps-by}
+use Rattle.session.proofs.Mapping.{maps-forged, maps-held}
 use borrow.Author.Needs.{needs}
 use Rattle.session.proofs.mapped.Statement.{statement}
 use Rattle.session.proofs.mapped.Tie as tie
@@ -30,7 +30,7 @@ enum-known-found c = search needs
 returns : tie.Need-returns
 returns c =
     let p = sym (c .before .before .before .check-session .ensures) ∙ ap outcome (c .before .found .given .1) in
-    maps-by _ _ _ _ (sym (forged-answer _ _ p _)) (sym (forged-buffer _ _ p _))
+    maps-forged _ _ p _
 
 enum-told : tie.Need-enum-told
 enum-told c = search needs
@@ -51,7 +51,7 @@ returns-2 : tie.Need-returns-2
 returns-2 c =
     let m = c .before .before in
     let p = lent (m .before .before .before .before .before .before) in
-    maps-by _ _ _ _ (m .map-held .ensures .0 ∙ sym (own-answer _ p _)) (m .map-held .ensures .1 ∙ sym (own-buffer _ p _))
+    maps-held _ p _ _ _ (m .map-held .ensures)
 
 pub mapped-spec : {M : Type 1} → statement M
 mapped-spec =

@@ -1,7 +1,7 @@
 use mathlib.Core.Path.{_∙_, ap, sym}
-use Rattle.planner.specs.Mapping.{answer}
+use Rattle.level_map.specs.Answer.{answer}
 use Rattle.session.specs.InWords.{sessionIn}
-use Rattle.planner_c.specs.Returned.{levelled}
+use Rattle.planner_c.specs.Returned.{sized}
 use Rattle.planner_c.proofs.Mapping.{map-returned, map-buffer, map-demand}
 use borrow.Author.Needs.{needs}
 use Rattle.planner_c.proofs.sessions.maiplur_session_map.Statement.{statement}
@@ -37,7 +37,7 @@ returns c =
     let e = c .before .before .before .before .before .before .before .mapped .ensures in
     let read = c .before .before .before .before .before .before .before .before .before .from-words .ensures in
     let t = sessionIn (a .words .now) in (
-      map-returned t read (a .levels .now) e _ (c .give .ensures ∙ ap levelled (sym (ap answer (c .before .before .before .mapped2 .given .1)))),
+      map-returned t read (a .levels .now) e _ (c .give .ensures ∙ ap sized (sym (ap answer (c .before .before .before .mapped2 .given .1)))),
       (map-buffer t read (a .levels .now) e, map-demand t read (a .levels .now) e),
     )
 
@@ -50,7 +50,7 @@ returns-2 c =
     let e = c .before .before .before .before .before .before .before .mapped .ensures in
     let read = c .before .before .before .before .before .before .before .before .before .from-words .ensures in
     let t = sessionIn (a .words .now) in (
-      map-returned t read (a .levels .now) e _ (c .refuse .ensures ∙ ap levelled (sym (ap answer (c .before .before .before .mapped3 .given .1)))),
+      map-returned t read (a .levels .now) e _ (c .refuse .ensures ∙ ap sized (sym (ap answer (c .before .before .before .mapped3 .given .1)))),
       (map-buffer t read (a .levels .now) e, map-demand t read (a .levels .now) e),
     )
 

@@ -1,4 +1,4 @@
--- The node of a session in a plan file.
+-- The node of a session as a plan of its own.
 use Prim.Native.Nat.{ℕ}
 use mathlib.Core.List.{[], _∷_}
 use lib.ListN.{length}

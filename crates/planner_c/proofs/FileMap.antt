@@ -1,0 +1,153 @@
+-- The map of a session is that of its node in a plan file: laws, and then the theorems.
+use Prim.Native.Nat.{ℕ, zero, suc, _<_}
+use mathlib.Core.Path.{_≡_, _∙_, refl, ap, sym}
+use mathlib.Core.List.{List, [], _∷_}
+use native.Mathlib.Omega.{arith}
+use lib.ListN.{length}
+use lib.Seq.{take-length}
+use Rattle.task_model.specs.declared.Entry.{Entry}
+use Rattle.task_model.specs.Refusals.{accepted}
+use Rattle.task_model.specs.Limits.{Node, entryAt, EntryHolds, NodeHolds}
+use Rattle.task_model.specs.Words.{entryFrom}
+use Rattle.task_model.specs.Answers.{left}
+use Rattle.task_model.specs.Checks.{nodeCheck}
+use Rattle.task_model.proofs.Laws.{length-entries, entry-of}
+use Rattle.task_model.proofs.Theorems.{node-accepted}
+use Rattle.plan_file.specs.Plan.{Plan, entryCount, PlanFits}
+use Rattle.plan_file.specs.Encoding.{encoding}
+use Rattle.plan_file.specs.Decoding.{planIn, nodeCount}
+use Rattle.plan_file.specs.Check.{fileCheck, planCheck}
+use Rattle.plan_file.specs.Find.{rowIn, nodeOfRow, findCheck, nodeFound}
+use Rattle.plan_file.proofs.Contents.{length-rows}
+use Rattle.plan_file.proofs.Theorems.{write-read, accepted-exactly, plan-limits, finds, nodes-hold}
+use Rattle.level_map.specs.Answer.{mapOf, heldAnswer}
+use Rattle.planner.specs.Mapping.{fileAnswer}
+use Rattle.planner.proofs.Answers.{file-found}
+use Rattle.session.specs.declared.Session.{Session}
+use Rattle.session.specs.State.{nodeIn, Sound}
+use Rattle.session.specs.Mapping.{mapAnswer}
+use Rattle.session.proofs.Reading.{Kept, kept-fit}
+use Rattle.session.proofs.Mapping.{own-answer}
+use Rattle.planner_c.specs.OneRow.{oneRow}
+
+-- the node of any row of an accepted file, mapped under the number of that row
+module _ (f : List ℕ) (a : fileCheck f ≡ accepted) (i number : ℕ) (has : i < length (planIn f .rows))
+    (named : rowIn (planIn f .rows) i .number ≡ number) where
+  found : (findCheck f number ≡ accepted) × (nodeFound f number ≡ nodeOfRow (planIn f) i)
+  found = finds f a number i has named
+
+  row-answer : (room : ℕ) → fileAnswer f number room ≡ heldAnswer (nodeOfRow (planIn f) i) room
+  row-answer room = file-found f number (found .0) room ∙ ap (λ n. heldAnswer n room) (found .1)
+
+  row-holds : NodeHolds (nodeOfRow (planIn f) i)
+  row-holds = nodes-hold f a i (omega (arith, length-rows f 0 (nodeCount f)))
+
+-- a node within the limits, with numbers of 16 bits, is a plan of one row that the writer accepts
+module _ (n : Node) (k : Kept n) (number : ℕ) (short : number < 65536) where
+  one-fits : PlanFits (oneRow number n)
+  one-fits =
+      record {
+        rows = (
+          record {
+            number = short;
+            levels = omega (arith, k .holds .fewLevels);
+            count = omega (arith, k .holds .fewEntries);
+          },
+          tt,
+        );
+        entries = kept-fit n k;
+      }
+
+  only-node : nodeOfRow (oneRow number n) 0 ≡ n
+  unfolding nodeOfRow entryCount
+  only-node = ap (λ es. record { levels = n .levels; entries = es }) (take-length (n .entries))
+
+  each-holds : (i : ℕ) → i < 1 → NodeHolds (nodeOfRow (oneRow number n) i)
+  each-holds zero h = rw only-node (k .holds)
+  each-holds (suc i) h = absurd (omega arith)
+
+  counted : entryCount (oneRow number n .rows) ≡ length (n .entries)
+  unfolding entryCount
+  counted = omega arith
+
+  one-accepted : planCheck (oneRow number n) ≡ accepted
+  one-accepted =
+      plan-limits (oneRow number n) .1
+      (record {
+        some = omega arith;
+        few = omega arith;
+        rising = λ i h. absurd (omega arith);
+        nodes = each-holds;
+        counts = counted;
+      })
+
+  -- its file, whose only row has the node
+  abbrev file : List ℕ
+  file = encoding (oneRow number n)
+
+  one-file : fileCheck file ≡ accepted
+  one-file = accepted-exactly file .1 (oneRow number n, one-fits, one-accepted, refl) .1
+
+  one-plan : planIn file ≡ oneRow number n
+  one-plan = write-read (oneRow number n) one-fits one-accepted
+
+  one-row : 0 < length (planIn file .rows)
+  one-row = omega (arith, ap (λ (p : Plan). length (p .rows)) one-plan)
+
+  one-number : rowIn (planIn file .rows) 0 .number ≡ number
+  one-number = ap (λ (p : Plan). rowIn (p .rows) 0 .number) one-plan
+
+  one-node : nodeOfRow (planIn file) 0 ≡ n
+  one-node = ap (λ (p : Plan). nodeOfRow p 0) one-plan ∙ only-node
+
+-- what words hold has numbers of 16 bits
+kept-in : (s : Session) → NodeHolds (nodeIn s) → Kept (nodeIn s)
+unfolding entryFrom
+kept-in s h =
+    record {
+      holds = h;
+      numbers =
+          λ j l.
+          let i : j < s .count = omega (arith, length-entries (s .words) 0 (s .count)) in
+          rw (entry-of (s .words) (s .count) j i) (omega arith);
+    }
+
+-- The map of a session is that of the same node in a file: in any accepted file, at any row that holds this node, mapped
+-- under that row's number. Answer, count and bytes are the same.
+module _ (s : Session) (f : List ℕ) (a : fileCheck f ≡ accepted) (i number : ℕ) (has : i < length (planIn f .rows))
+    (named : rowIn (planIn f .rows) i .number ≡ number) (same : nodeOfRow (planIn f) i ≡ nodeIn s) where
+  row-checks : nodeCheck 0 (nodeIn s) ≡ accepted
+  row-checks = node-accepted 0 (nodeIn s) .1 (rw (← same) (row-holds f a i number has named))
+
+  -- Mapping the file answers as mapping the session does.
+  pub file-answers : (room : ℕ) → fileAnswer f number room ≡ mapAnswer (nodeIn s) room
+  file-answers room =
+      row-answer f a i number has named room ∙ ap (λ n. heldAnswer n room) same ∙ sym (own-answer (nodeIn s) row-checks room)
+
+  -- And it leaves any buffer as mapping the session does.
+  pub file-writes : (buffer : List ℕ)
+      → left (fileAnswer f number (length buffer)) (mapOf (nodeFound f number)) buffer
+      ≡ left (mapAnswer (nodeIn s) (length buffer)) (mapOf (nodeIn s)) buffer
+  file-writes buffer =
+      rw (file-answers (length buffer), found f a i number has named .1, same)
+
+-- There is such a file, under any number: that of the node as a plan of one row, which the writer accepts.
+module _ (s : Session) (h : Sound s) (number : ℕ) (short : number < 65536) where
+  kept : Kept (nodeIn s)
+  kept = kept-in s (h .within)
+
+  -- The writer accepts that plan.
+  pub one-row-written : planCheck (oneRow number (nodeIn s)) ≡ accepted
+  one-row-written = one-accepted (nodeIn s) kept number short
+
+  -- Its file is accepted, and its only row has the number and the node.
+  pub one-row-read : (fileCheck (encoding (oneRow number (nodeIn s))) ≡ accepted)
+      × (0 < length (planIn (encoding (oneRow number (nodeIn s))) .rows))
+      × (rowIn (planIn (encoding (oneRow number (nodeIn s))) .rows) 0 .number ≡ number)
+      × (nodeOfRow (planIn (encoding (oneRow number (nodeIn s)))) 0 ≡ nodeIn s)
+  one-row-read = (
+    one-file (nodeIn s) kept number short,
+    one-row (nodeIn s) kept number short,
+    one-number (nodeIn s) kept number short,
+    one-node (nodeIn s) kept number short,
+  )
