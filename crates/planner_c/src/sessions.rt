@@ -19,7 +19,7 @@ ghost use Rattle.task_model.specs.Words.{entryFrom};
 ghost use Rattle.completion.specs.Test.{completion};
 ghost use Rattle.level_map.specs.Answer.{mapOf, NodeDemand3};
 ghost use Rattle.session.specs.State.{nodeIn};
-ghost use Rattle.session.specs.Operations.{opening, inserting, removing, replacing, settingLevels};
+ghost use Rattle.session.specs.Operations.{changing, opening, inserting, removing, replacing, settingLevels};
 ghost use Rattle.session.specs.Timing.{timeAnswer};
 ghost use Rattle.session.specs.Mapping.{mapAnswer};
 ghost use Rattle.session.specs.InWords.{sessionIn, wordsLeft};
@@ -65,7 +65,7 @@ pub extern "C" fn maiplur_session_set_levels(
     values: &mut [usize; 2],
 ) -> u32
     ensures { λ a.
-        ⌜ Changes (settingLevels levels) (now (words .entry)) (returned a (now (values .exit))) (now (words .exit)) ⌝ }
+        ⌜ Changes (changing (settingLevels levels)) (now (words .entry)) (returned a (now (values .exit))) (now (words .exit)) ⌝ }
 {
     let s = from_words(*words);
     let c = session::with_levels(s, levels);
@@ -81,7 +81,7 @@ pub extern "C" fn maiplur_session_insert(
     values: &mut [usize; 2],
 ) -> u32
     ensures { λ a.
-        ⌜ Changes (inserting position (entryFrom (now (entry .entry)) 0)) (now (words .entry))
+        ⌜ Changes (changing (inserting position (entryFrom (now (entry .entry)) 0))) (now (words .entry))
         (returned a (now (values .exit))) (now (words .exit)) ⌝ }
 {
     let s = from_words(*words);
@@ -98,7 +98,7 @@ pub extern "C" fn maiplur_session_remove(
     values: &mut [usize; 2],
 ) -> u32
     ensures { λ a.
-        ⌜ Changes (removing position) (now (words .entry)) (returned a (now (values .exit))) (now (words .exit)) ⌝ }
+        ⌜ Changes (changing (removing position)) (now (words .entry)) (returned a (now (values .exit))) (now (words .exit)) ⌝ }
 {
     let s = from_words(*words);
     let c = session::removed(s, position);
@@ -114,7 +114,7 @@ pub extern "C" fn maiplur_session_replace(
     values: &mut [usize; 2],
 ) -> u32
     ensures { λ a.
-        ⌜ Changes (replacing position (entryFrom (now (entry .entry)) 0)) (now (words .entry))
+        ⌜ Changes (changing (replacing position (entryFrom (now (entry .entry)) 0))) (now (words .entry))
         (returned a (now (values .exit))) (now (words .exit)) ⌝ }
 {
     let s = from_words(*words);

@@ -18,7 +18,7 @@ use Rattle.completion.specs.Test.{completionTest}
 use Rattle.task_model.proofs.Outcomes.{then-refused, then-accepted, then-assoc, both-accepted, mustHold-refuses, demanded}
 use Rattle.session.specs.declared.Session.{Session}
 use Rattle.session.specs.State.{nodeIn, sessionOf}
-use Rattle.session.specs.Operations.{Operation, inserting, removing, replacing, settingLevels, timing, levelsCheck, operationCheck, lentCheck, stepCheck, changed}
+use Rattle.session.specs.Operations.{changing, asking, Operation, inserting, removing, replacing, settingLevels, timing, levelsCheck, changeCheck, queryCheck, operationCheck, lentCheck, stepCheck}
 use Rattle.task_model.specs.Answers.{gives, refuses}
 use Rattle.session.specs.Timing.{timeAnswer}
 use Rattle.session.specs.Steps.{sessionMade, sessionAfter, Follows}
@@ -59,63 +59,63 @@ module _ (o : Operation) (n : Node) where
 -- each operation's checks
 module _ (n : Node) (p : ℕ) where
   module _ (e : Entry) where
-    pub insert-outside : length (n .entries) < p → operationCheck (inserting p e) n ≡ refused (at 12 0 0)
-    unfolding operationCheck
+    pub insert-outside : length (n .entries) < p → operationCheck (changing (inserting p e)) n ≡ refused (at 12 0 0)
+    unfolding operationCheck changeCheck queryCheck
     insert-outside h = rw (lt-leb p (length (n .entries)) h)
 
-    pub insert-full : p ≤ length (n .entries) → mostEntries ≤ length (n .entries) → operationCheck (inserting p e) n ≡ refused (at 13 0 0)
-    unfolding operationCheck
+    pub insert-full : p ≤ length (n .entries) → mostEntries ≤ length (n .entries) → operationCheck (changing (inserting p e)) n ≡ refused (at 13 0 0)
+    unfolding operationCheck changeCheck queryCheck
     insert-full h l = rw (le-leb p (length (n .entries)) h, le-ltb (length (n .entries)) mostEntries l)
 
     pub insert-entry : p ≤ length (n .entries) → length (n .entries) < mostEntries
-        → operationCheck (inserting p e) n ≡ entryCheck 0 p e
-    unfolding operationCheck
+        → operationCheck (changing (inserting p e)) n ≡ entryCheck 0 p e
+    unfolding operationCheck changeCheck queryCheck
     insert-entry h l = rw (le-leb p (length (n .entries)) h, lt-ltb (length (n .entries)) mostEntries l)
 
-    pub insert-accepted : operationCheck (inserting p e) n ≡ accepted
+    pub insert-accepted : operationCheck (changing (inserting p e)) n ≡ accepted
         → (p ≤ length (n .entries)) × (length (n .entries) < mostEntries) × (entryCheck 0 p e ≡ accepted)
-    unfolding operationCheck
+    unfolding operationCheck changeCheck queryCheck
     insert-accepted a =
         let q = both-accepted _ _ a in
         let t = both-accepted _ _ (q .1) in
         (leb-true _ _ (demanded _ _ (q .0)), ltb-true _ _ (demanded _ _ (t .0)), t .1)
 
-    pub replace-accepted : operationCheck (replacing p e) n ≡ accepted → (p < length (n .entries)) × (entryCheck 0 p e ≡ accepted)
-    unfolding operationCheck
+    pub replace-accepted : operationCheck (changing (replacing p e)) n ≡ accepted → (p < length (n .entries)) × (entryCheck 0 p e ≡ accepted)
+    unfolding operationCheck changeCheck queryCheck
     replace-accepted a = let q = both-accepted _ _ a in (ltb-true _ _ (demanded _ _ (q .0)), q .1)
 
     -- replacing checks what removing does, and then the entry
-    pub replace-step : stepCheck (replacing p e) n ≡ (stepCheck (removing p) n andThen entryCheck 0 p e)
-    unfolding stepCheck lentCheck operationCheck
+    pub replace-step : stepCheck (changing (replacing p e)) n ≡ (stepCheck (changing (removing p)) n andThen entryCheck 0 p e)
+    unfolding stepCheck lentCheck operationCheck changeCheck
     replace-step = sym (then-assoc (nodeCheck 0 n) _ _)
 
-  pub remove-outside : length (n .entries) ≤ p → operationCheck (removing p) n ≡ refused (at 12 0 0)
-  unfolding operationCheck
+  pub remove-outside : length (n .entries) ≤ p → operationCheck (changing (removing p)) n ≡ refused (at 12 0 0)
+  unfolding operationCheck changeCheck queryCheck
   remove-outside h = rw (le-ltb p (length (n .entries)) h)
 
-  pub remove-inside : p < length (n .entries) → operationCheck (removing p) n ≡ accepted
-  unfolding operationCheck
+  pub remove-inside : p < length (n .entries) → operationCheck (changing (removing p)) n ≡ accepted
+  unfolding operationCheck changeCheck queryCheck
   remove-inside h = rw (lt-ltb p (length (n .entries)) h)
 
-  pub remove-accepted : operationCheck (removing p) n ≡ accepted → p < length (n .entries)
-  unfolding operationCheck
+  pub remove-accepted : operationCheck (changing (removing p)) n ≡ accepted → p < length (n .entries)
+  unfolding operationCheck changeCheck queryCheck
   remove-accepted a = ltb-true _ _ (demanded _ _ a)
 
 module _ (n : Node) (first last i : ℕ) where
-  pub time-before : i < first → operationCheck (timing first last i) n ≡ refused (at 12 0 0)
-  unfolding operationCheck
+  pub time-before : i < first → operationCheck (asking (timing first last i)) n ≡ refused (at 12 0 0)
+  unfolding operationCheck changeCheck queryCheck
   time-before h = rw (lt-leb first i h)
 
-  pub time-after : first ≤ i → last < i → operationCheck (timing first last i) n ≡ refused (at 12 0 0)
-  unfolding operationCheck
+  pub time-after : first ≤ i → last < i → operationCheck (asking (timing first last i)) n ≡ refused (at 12 0 0)
+  unfolding operationCheck changeCheck queryCheck
   time-after h l = rw (le-leb first i h, lt-leb i last l)
 
-  pub time-outside : first ≤ i → i ≤ last → length (n .entries) ≤ last → operationCheck (timing first last i) n ≡ refused (at 12 0 0)
-  unfolding operationCheck
+  pub time-outside : first ≤ i → i ≤ last → length (n .entries) ≤ last → operationCheck (asking (timing first last i)) n ≡ refused (at 12 0 0)
+  unfolding operationCheck changeCheck queryCheck
   time-outside h l m = rw (le-leb first i h, le-leb i last l, le-ltb last (length (n .entries)) m)
 
-  pub time-inside : first ≤ i → i ≤ last → last < length (n .entries) → operationCheck (timing first last i) n ≡ accepted
-  unfolding operationCheck
+  pub time-inside : first ≤ i → i ≤ last → last < length (n .entries) → operationCheck (asking (timing first last i)) n ≡ accepted
+  unfolding operationCheck changeCheck queryCheck
   time-inside h l m = rw (le-leb first i h, le-leb i last l, lt-ltb last (length (n .entries)) m)
 
   time-bounds : leb first i && leb i last && ltb last (length (n .entries)) ≡ true
@@ -126,13 +126,13 @@ module _ (n : Node) (first last i : ℕ) where
       (leb-true _ _ (t .0), leb-true _ _ (t .1), ltb-true _ _ (q .1))
 
   pub time-else : ((first ≤ i) → (i ≤ last) → (last < length (n .entries)) → ⊥)
-      → operationCheck (timing first last i) n ≡ refused (at 12 0 0)
-  unfolding operationCheck
+      → operationCheck (asking (timing first last i)) n ≡ refused (at 12 0 0)
+  unfolding operationCheck changeCheck queryCheck
   time-else out = mustHold-refuses _ _ (decided _ time-bounds (λ h. out (h .0) (h .1) (h .2)))
 
-  pub time-accepted : operationCheck (timing first last i) n ≡ accepted
+  pub time-accepted : operationCheck (asking (timing first last i)) n ≡ accepted
       → (first ≤ i) × (i ≤ last) × (last < length (n .entries))
-  unfolding operationCheck
+  unfolding operationCheck changeCheck queryCheck
   time-accepted a = time-bounds (demanded _ _ a)
 
 -- what a call leaves
@@ -154,11 +154,11 @@ module _ (o : Operation) (s : Session) where
 
 -- timing
 module _ (n : Node) (first last i : ℕ) where
-  pub time-refused : (r : Numbered) → stepCheck (timing first last i) n ≡ refused r → timeAnswer n first last i ≡ refuses r
+  pub time-refused : (r : Numbered) → stepCheck (asking (timing first last i)) n ≡ refused r → timeAnswer n first last i ≡ refuses r
   unfolding timeAnswer
   time-refused r p = rw p
 
-  pub time-given : stepCheck (timing first last i) n ≡ accepted
+  pub time-given : stepCheck (asking (timing first last i)) n ≡ accepted
       → timeAnswer n first last i ≡ gives (completionTest (n .entries) (groupLevel first last) i)
   unfolding timeAnswer
   time-given p = rw p
@@ -172,31 +172,31 @@ module _ (s : Session) where
   few p = omega (arith, node-accepted 0 (nodeIn s) .0 p .fewEntries, sized)
 
   module _ (p : ℕ) where
-    pub insert-ready : (e : Entry) → stepCheck (inserting p e) (nodeIn s) ≡ accepted → (p ≤ s .count) × (s .count < mostEntries)
+    pub insert-ready : (e : Entry) → stepCheck (changing (inserting p e)) (nodeIn s) ≡ accepted → (p ≤ s .count) × (s .count < mostEntries)
     insert-ready e a =
-        let q = insert-accepted (nodeIn s) p e (step-accepted (inserting p e) (nodeIn s) a .1) in
+        let q = insert-accepted (nodeIn s) p e (step-accepted (changing (inserting p e)) (nodeIn s) a .1) in
         (omega (arith, sized), omega (arith, sized))
 
-    pub remove-ready : stepCheck (removing p) (nodeIn s) ≡ accepted → (p < s .count) × (s .count ≤ mostEntries)
+    pub remove-ready : stepCheck (changing (removing p)) (nodeIn s) ≡ accepted → (p < s .count) × (s .count ≤ mostEntries)
     unfolding lentCheck
     remove-ready a =
-        let q = step-accepted (removing p) (nodeIn s) a in
+        let q = step-accepted (changing (removing p)) (nodeIn s) a in
         (omega (arith, sized, remove-accepted (nodeIn s) p (q .1)), few (q .0))
 
-    pub replace-ready : (e : Entry) → stepCheck (replacing p e) (nodeIn s) ≡ accepted → (p < s .count) × (s .count ≤ mostEntries)
+    pub replace-ready : (e : Entry) → stepCheck (changing (replacing p e)) (nodeIn s) ≡ accepted → (p < s .count) × (s .count ≤ mostEntries)
     unfolding lentCheck
     replace-ready e a =
-        let q = step-accepted (replacing p e) (nodeIn s) a in
+        let q = step-accepted (changing (replacing p e)) (nodeIn s) a in
         (omega (arith, sized, replace-accepted (nodeIn s) p e (q .1) .0), few (q .0))
 
-  pub levels-ready : (levels : ℕ) → stepCheck (settingLevels levels) (nodeIn s) ≡ accepted → s .count ≤ mostEntries
+  pub levels-ready : (levels : ℕ) → stepCheck (changing (settingLevels levels)) (nodeIn s) ≡ accepted → s .count ≤ mostEntries
   unfolding lentCheck
-  levels-ready levels a = few (step-accepted (settingLevels levels) (nodeIn s) a .0)
+  levels-ready levels a = few (step-accepted (changing (settingLevels levels)) (nodeIn s) a .0)
 
-  pub time-ready : (first last i : ℕ) → stepCheck (timing first last i) (nodeIn s) ≡ accepted
+  pub time-ready : (first last i : ℕ) → stepCheck (asking (timing first last i)) (nodeIn s) ≡ accepted
       → AllHold (nodeIn s .entries) × ((first ≤ i) × (i ≤ last) × (last < s .count) × (s .count ≤ mostEntries))
   unfolding lentCheck
   time-ready first last i a =
-      let q = step-accepted (timing first last i) (nodeIn s) a in
+      let q = step-accepted (asking (timing first last i)) (nodeIn s) a in
       let t = time-accepted (nodeIn s) first last i (q .1) in
       (node-accepted 0 (nodeIn s) .0 (q .0) .each, (t .0, t .1, omega (arith, sized), few (q .0)))

@@ -14,18 +14,18 @@ use Rattle.level_map.specs.declared.MappedNode.the-variants.{Refused}
 use Rattle.level_map.specs.Answer.{answer, mapOf, heldAnswer, NodeDemand3}
 use Rattle.level_map.proofs.Theorems.{demand-three}
 use Rattle.level_map.proofs.Answers.{Right}
-use Rattle.session.specs.Operations.{mapping, operationCheck, lentCheck}
+use Rattle.session.specs.Operations.{asking, mapping, queryCheck, operationCheck, lentCheck}
 use Rattle.session.specs.Mapping.{mapAnswer, Maps}
 use Rattle.session.proofs.Checking.{lent-stops, lent-goes-on}
 
 module _ (n : Node) where
   forged-answer : (r : Numbered) → nodeCheck 0 n ≡ refused r → (room : ℕ) → mapAnswer n room ≡ refuses r
   unfolding mapAnswer lentCheck
-  forged-answer r p room = rw (lent-stops (mapping room) n r p)
+  forged-answer r p room = rw (lent-stops (asking (mapping room)) n r p)
 
   pub own-answer : nodeCheck 0 n ≡ accepted → (room : ℕ) → mapAnswer n room ≡ heldAnswer n room
-  unfolding mapAnswer heldAnswer lentCheck operationCheck
-  own-answer p room = rw (lent-goes-on (mapping room) n p)
+  unfolding mapAnswer heldAnswer lentCheck operationCheck queryCheck
+  own-answer p room = rw (lent-goes-on (asking (mapping room)) n p)
 
   pub own-demand : nodeCheck 0 n ≡ accepted → (buffer : List ℕ)
       → NodeDemand3 n buffer (mapAnswer n (length buffer)) (left (mapAnswer n (length buffer)) (mapOf n) buffer)

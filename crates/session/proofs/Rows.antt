@@ -10,7 +10,7 @@ use Rattle.task_model.specs.Refusals.{Numbered, accepted, refused}
 use Rattle.task_model.specs.Limits.{mostLevels, mostEntries, Node, EntryHolds, NodeHolds}
 use Rattle.task_model.proofs.Theorems.{either, entry-accepted, node-accepted}
 use Rattle.session.specs.State.{nodeIn, sessionOf}
-use Rattle.session.specs.Operations.{Operation, opening, inserting, removing, replacing, settingLevels, mapping, timing, Callable, AllCallable, operationCheck, emptyNode, changed, nodeAfter, nodeAfterAll, answersAll, lentCheck, stepCheck}
+use Rattle.session.specs.Operations.{Change, Operation, opening, changing, asking, inserting, removing, replacing, settingLevels, CallableChange, Callable, AllCallable, changeCheck, operationCheck, emptyNode, changed, made, nodeAfter, nodeAfterAll, answersAll, lentCheck, stepCheck}
 use Rattle.session.specs.Steps.{sessionMade, sessionAfter, sessionAfterAll, answersOf}
 use Rattle.session.proofs.Entries.{Each, each-of, of-each, each-inserted, each-removed, each-replaced}
 use Rattle.session.proofs.Building.{size-inserted, size-removed, size-replaced}
@@ -50,10 +50,9 @@ module _ (n : Node) (k : Kept n) where
   short : Each Short (n .entries)
   short = each-of Short (n .entries) (k .numbers)
 
-  -- an accepted operation keeps a node within the limits
-  pub kept-changed : (o : Operation) → Callable o → operationCheck o n ≡ accepted → Kept (changed o n)
-  unfolding changed operationCheck
-  kept-changed (opening levels) c a = let h = levels-accepted levels a in kept-empty levels (h .0) (h .1)
+  -- an accepted change keeps a node within the limits, and so does any accepted operation
+  kept-changed : (c : Change) → CallableChange c → operationCheck (changing c) n ≡ accepted → Kept (changed c n)
+  unfolding changed operationCheck changeCheck
   kept-changed (inserting p e) c a =
       let h = insert-accepted n p e a in
       kept-with n _ k (omega (arith, size-inserted (n .entries) e p (h .0)))
@@ -74,11 +73,15 @@ module _ (n : Node) (k : Kept n) where
         holds = record { someLevels = h .0; fewLevels = h .1; fewEntries = k .holds .fewEntries; each = k .holds .each };
         numbers = k .numbers;
       }
-  kept-changed (mapping room) c a = k
-  kept-changed (timing first last i) c a = k
+
+  pub kept-made : (o : Operation) → Callable o → operationCheck o n ≡ accepted → Kept (made o n)
+  unfolding operationCheck
+  kept-made (opening levels) c a = let h = levels-accepted levels a in kept-empty levels (h .0) (h .1)
+  kept-made (changing x) c a = kept-changed x c a
+  kept-made (asking q) c a = k
 
 module _ (o : Operation) (n : Node) where
-  node-changed : operationCheck o n ≡ accepted → nodeAfter o n ≡ changed o n
+  node-changed : operationCheck o n ≡ accepted → nodeAfter o n ≡ made o n
   unfolding nodeAfter
   node-changed p = rw (p, nodeAfter)
 
@@ -90,26 +93,17 @@ module _ (o : Operation) (n : Node) where
 pub lent-within : (o : Operation) (n : Node) → NodeHolds n → lentCheck o n ≡ accepted
 unfolding lentCheck
 lent-within (opening levels) n h = refl
-lent-within (inserting p e) n h = node-accepted 0 n .1 h
-lent-within (removing p) n h = node-accepted 0 n .1 h
-lent-within (replacing p e) n h = node-accepted 0 n .1 h
-lent-within (settingLevels levels) n h = node-accepted 0 n .1 h
-lent-within (mapping room) n h = node-accepted 0 n .1 h
-lent-within (timing first last i) n h = node-accepted 0 n .1 h
+lent-within (changing c) n h = node-accepted 0 n .1 h
+lent-within (asking q) n h = node-accepted 0 n .1 h
 
 pub own-checks : (o : Operation) (n : Node) → NodeHolds n → stepCheck o n ≡ operationCheck o n
 own-checks o n h = lent-goes-on o n (lent-within o n h)
 
 -- what an operation makes of the session of a node is the session of what it makes of the node
-made-session : (o : Operation) (n : Node) → Kept n → sessionMade o (sessionOf n) ≡ sessionOf (changed o n)
-unfolding changed
+made-session : (o : Operation) (n : Node) → Kept n → sessionMade o (sessionOf n) ≡ sessionOf (made o n)
 made-session (opening levels) n k = refl
-made-session (inserting p e) n k = ap (λ m. sessionOf (changed (inserting p e) m)) (read-back n k)
-made-session (removing p) n k = ap (λ m. sessionOf (changed (removing p) m)) (read-back n k)
-made-session (replacing p e) n k = ap (λ m. sessionOf (changed (replacing p e) m)) (read-back n k)
-made-session (settingLevels levels) n k = ap (λ m. sessionOf (changed (settingLevels levels) m)) (read-back n k)
-made-session (mapping room) n k = refl
-made-session (timing first last i) n k = refl
+made-session (changing c) n k = ap (λ m. sessionOf (changed c m)) (read-back n k)
+made-session (asking q) n k = refl
 
 -- one step
 module _ (o : Operation) (n : Node) (k : Kept n) where
@@ -129,7 +123,7 @@ module _ (o : Operation) (n : Node) (k : Kept n) where
   step-kept : Callable o → Kept (nodeAfter o n)
   step-kept c =
       ⊎-elim
-      (λ p. rw (node-changed o n p) (kept-changed n k o c p))
+      (λ p. rw (node-changed o n p) (kept-made n k o c p))
       (λ p. rw (node-kept o n (p .0) (p .1)) k)
       (either (operationCheck o n))
 

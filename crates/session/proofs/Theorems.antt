@@ -19,11 +19,11 @@ use Rattle.completion.proofs.Theorems.{timing-right}
 use Rattle.level_map.specs.Answer.{mapOf, heldAnswer, NodeDemand3}
 use Rattle.session.specs.declared.Session.{Session}
 use Rattle.session.specs.State.{nodeIn, sessionOf, Sound, zeros, blankSession}
-use Rattle.session.specs.Operations.{Operation, opening, inserting, removing, replacing, settingLevels, mapping, timing, AllCallable, operationCheck, emptyNode, nodeAfterAll, answersAll, lentCheck, stepCheck, changed}
+use Rattle.session.specs.Operations.{Query, Operation, opening, changing, asking, inserting, mapping, timing, AllCallable, operationCheck, emptyNode, nodeAfterAll, answersAll, lentCheck, stepCheck}
 use Rattle.task_model.specs.Answers.{gives, refuses, left}
 use Rattle.session.specs.Timing.{timeAnswer}
 use Rattle.session.specs.Mapping.{mapAnswer}
-use Rattle.session.specs.Steps.{sessionMade, sessionAfter, sessionAfterAll, answersOf}
+use Rattle.session.specs.Steps.{sessionAfter, sessionAfterAll, answersOf}
 use Rattle.session.specs.InWords.{sessionSize, sessionIn, wordsIn, wordsAfter, wordsAfterAll}
 use Rattle.session.proofs.Reading.{Kept, read-back}
 use Rattle.session.proofs.Checking.{levels-within, lent-stops, insert-outside, insert-full, time-inside, time-else, time-refused, time-given, time-ready, after-refused, after-accepted}
@@ -39,7 +39,6 @@ module _ (levels : ℕ) (some : 1 ≤ levels) (few : levels ≤ mostLevels) (os 
   opened-accepted = levels-within levels some few
 
   opened-session : sessionAfter (opening levels) s ≡ sessionOf (emptyNode levels)
-  unfolding changed
   opened-session = after-accepted (opening levels) s opened-accepted
 
   opened-kept : Kept (emptyNode levels)
@@ -88,12 +87,8 @@ pub forged-refused : (o : Operation) (s : Session) (r : Numbered) → ((levels :
     → nodeCheck 0 (nodeIn s) ≡ refused r → stepCheck o (nodeIn s) ≡ refused r
 unfolding lentCheck
 forged-refused (opening levels) s r out p = absurd (out levels refl)
-forged-refused (inserting position e) s r out p = lent-stops (inserting position e) (nodeIn s) r p
-forged-refused (removing position) s r out p = lent-stops (removing position) (nodeIn s) r p
-forged-refused (replacing position e) s r out p = lent-stops (replacing position e) (nodeIn s) r p
-forged-refused (settingLevels levels) s r out p = lent-stops (settingLevels levels) (nodeIn s) r p
-forged-refused (mapping room) s r out p = lent-stops (mapping room) (nodeIn s) r p
-forged-refused (timing first last i) s r out p = lent-stops (timing first last i) (nodeIn s) r p
+forged-refused (changing c) s r out p = lent-stops (changing c) (nodeIn s) r p
+forged-refused (asking q) s r out p = lent-stops (asking q) (nodeIn s) r p
 
 -- A blank session is turned back with 4.
 pub blank-refused : (o : Operation) → ((levels : ℕ) → o ≡ opening levels → ⊥)
@@ -102,10 +97,10 @@ blank-refused o out = forged-refused o blankSession (at 4 0 0) out (node-sizes 0
 
 -- With 64 entries an insert at 64 is 13 and at 65 is 12.
 module _ (n : Node) (full : length (n .entries) ≡ 64) (e : Entry) where
-  pub insert-at-64 : operationCheck (inserting 64 e) n ≡ refused (at 13 0 0)
+  pub insert-at-64 : operationCheck (changing (inserting 64 e)) n ≡ refused (at 13 0 0)
   insert-at-64 = insert-full n 64 e (omega arith) (omega arith)
 
-  pub insert-at-65 : operationCheck (inserting 65 e) n ≡ refused (at 12 0 0)
+  pub insert-at-65 : operationCheck (changing (inserting 65 e)) n ≡ refused (at 12 0 0)
   insert-at-65 = insert-outside n 65 e (omega arith)
 
 -- Timing in a sound session is the completion time test, for any group bounds in the list, and 12 for all others.
@@ -113,13 +108,13 @@ module _ (s : Session) (h : Sound s) (first last i : ℕ) where
   pub time-follows : first ≤ i → i ≤ last → last < length (nodeIn s .entries)
       → timeAnswer (nodeIn s) first last i ≡ gives (completionTest (nodeIn s .entries) (groupLevel first last) i)
   time-follows hf hi hl =
-      time-given (nodeIn s) first last i (sound-checks (timing first last i) s h ∙ time-inside (nodeIn s) first last i hf hi hl)
+      time-given (nodeIn s) first last i (sound-checks (asking (timing first last i)) s h ∙ time-inside (nodeIn s) first last i hf hi hl)
 
   pub time-refuses : ((first ≤ i) → (i ≤ last) → (last < length (nodeIn s .entries)) → ⊥)
       → timeAnswer (nodeIn s) first last i ≡ refuses (at 12 0 0)
   time-refuses out =
       time-refused (nodeIn s) first last i (at 12 0 0)
-      (sound-checks (timing first last i) s h ∙ time-else (nodeIn s) first last i out)
+      (sound-checks (asking (timing first last i)) s h ∙ time-else (nodeIn s) first last i out)
 
 -- What timing answers is right, whatever the session holds: the completion time is the least, an entry is late exactly if
 -- there is none up to its deadline, and the rounds are within their bound.
@@ -132,7 +127,7 @@ time-right s first last i o p =
     let t = time-given (nodeIn s) first last i a in
     timing-right (nodeIn s .entries) (q .0) (groupLevel first last) i (omega (arith, length-entries (s .words) 0 (s .count))) o (cc))
     (λ a. let t = time-refused (nodeIn s) first last i (a .0) (a .1) in absurd (let z : _≡_ {A = ℕ} 0 1 = cc in omega arith))
-    (either (stepCheck (timing first last i) (nodeIn s)))
+    (either (stepCheck (asking (timing first last i)) (nodeIn s)))
 
 -- So a completion time is never 0.
 pub time-some : (s : Session) (first last i time rounds : ℕ)
@@ -141,9 +136,9 @@ time-some s first last i time rounds p = time-right s first last i (on-time time
 
 -- Mapping, as an operation of a row, is refused exactly as its answer says; on any session.
 pub map-refusal : (s : Session) (room : ℕ) (r : Numbered)
-    → stepCheck (mapping room) (nodeIn s) ≡ refused r ↔ mapAnswer (nodeIn s) room ≡ refuses r
+    → stepCheck (asking (mapping room)) (nodeIn s) ≡ refused r ↔ mapAnswer (nodeIn s) room ≡ refuses r
 unfolding mapAnswer
-map-refusal s room r = ((λ p. rw p), λ p. giving-refuses (stepCheck (mapping room) (nodeIn s)) _ r (sym p))
+map-refusal s room r = ((λ p. rw p), λ p. giving-refuses (stepCheck (asking (mapping room)) (nodeIn s)) _ r (sym p))
 
 -- Mapping a sound session checks 10, then 11, and answers and writes as mapping a node at hand does.
 module _ (s : Session) (h : Sound s) where
@@ -181,18 +176,12 @@ pub words-unchanged : (o : Operation) (w : List ℕ) (r : Numbered) → stepChec
 words-unchanged o w r p = words-refused o w r p
 
 -- Mapping and timing leave them untouched, whatever they answer.
-words-read : (o : Operation) (w : List ℕ) → length w ≡ sessionSize → sessionMade o (sessionIn w) ≡ sessionIn w → wordsAfter o w ≡ w
-words-read o w h q =
+pub words-asked : (q : Query) (w : List ℕ) → length w ≡ sessionSize → wordsAfter (asking q) w ≡ w
+words-asked q w h =
     ⊎-elim
-    (λ p. words-accepted o w p ∙ ap wordsIn (after-accepted o (sessionIn w) p ∙ q) ∙ words-back w h)
-    (λ p. words-refused o w (p .0) (p .1))
-    (either (stepCheck o (nodeIn (sessionIn w))))
-
-pub words-mapped : (room : ℕ) (w : List ℕ) → length w ≡ sessionSize → wordsAfter (mapping room) w ≡ w
-words-mapped room w h = words-read (mapping room) w h refl
-
-pub words-timed : (first last i : ℕ) (w : List ℕ) → length w ≡ sessionSize → wordsAfter (timing first last i) w ≡ w
-words-timed first last i w h = words-read (timing first last i) w h refl
+    (λ p. words-accepted (asking q) w p ∙ ap wordsIn (after-accepted (asking q) (sessionIn w) p) ∙ words-back w h)
+    (λ p. words-refused (asking q) w (p .0) (p .1))
+    (either (stepCheck (asking q) (nodeIn (sessionIn w))))
 
 -- After any row of operations the words hold the session after that row, so what is said of sessions above holds of them.
 pub words-follow : (os : List Operation) (w : List ℕ) → sessionIn (wordsAfterAll os w) ≡ sessionAfterAll os (sessionIn w)

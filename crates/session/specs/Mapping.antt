@@ -10,11 +10,11 @@ use Rattle.task_model.specs.Checks.{nodeCheck}
 use Rattle.level_map.specs.declared.MappedNode.{MappedNode}
 use Rattle.level_map.specs.Assignments.{levelsUsed}
 use Rattle.level_map.specs.Answer.{answer, mapOf, NodeDemand3}
-use Rattle.session.specs.Operations.{mapping, stepCheck}
+use Rattle.session.specs.Operations.{asking, mapping, stepCheck}
 
 -- The checks, and then the count of the levels of the node's map.
 unfoldable pub mapAnswer : Node → ℕ → Answer ℕ
-mapAnswer n room = giving (stepCheck (mapping room) n) (levelsUsed (mapOf n))
+mapAnswer n room = giving (stepCheck (asking (mapping room)) n) (levelsUsed (mapOf n))
 
 -- Mapping n into a buffer answers a and leaves the buffer as `after`: the map from its start, one byte an entry, and the
 -- bytes beyond kept; a refusal leaves it untouched. Of a node that may be lent this is promise 3 of docs/SPEC.md: refused

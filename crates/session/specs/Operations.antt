@@ -11,28 +11,38 @@ use Rattle.task_model.specs.Limits.{mostLevels, mostEntries, Node}
 use Rattle.task_model.specs.Checks.{entryCheck, nodeCheck}
 use Rattle.level_map.specs.Answer.{heldCheck}
 
-pub data Operation : Type 0 where
-  -- open a session with a level count
-  opening : (levels : ℕ) → Operation
+-- The changes of an open session.
+pub data Change : Type 0 where
   -- insert before a position; just after the last entry it appends
-  inserting : (position : ℕ) (e : Entry) → Operation
-  removing : (position : ℕ) → Operation
-  replacing : (position : ℕ) (e : Entry) → Operation
-  settingLevels : (levels : ℕ) → Operation
+  inserting : (position : ℕ) (e : Entry) → Change
+  removing : (position : ℕ) → Change
+  replacing : (position : ℕ) (e : Entry) → Change
+  settingLevels : (levels : ℕ) → Change
+
+-- What an open session is asked; it is only read.
+pub data Query : Type 0 where
   -- map into a buffer of `room` bytes
-  mapping : (room : ℕ) → Operation
+  mapping : (room : ℕ) → Query
   -- time the entry at i in the group from `first` to `last`
-  timing : (first last i : ℕ) → Operation
+  timing : (first last i : ℕ) → Query
+
+pub data Operation : Type 0 where
+  -- open a session with a level count, whatever was held before
+  opening : (levels : ℕ) → Operation
+  changing : Change → Operation
+  asking : Query → Operation
 
 -- An operation as a program can call it: the number of an entry has 16 bits.
+abbrev pub CallableChange : Change → Type 0
+CallableChange (inserting position e) = e .number < 65536
+CallableChange (removing position) = Unit
+CallableChange (replacing position e) = e .number < 65536
+CallableChange (settingLevels levels) = Unit
+
 abbrev pub Callable : Operation → Type 0
 Callable (opening levels) = Unit
-Callable (inserting position e) = e .number < 65536
-Callable (removing position) = Unit
-Callable (replacing position e) = e .number < 65536
-Callable (settingLevels levels) = Unit
-Callable (mapping room) = Unit
-Callable (timing first last i) = Unit
+Callable (changing c) = CallableChange c
+Callable (asking q) = Unit
 
 abbrev pub AllCallable : List Operation → Type 0
 AllCallable [] = Unit
@@ -42,21 +52,28 @@ AllCallable (o ∷ os) = Callable o × AllCallable os
 unfoldable pub levelsCheck : ℕ → Outcome
 levelsCheck levels = mustHold (leb 1 levels && leb levels mostLevels) (at 4 0 0)
 
--- The checks of an operation on a node, in their order. Opening and setting levels: 4. Insert: 12, 13, 7, 8. Replace: 12,
--- 7, 8. Remove and timing: 12. Mapping: 10, 11.
-unfoldable pub operationCheck : Operation → Node → Outcome
-operationCheck (opening levels) n = levelsCheck levels
-operationCheck (inserting position e) n =
+-- The checks of a change of a node, in their order. Insert: 12, 13, 7, 8. Remove: 12. Replace: 12, 7, 8. Setting levels: 4.
+unfoldable pub changeCheck : Change → Node → Outcome
+changeCheck (inserting position e) n =
     mustHold (leb position (length (n .entries))) (at 12 0 0)
     andThen mustHold (ltb (length (n .entries)) mostEntries) (at 13 0 0)
     andThen entryCheck 0 position e
-operationCheck (removing position) n = mustHold (ltb position (length (n .entries))) (at 12 0 0)
-operationCheck (replacing position e) n =
+changeCheck (removing position) n = mustHold (ltb position (length (n .entries))) (at 12 0 0)
+changeCheck (replacing position e) n =
     mustHold (ltb position (length (n .entries))) (at 12 0 0) andThen entryCheck 0 position e
-operationCheck (settingLevels levels) n = levelsCheck levels
-operationCheck (mapping room) n = heldCheck n room
-operationCheck (timing first last i) n =
+changeCheck (settingLevels levels) n = levelsCheck levels
+
+-- Those of a query. Mapping: 10, 11. Timing: 12.
+unfoldable pub queryCheck : Query → Node → Outcome
+queryCheck (mapping room) n = heldCheck n room
+queryCheck (timing first last i) n =
     mustHold (leb first i && leb i last && ltb last (length (n .entries))) (at 12 0 0)
+
+-- Those of an operation. Opening: 4.
+unfoldable pub operationCheck : Operation → Node → Outcome
+operationCheck (opening levels) n = levelsCheck levels
+operationCheck (changing c) n = changeCheck c n
+operationCheck (asking q) n = queryCheck q n
 
 -- Lists: an entry more before a position, one less, and one in the place of another.
 abbrev pub insertAt : ℕ → Entry → List Entry → List Entry
@@ -72,21 +89,24 @@ replaceAt position e es = take position es ++ e ∷ drop (suc position) es
 abbrev pub emptyNode : ℕ → Node
 emptyNode levels = record { levels = levels; entries = [] }
 
--- What an accepted operation makes of a node.
-unfoldable pub changed : Operation → Node → Node
-changed (opening levels) n = emptyNode levels
+-- What an accepted change makes of a node.
+unfoldable pub changed : Change → Node → Node
 changed (inserting position e) n = record { levels = n .levels; entries = insertAt position e (n .entries) }
 changed (removing position) n = record { levels = n .levels; entries = removeAt position (n .entries) }
 changed (replacing position e) n = record { levels = n .levels; entries = replaceAt position e (n .entries) }
 changed (settingLevels levels) n = record { levels = levels; entries = n .entries }
-changed (mapping room) n = n
-changed (timing first last i) n = n
+
+-- What an accepted operation makes of it; a query makes nothing.
+abbrev pub made : Operation → Node → Node
+made (opening levels) n = emptyNode levels
+made (changing c) n = changed c n
+made (asking q) n = n
 
 -- A node after an operation: a refused one changes nothing.
 unfoldable pub nodeAfter : Operation → Node → Node
 nodeAfter o n =
     elim (operationCheck o n) [
-      | accepted ↦ changed o n
+      | accepted ↦ made o n
       | refused r ↦ n
     ]
 
@@ -104,12 +124,8 @@ answersAll (o ∷ os) n = operationCheck o n ∷ answersAll os (nodeAfter o n)
 -- lent.
 unfoldable pub lentCheck : Operation → Node → Outcome
 lentCheck (opening levels) n = accepted
-lentCheck (inserting position e) n = nodeCheck 0 n
-lentCheck (removing position) n = nodeCheck 0 n
-lentCheck (replacing position e) n = nodeCheck 0 n
-lentCheck (settingLevels levels) n = nodeCheck 0 n
-lentCheck (mapping room) n = nodeCheck 0 n
-lentCheck (timing first last i) n = nodeCheck 0 n
+lentCheck (changing c) n = nodeCheck 0 n
+lentCheck (asking q) n = nodeCheck 0 n
 
 -- All checks of a call: those of the session that is lent, then the operation's own.
 unfoldable pub stepCheck : Operation → Node → Outcome

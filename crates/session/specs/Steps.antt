@@ -5,17 +5,13 @@ use Rattle.task_model.specs.declared.Checked.{Checked}
 use Rattle.task_model.specs.Refusals.{Outcome, accepted, refused, outcome}
 use Rattle.session.specs.declared.Session.{Session}
 use Rattle.session.specs.State.{nodeIn, sessionOf}
-use Rattle.session.specs.Operations.{Operation, opening, inserting, removing, replacing, settingLevels, mapping, timing, stepCheck, changed}
+use Rattle.session.specs.Operations.{Operation, opening, changing, asking, emptyNode, changed, stepCheck}
 
--- What an accepted operation makes of a session: a change makes that of the changed node; mapping and timing only read.
+-- What an accepted operation makes of a session: that of an empty node, that of the changed node, or, for a query, nothing.
 abbrev pub sessionMade : Operation → Session → Session
-sessionMade (opening levels) s = sessionOf (changed (opening levels) (nodeIn s))
-sessionMade (inserting position e) s = sessionOf (changed (inserting position e) (nodeIn s))
-sessionMade (removing position) s = sessionOf (changed (removing position) (nodeIn s))
-sessionMade (replacing position e) s = sessionOf (changed (replacing position e) (nodeIn s))
-sessionMade (settingLevels levels) s = sessionOf (changed (settingLevels levels) (nodeIn s))
-sessionMade (mapping room) s = s
-sessionMade (timing first last i) s = s
+sessionMade (opening levels) s = sessionOf (emptyNode levels)
+sessionMade (changing c) s = sessionOf (changed c (nodeIn s))
+sessionMade (asking q) s = s
 
 -- The session after an operation; a refused one leaves it as it was.
 unfoldable pub sessionAfter : Operation → Session → Session

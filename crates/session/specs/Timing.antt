@@ -6,7 +6,7 @@ use Rattle.completion.specs.Group.{groupLevel}
 use Rattle.completion.specs.Test.{Completion, completion, completionTest}
 use Rattle.session.specs.declared.TimeAnswer.{TimeAnswer}
 use Rattle.session.specs.declared.TimeAnswer.the-variants.{Answered, Refused}
-use Rattle.session.specs.Operations.{timing, stepCheck}
+use Rattle.session.specs.Operations.{asking, timing, stepCheck}
 use Rattle.task_model.specs.Answers.{Answer, gives, refuses, giving}
 
 -- What the code's answer says: on time, with the completion time and the rounds, or late, with the rounds; or the refusal.
@@ -18,4 +18,4 @@ timeGives (Refused r) = refuses (numbered r)
 -- the group are more urgent.
 unfoldable pub timeAnswer : Node → ℕ → ℕ → ℕ → Answer Completion
 timeAnswer n first last i =
-    giving (stepCheck (timing first last i) n) (completionTest (n .entries) (groupLevel first last) i)
+    giving (stepCheck (asking (timing first last i)) n) (completionTest (n .entries) (groupLevel first last) i)

@@ -11,7 +11,7 @@ ghost use mathlib.Core.Path.{_≡_};
 ghost use Rattle.task_model.specs.Refusals.{outcome};
 ghost use Rattle.task_model.specs.Checks.{nodeCheck};
 ghost use Rattle.session.specs.State.{nodeIn};
-ghost use Rattle.session.specs.Operations.{inserting, removing, replacing, settingLevels, timing, levelsCheck, stepCheck};
+ghost use Rattle.session.specs.Operations.{changing, asking, inserting, removing, replacing, settingLevels, timing, levelsCheck, stepCheck};
 
 // Checks a session that is lent as a node of a file is checked: 4, then 7 and 8 with the place.
 pub fn check_session(s: Session) -> Checked
@@ -40,7 +40,7 @@ pub fn check_levels(levels: u8) -> Checked
 // Accepts a position before which an entry may be inserted (12), a list that is not full (13), and an entry within the
 // limits (7, 8).
 pub fn check_insert(s: Session, position: usize, e: Entry) -> Checked
-    ensures { λ a. ⌜ outcome a ≡ stepCheck (inserting position e) (nodeIn s) ⌝ }
+    ensures { λ a. ⌜ outcome a ≡ stepCheck (changing (inserting position e)) (nodeIn s) ⌝ }
 {
     let found = check_session(s);
     let Checked::Accepted = found else {
@@ -58,7 +58,7 @@ pub fn check_insert(s: Session, position: usize, e: Entry) -> Checked
 
 // Accepts the position of an entry (12).
 pub fn check_remove(s: Session, position: usize) -> Checked
-    ensures { λ a. ⌜ outcome a ≡ stepCheck (removing position) (nodeIn s) ⌝ }
+    ensures { λ a. ⌜ outcome a ≡ stepCheck (changing (removing position)) (nodeIn s) ⌝ }
 {
     let found = check_session(s);
     let Checked::Accepted = found else {
@@ -72,7 +72,7 @@ pub fn check_remove(s: Session, position: usize) -> Checked
 
 // Accepts the position of an entry (12), and an entry within the limits (7, 8).
 pub fn check_replace(s: Session, position: usize, e: Entry) -> Checked
-    ensures { λ a. ⌜ outcome a ≡ stepCheck (replacing position e) (nodeIn s) ⌝ }
+    ensures { λ a. ⌜ outcome a ≡ stepCheck (changing (replacing position e)) (nodeIn s) ⌝ }
 {
     let found = check_remove(s, position);
     let Checked::Accepted = found else {
@@ -83,7 +83,7 @@ pub fn check_replace(s: Session, position: usize, e: Entry) -> Checked
 
 // Accepts 1 to 64 levels (4) for a session that is open.
 pub fn check_set_levels(s: Session, levels: u8) -> Checked
-    ensures { λ a. ⌜ outcome a ≡ stepCheck (settingLevels levels) (nodeIn s) ⌝ }
+    ensures { λ a. ⌜ outcome a ≡ stepCheck (changing (settingLevels levels)) (nodeIn s) ⌝ }
 {
     let found = check_session(s);
     let Checked::Accepted = found else {
@@ -94,7 +94,7 @@ pub fn check_set_levels(s: Session, levels: u8) -> Checked
 
 // Accepts a group of the list, and an entry in it (12).
 pub fn check_time(s: Session, first: usize, last: usize, i: usize) -> Checked
-    ensures { λ a. ⌜ outcome a ≡ stepCheck (timing first last i) (nodeIn s) ⌝ }
+    ensures { λ a. ⌜ outcome a ≡ stepCheck (asking (timing first last i)) (nodeIn s) ⌝ }
 {
     let found = check_session(s);
     let Checked::Accepted = found else {

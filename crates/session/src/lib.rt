@@ -24,7 +24,7 @@ use task_model::NodeWords;
 use task_model::Refusal;
 ghost use mathlib.Core.Path.{_≡_};
 ghost use Rattle.session.specs.State.{nodeIn, blankSession};
-ghost use Rattle.session.specs.Operations.{opening, inserting, removing, replacing, settingLevels};
+ghost use Rattle.session.specs.Operations.{changing, opening, inserting, removing, replacing, settingLevels};
 ghost use Rattle.session.specs.Steps.{Follows};
 ghost use Rattle.session.specs.Mapping.{Maps};
 ghost use Rattle.session.specs.Timing.{timeGives, timeAnswer};
@@ -87,7 +87,7 @@ pub fn opened(s: Session, levels: u8) -> Changed
 
 // Inserts an entry before a position; just after the last entry it appends.
 pub fn inserted(s: Session, position: usize, e: Entry) -> Changed
-    ensures { λ c. ⌜ Follows (inserting position e) s (c .answer) (c .session) ⌝ }
+    ensures { λ c. ⌜ Follows (changing (inserting position e)) s (c .answer) (c .session) ⌝ }
 {
     let answer = check_insert(s, position, e);
     let Checked::Accepted = answer else {
@@ -99,7 +99,7 @@ pub fn inserted(s: Session, position: usize, e: Entry) -> Changed
 
 // Removes the entry at a position.
 pub fn removed(s: Session, position: usize) -> Changed
-    ensures { λ c. ⌜ Follows (removing position) s (c .answer) (c .session) ⌝ }
+    ensures { λ c. ⌜ Follows (changing (removing position)) s (c .answer) (c .session) ⌝ }
 {
     let answer = check_remove(s, position);
     let Checked::Accepted = answer else {
@@ -111,7 +111,7 @@ pub fn removed(s: Session, position: usize) -> Changed
 
 // Replaces the entry at a position.
 pub fn replaced(s: Session, position: usize, e: Entry) -> Changed
-    ensures { λ c. ⌜ Follows (replacing position e) s (c .answer) (c .session) ⌝ }
+    ensures { λ c. ⌜ Follows (changing (replacing position e)) s (c .answer) (c .session) ⌝ }
 {
     let answer = check_replace(s, position, e);
     let Checked::Accepted = answer else {
@@ -123,7 +123,7 @@ pub fn replaced(s: Session, position: usize, e: Entry) -> Changed
 
 // Sets the level count.
 pub fn with_levels(s: Session, levels: u8) -> Changed
-    ensures { λ c. ⌜ Follows (settingLevels levels) s (c .answer) (c .session) ⌝ }
+    ensures { λ c. ⌜ Follows (changing (settingLevels levels)) s (c .answer) (c .session) ⌝ }
 {
     let answer = check_set_levels(s, levels);
     let Checked::Accepted = answer else {
@@ -168,7 +168,7 @@ pub fn open(s: &mut Session, levels: u8) -> Checked
 
 // Sets the level count (4).
 pub fn set_levels(s: &mut Session, levels: u8) -> Checked
-    ensures { λ a. ⌜ Follows (settingLevels levels) (now (s .entry)) a (now (s .exit)) ⌝ }
+    ensures { λ a. ⌜ Follows (changing (settingLevels levels)) (now (s .entry)) a (now (s .exit)) ⌝ }
 {
     let c = with_levels(*s, levels);
     *s = c.session;
@@ -177,7 +177,7 @@ pub fn set_levels(s: &mut Session, levels: u8) -> Checked
 
 // Inserts an entry before a position, or just after the last entry (12, 13, 7, 8).
 pub fn insert(s: &mut Session, position: usize, e: Entry) -> Checked
-    ensures { λ a. ⌜ Follows (inserting position e) (now (s .entry)) a (now (s .exit)) ⌝ }
+    ensures { λ a. ⌜ Follows (changing (inserting position e)) (now (s .entry)) a (now (s .exit)) ⌝ }
 {
     let c = inserted(*s, position, e);
     *s = c.session;
@@ -186,7 +186,7 @@ pub fn insert(s: &mut Session, position: usize, e: Entry) -> Checked
 
 // Removes the entry at a position (12).
 pub fn remove(s: &mut Session, position: usize) -> Checked
-    ensures { λ a. ⌜ Follows (removing position) (now (s .entry)) a (now (s .exit)) ⌝ }
+    ensures { λ a. ⌜ Follows (changing (removing position)) (now (s .entry)) a (now (s .exit)) ⌝ }
 {
     let c = removed(*s, position);
     *s = c.session;
@@ -195,7 +195,7 @@ pub fn remove(s: &mut Session, position: usize) -> Checked
 
 // Replaces the entry at a position (12, 7, 8).
 pub fn replace(s: &mut Session, position: usize, e: Entry) -> Checked
-    ensures { λ a. ⌜ Follows (replacing position e) (now (s .entry)) a (now (s .exit)) ⌝ }
+    ensures { λ a. ⌜ Follows (changing (replacing position e)) (now (s .entry)) a (now (s .exit)) ⌝ }
 {
     let c = replaced(*s, position, e);
     *s = c.session;

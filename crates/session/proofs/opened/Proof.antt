@@ -2,7 +2,7 @@ use mathlib.Core.Path.{refl, ap}
 use Rattle.task_model.specs.Refusals.{outcome}
 use Rattle.task_model.specs.Words.{wordsOf}
 use Rattle.session.specs.State.{filled, sessionOf}
-use Rattle.session.specs.Operations.{lentCheck, operationCheck, stepCheck, changed}
+use Rattle.session.specs.Operations.{lentCheck, operationCheck, stepCheck}
 use Rattle.session.proofs.Checking.{follows-refused, follows-accepted}
 use borrow.Author.Needs.{needs}
 use Rattle.session.proofs.opened.Statement.{statement}
@@ -22,7 +22,7 @@ unfolding stepCheck lentCheck operationCheck
 returns c = follows-refused _ _ _ _ (c .before .before .check-levels .ensures) (ap outcome (c .enum-told2 .given .1))
 
 returns-2 : tie.Need-returns-2
-unfolding stepCheck lentCheck operationCheck changed sessionOf filled wordsOf
+unfolding stepCheck lentCheck operationCheck sessionOf filled wordsOf
 returns-2 c =
     follows-accepted _ _ _ _ (c .before .before .check-levels .ensures) (ap outcome (c .enum-told .given .1)) refl
 

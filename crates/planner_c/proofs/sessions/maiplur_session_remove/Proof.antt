@@ -1,4 +1,4 @@
-use Rattle.session.specs.Operations.{removing}
+use Rattle.session.specs.Operations.{changing, removing}
 use Rattle.planner_c.proofs.Changing.{changes}
 use borrow.Author.Needs.{needs}
 use Rattle.planner_c.proofs.sessions.maiplur_session_remove.Statement.{statement}
@@ -17,7 +17,7 @@ returns : tie.Need-returns
 returns c =
     let a = c .before .before .before .before .before .before .args in
     let k = c .keep .ensures in
-    changes (removing (a .position)) (a .words .now) (c .before .before .before .before .from-words .ensures) (c .before .before .before .removed .ensures) (k .0) (k .1)
+    changes (changing (removing (a .position))) (a .words .now) (c .before .before .before .before .from-words .ensures) (c .before .before .before .removed .ensures) (k .0) (k .1)
 
 pub maiplur-session-remove-spec : {M : Type 1} → statement M
 maiplur-session-remove-spec =

@@ -1,5 +1,5 @@
 use Rattle.task_model.specs.Words.{entryFrom}
-use Rattle.session.specs.Operations.{replacing}
+use Rattle.session.specs.Operations.{changing, replacing}
 use Rattle.planner_c.proofs.Changing.{changes}
 use borrow.Author.Needs.{needs}
 use Rattle.planner_c.proofs.sessions.maiplur_session_replace.Statement.{statement}
@@ -22,7 +22,7 @@ returns c =
     let a = c .before .before .before .before .before .before .before .before .args in
     let k = c .keep .ensures in
     let h = rw (c .before .before .before .before .entry-of .ensures) at (c .before .before .before .replaced .ensures) in
-    changes (replacing (a .position) (entryFrom (a .entry .now) 0)) (a .words .now) (c .before .before .before .before .before .before .from-words .ensures) h (k .0) (k .1)
+    changes (changing (replacing (a .position) (entryFrom (a .entry .now) 0))) (a .words .now) (c .before .before .before .before .before .before .from-words .ensures) h (k .0) (k .1)
 
 pub maiplur-session-replace-spec : {M : Type 1} → statement M
 maiplur-session-replace-spec =

@@ -1,4 +1,4 @@
-use Rattle.session.specs.Operations.{settingLevels}
+use Rattle.session.specs.Operations.{changing, settingLevels}
 use Rattle.planner_c.proofs.Changing.{changes}
 use borrow.Author.Needs.{needs}
 use Rattle.planner_c.proofs.sessions.maiplur_session_set_levels.Statement.{statement}
@@ -17,7 +17,7 @@ returns : tie.Need-returns
 returns c =
     let a = c .before .before .before .before .before .before .args in
     let k = c .keep .ensures in
-    changes (settingLevels (a .levels)) (a .words .now) (c .before .before .before .before .from-words .ensures) (c .before .before .before .with-levels .ensures) (k .0) (k .1)
+    changes (changing (settingLevels (a .levels))) (a .words .now) (c .before .before .before .before .from-words .ensures) (c .before .before .before .with-levels .ensures) (k .0) (k .1)
 
 pub maiplur-session-set-levels-spec : {M : Type 1} → statement M
 maiplur-session-set-levels-spec =

@@ -4,7 +4,7 @@ use Rattle.task_model.specs.Refusals.{outcome, accepted}
 use Rattle.task_model.specs.Checks.{nodeCheck}
 use Rattle.task_model.proofs.Laws.{length-entries}
 use Rattle.session.specs.State.{nodeIn}
-use Rattle.session.specs.Operations.{inserting, lentCheck}
+use Rattle.session.specs.Operations.{changing, inserting, lentCheck}
 use Rattle.session.proofs.Checking.{lent-stops, lent-goes-on, insert-outside, insert-full, insert-entry}
 use borrow.Author.Needs.{needs}
 use Rattle.session.proofs.checks.check_insert.Statement.{statement}
@@ -26,7 +26,7 @@ enum-told-2 c = search needs
 returns : tie.Need-returns
 unfolding lentCheck
 returns c = ap outcome (c .enum-told2 .given .1)
-    ∙ sym (lent-stops (inserting _ _) _ _ (sym (c .before .before .check-session .ensures) ∙ ap outcome (c .enum-told2 .given .1)))
+    ∙ sym (lent-stops (changing (inserting _ _)) _ _ (sym (c .before .before .check-session .ensures) ∙ ap outcome (c .enum-told2 .given .1)))
 
 cast-count : tie.Need-cast-count
 cast-count c = search needs
@@ -36,7 +36,7 @@ unfolding lentCheck
 returns-2 c =
     let a = c .before .before .before .before .before .args in
     sym
-    (lent-goes-on (inserting (a .position) (a .e)) _ (sound (c .before .before))
+    (lent-goes-on (changing (inserting (a .position) (a .e))) _ (sound (c .before .before))
     ∙ insert-outside (nodeIn (a .s)) (a .position) (a .e) (omega (arith, length-entries (a .s .words) 0 (a .s .count))))
 
 returns-3 : tie.Need-returns-3
@@ -44,7 +44,7 @@ unfolding lentCheck
 returns-3 c =
     let a = c .before .before .before .before .before .before .args in
     sym
-    (lent-goes-on (inserting (a .position) (a .e)) _ (sound (c .before .before .before))
+    (lent-goes-on (changing (inserting (a .position) (a .e))) _ (sound (c .before .before .before))
     ∙ insert-full (nodeIn (a .s)) (a .position) (a .e) (omega (arith, length-entries (a .s .words) 0 (a .s .count)))
     (omega (arith, length-entries (a .s .words) 0 (a .s .count))))
 
@@ -57,7 +57,7 @@ returns-4 c =
     let a = c .before .before .before .before .before .before .before .args in
     c .check-entry .ensures
     ∙ sym
-    (lent-goes-on (inserting (a .position) (a .e)) _ (sound (c .before .before .before .before))
+    (lent-goes-on (changing (inserting (a .position) (a .e))) _ (sound (c .before .before .before .before))
     ∙ insert-entry (nodeIn (a .s)) (a .position) (a .e) (omega (arith, length-entries (a .s .words) 0 (a .s .count)))
     (omega (arith, length-entries (a .s .words) 0 (a .s .count))))
 

@@ -4,7 +4,7 @@ use Rattle.task_model.specs.Refusals.{outcome, accepted}
 use Rattle.task_model.specs.Checks.{nodeCheck}
 use Rattle.task_model.proofs.Laws.{length-entries}
 use Rattle.session.specs.State.{nodeIn}
-use Rattle.session.specs.Operations.{removing, lentCheck}
+use Rattle.session.specs.Operations.{changing, removing, lentCheck}
 use Rattle.session.proofs.Checking.{lent-stops, lent-goes-on, remove-outside, remove-inside}
 use borrow.Author.Needs.{needs}
 use Rattle.session.proofs.checks.check_remove.Statement.{statement}
@@ -26,7 +26,7 @@ enum-told-2 c = search needs
 returns : tie.Need-returns
 unfolding lentCheck
 returns c = ap outcome (c .enum-told2 .given .1)
-    ∙ sym (lent-stops (removing _) _ _ (sym (c .before .before .check-session .ensures) ∙ ap outcome (c .enum-told2 .given .1)))
+    ∙ sym (lent-stops (changing (removing _)) _ _ (sym (c .before .before .check-session .ensures) ∙ ap outcome (c .enum-told2 .given .1)))
 
 cast-if1 : tie.Need-cast-if1
 cast-if1 c = search needs
@@ -36,7 +36,7 @@ unfolding lentCheck
 returns-2 c =
     let a = c .before .before .before .before .before .args in
     sym
-    (lent-goes-on (removing (a .position)) _ (sound (c .before .before))
+    (lent-goes-on (changing (removing (a .position))) _ (sound (c .before .before))
     ∙ remove-outside (nodeIn (a .s)) (a .position) (omega (arith, length-entries (a .s .words) 0 (a .s .count))))
 
 returns-3 : tie.Need-returns-3
@@ -44,7 +44,7 @@ unfolding lentCheck
 returns-3 c =
     let a = c .before .before .before .before .before .args in
     sym
-    (lent-goes-on (removing (a .position)) _ (sound (c .before .before))
+    (lent-goes-on (changing (removing (a .position))) _ (sound (c .before .before))
     ∙ remove-inside (nodeIn (a .s)) (a .position) (omega (arith, length-entries (a .s .words) 0 (a .s .count))))
 
 pub check-remove-spec : {M : Type 1} → statement M

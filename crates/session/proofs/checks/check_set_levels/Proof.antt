@@ -2,7 +2,7 @@ use mathlib.Core.Path.{_≡_, _∙_, sym, ap}
 use Rattle.task_model.specs.Refusals.{outcome, accepted}
 use Rattle.task_model.specs.Checks.{nodeCheck}
 use Rattle.session.specs.State.{nodeIn}
-use Rattle.session.specs.Operations.{settingLevels, operationCheck, lentCheck}
+use Rattle.session.specs.Operations.{changing, settingLevels, changeCheck, operationCheck, lentCheck}
 use Rattle.session.proofs.Checking.{lent-stops, lent-goes-on}
 use borrow.Author.Needs.{needs}
 use Rattle.session.proofs.checks.check_set_levels.Statement.{statement}
@@ -24,15 +24,15 @@ enum-told-2 c = search needs
 returns : tie.Need-returns
 unfolding lentCheck
 returns c = ap outcome (c .enum-told2 .given .1)
-    ∙ sym (lent-stops (settingLevels _) _ _ (sym (c .before .before .check-session .ensures) ∙ ap outcome (c .enum-told2 .given .1)))
+    ∙ sym (lent-stops (changing (settingLevels _)) _ _ (sym (c .before .before .check-session .ensures) ∙ ap outcome (c .enum-told2 .given .1)))
 
 check-levels-requires : tie.Need-check-levels-requires
 check-levels-requires c κs = search needs
 
 returns-2 : tie.Need-returns-2
-unfolding lentCheck operationCheck
+unfolding lentCheck operationCheck changeCheck
 returns-2 c = c .check-levels .ensures
-    ∙ sym (lent-goes-on (settingLevels _) _ (sound (c .before)))
+    ∙ sym (lent-goes-on (changing (settingLevels _)) _ (sound (c .before)))
 
 pub check-set-levels-spec : {M : Type 1} → statement M
 check-set-levels-spec =

@@ -4,7 +4,7 @@ use Rattle.task_model.specs.Refusals.{outcome, accepted}
 use Rattle.task_model.specs.Checks.{nodeCheck}
 use Rattle.task_model.proofs.Laws.{length-entries}
 use Rattle.session.specs.State.{nodeIn}
-use Rattle.session.specs.Operations.{timing, lentCheck}
+use Rattle.session.specs.Operations.{asking, timing, lentCheck}
 use Rattle.session.proofs.Checking.{lent-stops, lent-goes-on, time-before, time-after, time-outside, time-inside}
 use borrow.Author.Needs.{needs}
 use Rattle.session.proofs.checks.check_time.Statement.{statement}
@@ -26,7 +26,7 @@ enum-told-2 c = search needs
 returns : tie.Need-returns
 unfolding lentCheck
 returns c = ap outcome (c .enum-told2 .given .1)
-    ∙ sym (lent-stops (timing _ _ _) _ _ (sym (c .before .before .check-session .ensures) ∙ ap outcome (c .enum-told2 .given .1)))
+    ∙ sym (lent-stops (asking (timing _ _ _)) _ _ (sym (c .before .before .check-session .ensures) ∙ ap outcome (c .enum-told2 .given .1)))
 
 returns-2 : tie.Need-returns-2
 unfolding lentCheck
@@ -34,7 +34,7 @@ returns-2 c =
     let a = c .before .before .before .before .args in
     let n = length-entries (a .s .words) 0 (a .s .count) in
     sym
-    (lent-goes-on (timing (a .first) (a .last) (a .i)) _ (sound (c .before))
+    (lent-goes-on (asking (timing (a .first) (a .last) (a .i))) _ (sound (c .before))
     ∙ time-before (nodeIn (a .s)) (a .first) (a .last) (a .i) (omega arith))
 
 returns-3 : tie.Need-returns-3
@@ -43,7 +43,7 @@ returns-3 c =
     let a = c .before .before .before .before .before .args in
     let n = length-entries (a .s .words) 0 (a .s .count) in
     sym
-    (lent-goes-on (timing (a .first) (a .last) (a .i)) _ (sound (c .before .before))
+    (lent-goes-on (asking (timing (a .first) (a .last) (a .i))) _ (sound (c .before .before))
     ∙ time-after (nodeIn (a .s)) (a .first) (a .last) (a .i) (omega arith) (omega arith))
 
 cast-if3 : tie.Need-cast-if3
@@ -55,7 +55,7 @@ returns-4 c =
     let a = c .before .before .before .before .before .before .before .args in
     let n = length-entries (a .s .words) 0 (a .s .count) in
     sym
-    (lent-goes-on (timing (a .first) (a .last) (a .i)) _ (sound (c .before .before .before .before))
+    (lent-goes-on (asking (timing (a .first) (a .last) (a .i))) _ (sound (c .before .before .before .before))
     ∙ time-outside (nodeIn (a .s)) (a .first) (a .last) (a .i) (omega arith) (omega arith) (omega arith))
 
 returns-5 : tie.Need-returns-5
@@ -64,7 +64,7 @@ returns-5 c =
     let a = c .before .before .before .before .before .before .before .args in
     let n = length-entries (a .s .words) 0 (a .s .count) in
     sym
-    (lent-goes-on (timing (a .first) (a .last) (a .i)) _ (sound (c .before .before .before .before))
+    (lent-goes-on (asking (timing (a .first) (a .last) (a .i))) _ (sound (c .before .before .before .before))
     ∙ time-inside (nodeIn (a .s)) (a .first) (a .last) (a .i) (omega arith) (omega arith) (omega arith))
 
 pub check-time-spec : {M : Type 1} → statement M
