@@ -56,9 +56,13 @@ listing f =
       | accepted ↦ planText (planIn f)
     ]
 
--- The answer: the text's length, or 10 where it does not fit. Its buffer then is `left` of task_model's specs/Answers.
-unfoldable pub listAnswer : List ℕ → ℕ → Answer ℕ
-listAnswer f room = giving (mustHold (leb (length (listing f)) room) (at 10 0 0)) (length (listing f))
+-- The answer for a text: its length, or 10 where it does not fit. Its buffer then is `left` of task_model's specs/Answers.
+unfoldable pub textAnswer : List ℕ → ℕ → Answer ℕ
+textAnswer t room = giving (mustHold (leb (length t) room) (at 10 0 0)) (length t)
+
+-- The answer for a file is that for its listing.
+abbrev pub listAnswer : List ℕ → ℕ → Answer ℕ
+listAnswer f room = textAnswer (listing f) room
 
 abbrev pub listedGives : Listed → Answer ℕ
 listedGives (Text n) = gives n

@@ -1,5 +1,8 @@
 // The listing of a plan file, into a lent buffer. Each function writes from a position on, and answers the position
 // after what it wrote.
+mod aside;
+
+pub use aside::list_plan;
 ghost use mathlib.Core.Path.{_≡_};
 ghost use Prim.Native.Nat.{_+_, _*_, _≤_, _<_};
 ghost use lib.ListN.{length};
@@ -14,11 +17,10 @@ ghost use Rattle.plan_file.specs.Decoding.{planIn, nodeCount};
 ghost use Rattle.plan_file.specs.Find.{rowIn, nodeOfRow};
 ghost use Rattle.level_timing.specs.Levels.{NeverFalls};
 ghost use Rattle.listing.specs.Lines.{planLine, nodeLine, noMapLine, entryLine, refusedLine};
-ghost use Rattle.listing.specs.Listing.{entryText, entriesText, nodeText, nodesText, listing, listAnswer, listedGives};
-ghost use Rattle.task_model.specs.Answers.{left};
+ghost use Rattle.listing.specs.Room.{planMost};
+ghost use Rattle.listing.specs.Listing.{entryText, entriesText, nodeText, nodesText, listing};
 use completion::Timing;
 use level_map::MappedNode;
-use task_model::Checked;
 use task_model::MOST_ENTRIES;
 use task_model::NODE_WORDS;
 use task_model::NodeWords;
@@ -26,8 +28,13 @@ use task_model::Refusal;
 use text::put_bytes;
 use text::put_field;
 
-// No listing has more bytes: 9 for its first line, 29 for each of 32 nodes, 56 for each of 2,048 entries.
-pub const MOST_TEXT: usize = 115625;
+// The bytes of a first line, and of a node's lines, at most: 29 for its own and 56 for each of 64 entries.
+const PLAN_LINE: usize = 9;
+
+const NODE_LINES: usize = 29 + 56 * MOST_ENTRIES;
+
+// No listing has more bytes.
+pub const MOST_TEXT: usize = PLAN_LINE + 32 * NODE_LINES;
 
 // How long the text is that was written, or that it does not fit.
 pub enum Listed {
@@ -210,46 +217,12 @@ fn put_nodes(file: &[u8], nodes: usize, out: &mut [u8], at: usize) -> usize
     next
 }
 
-// The listing of a file, or the one line that it is refused with.
-fn put_listing(file: &[u8], out: &mut [u8]) -> usize
-    requires { ⌜ 115625 ≤ length (now out) ⌝ }
-    ensures { λ end. ⌜ Upto (now (out .entry)) 0 115625 (listing (now (file .entry))) (now (out .exit)) end ⌝ }
+// The listing of an accepted file.
+fn put_plan(file: &[u8], nodes: usize, out: &mut [u8]) -> usize
+    requires { ⌜ (fileCheck (now file) ≡ accepted) × (nodes ≡ nodeCount (now file)) ⌝ ∗ ⌜ planMost nodes ≤ length (now out) ⌝ }
+    ensures { λ end. ⌜ Upto (now (out .entry)) 0 (planMost nodes) (listing (now (file .entry))) (now (out .exit)) end ⌝ }
 {
-    let checked = plan_file::check_file(file);
-    if let Checked::Refused(r) = checked {
-        return put_refused_line(out, 0, r);
-    }
-    let nodes = plan_file::node_count(file);
     // An accepted file has at most 32 nodes.
     let next = put_plan_line(out, 0, nodes as u8);
     put_nodes(file, nodes, out, next)
-}
-
-// Lists a file into a buffer that may be too short: the text's length is known only at its end, so it is made in an array
-// first.
-fn list_aside(file: &[u8], out: &mut [u8]) -> Listed
-    ensures { λ a. ⌜ listedGives a ≡ listAnswer (now (file .entry)) (length (now (out .entry))) ⌝ }
-    ensures { λ a. ⌜ now (out .exit) ≡ left (listedGives a) (listing (now (file .entry))) (now (out .entry)) ⌝ }
-    ensures { λ a. ⌜ length (listing (now (file .entry))) ≤ 115625 ⌝ }
-{
-    let mut text = [0u8; MOST_TEXT];
-    let n = put_listing(file, &mut text);
-    if out.len() < n {
-        return Listed::Refused(Refusal::ShortBuffer);
-    }
-    put_bytes(out, 0, &text[..n]);
-    Listed::Text(n)
-}
-
-// Lists a plan file, or writes the one line that it is refused with, from the start of `out`. Refuses only a buffer that
-// is too short for the text (10), and leaves it untouched then; `MOST_TEXT` bytes always suffice.
-pub fn list_plan(file: &[u8], out: &mut [u8]) -> Listed
-    ensures { λ a. ⌜ listedGives a ≡ listAnswer (now (file .entry)) (length (now (out .entry))) ⌝ }
-    ensures { λ a. ⌜ now (out .exit) ≡ left (listedGives a) (listing (now (file .entry))) (now (out .entry)) ⌝ }
-    ensures { λ a. ⌜ length (listing (now (file .entry))) ≤ 115625 ⌝ }
-{
-    if out.len() < MOST_TEXT {
-        return list_aside(file, out);
-    }
-    Listed::Text(put_listing(file, out))
 }

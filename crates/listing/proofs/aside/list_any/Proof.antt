@@ -1,0 +1,21 @@
+use borrow.Author.Needs.{needs}
+use native.Mathlib.Omega.{arith}
+use Rattle.listing.proofs.Texts.{few-nodes}
+use Rattle.listing.proofs.aside.list_any.Statement.{statement}
+use Rattle.listing.proofs.aside.list_any.Tie as tie
+
+slice-aggregate-list-through : tie.Need-slice-aggregate-list-through
+slice-aggregate-list-through c = search needs
+
+list-through-requires : tie.Need-list-through-requires
+list-through-requires c κs = let p = c .before .before .before .before .pre in (p, omega (arith, few-nodes _ (p .0)))
+
+same-length : tie.Need-same-length
+same-length c = search needs
+
+returns : tie.Need-returns
+returns c = search needs
+
+pub list-any-spec : {M : Type 1} → statement M
+list-any-spec =
+    tie.close (tie.spec slice-aggregate-list-through list-through-requires same-length returns)

@@ -1,0 +1,128 @@
+use borrow.Author.Needs.{needs}
+use mathlib.Core.Path.{_≡_, _∙_, ap, sym}
+use native.Mathlib.Omega.{arith}
+use lib.ListN.{length}
+use Rattle.task_model.specs.declared.Checked.the-variants.{Accepted}
+use Rattle.task_model.specs.Refusals.{outcome, accepted}
+use Rattle.task_model.specs.Answers.{gives}
+use Rattle.plan_file.specs.Check.{fileCheck}
+use Rattle.plan_file.proofs.File.{file-holds}
+use Rattle.text.proofs.Writing.{written-front}
+use Rattle.listing.specs.Listing.{listing}
+use Rattle.listing.proofs.Lines.{upto-end}
+use Rattle.listing.proofs.Texts.{few-nodes, listing-refused, text-fits, text-same}
+use Rattle.listing.proofs.aside.list_plan.Statement.{statement}
+use Rattle.listing.proofs.aside.list_plan.Tie as tie
+
+-- an accepted file
+found : (c : tie.After-check-file) → c .check-file .result ≡ Accepted → fileCheck (c .before .before .before .args .file .now) ≡ accepted
+found c e = sym (c .check-file .ensures .0) ∙ ap outcome e
+
+check-file-requires : tie.Need-check-file-requires
+check-file-requires c κs = search needs
+
+enum-known-checked : tie.Need-enum-known-checked
+enum-known-checked c = search needs
+
+list-refusal-requires : tie.Need-list-refusal-requires
+list-refusal-requires c κs = search needs
+
+same-length : tie.Need-same-length
+same-length c = search needs
+
+returns : tie.Need-returns
+returns c =
+    let f = c .before .before .before .before .before .before .before .before .before .before .args .file .now in
+    let e = listing-refused f _ (sym (c .before .before .before .before .before .before .before .check-file .ensures .0) ∙ ap outcome (c .before .before .before .before .before .checked .given .1)) in
+    let r = c .before .before .list-refusal .ensures in
+    let t = text-same (sym e) _ _ _ (r .0) (r .1 .0) in
+    (t .0, (t .1, omega (arith, r .1 .1, ap length e)))
+
+enum-told : tie.Need-enum-told
+enum-told c = search needs
+
+node-count-requires : tie.Need-node-count-requires
+node-count-requires c κs = file-holds _ (found (c .before .before) (c .enum-told .given .1)) .header .long
+
+mul-if1 : tie.Need-mul-if1
+mul-if1 c = search needs
+
+add-if1 : tie.Need-add-if1
+add-if1 c = search needs
+
+put-plan-requires : tie.Need-put-plan-requires
+put-plan-requires c κs = ((found (c .before .before .before .before .before) (c .before .before .before .enum-told .given .1), c .before .before .node-count .ensures .0), omega arith)
+
+same-length-2 : tie.Need-same-length-2
+same-length-2 c = search needs
+
+returns-2 : tie.Need-returns-2
+returns-2 c =
+    let u = c .before .before .put-plan .ensures in
+    let a = found (c .before .before .before .before .before .before .before .before) (c .before .before .before .before .before .before .enum-told .given .1) in
+    let n = c .before .before .before .before .before .node-count .ensures .0 in (
+      ap gives (upto-end u) ∙ sym (text-fits (listing _) _ (omega (arith, u .short))),
+      (u .wrote .buffer ∙ written-front _ (listing _), omega (arith, u .short, few-nodes _ a, n)),
+    )
+
+list-two-requires : tie.Need-list-two-requires
+list-two-requires c κs = ((found (c .before .before .before .before .before .before) (c .before .before .before .before .enum-told .given .1), c .before .before .before .node-count .ensures .0), omega arith)
+
+same-length-3 : tie.Need-same-length-3
+same-length-3 c = search needs
+
+returns-3 : tie.Need-returns-3
+returns-3 c =
+    let l = c .before .before .list-two .ensures in
+    let a = found (c .before .before .before .before .before .before .before .before .before) (c .before .before .before .before .before .before .before .enum-told .given .1) in
+    (l .0, (l .1 .0, omega (arith, l .1 .1, few-nodes _ a, c .before .before .before .before .before .before .node-count .ensures .0)))
+
+list-eight-requires : tie.Need-list-eight-requires
+list-eight-requires c κs = ((found (c .before .before .before .before .before .before .before) (c .before .before .before .before .before .enum-told .given .1), c .before .before .before .before .node-count .ensures .0), omega arith)
+
+same-length-4 : tie.Need-same-length-4
+same-length-4 c = search needs
+
+returns-4 : tie.Need-returns-4
+returns-4 c =
+    let l = c .before .before .list-eight .ensures in
+    let a = found (c .before .before .before .before .before .before .before .before .before .before) (c .before .before .before .before .before .before .before .before .enum-told .given .1) in
+    (l .0, (l .1 .0, omega (arith, l .1 .1, few-nodes _ a, c .before .before .before .before .before .before .before .node-count .ensures .0)))
+
+list-any-requires : tie.Need-list-any-requires
+list-any-requires c κs = (found (c .before .before .before .before .before .before .before) (c .before .before .before .before .before .enum-told .given .1), c .before .before .before .before .node-count .ensures .0)
+
+same-length-5 : tie.Need-same-length-5
+same-length-5 c = search needs
+
+returns-5 : tie.Need-returns-5
+returns-5 c =
+    let l = c .before .before .list-any .ensures in
+    let a = found (c .before .before .before .before .before .before .before .before .before .before) (c .before .before .before .before .before .before .before .before .enum-told .given .1) in
+    (l .0, (l .1 .0, omega (arith, l .1 .1, few-nodes _ a, c .before .before .before .before .before .before .before .node-count .ensures .0)))
+
+pub list-plan-spec : {M : Type 1} → statement M
+list-plan-spec =
+    tie.close
+    (tie.spec
+    check-file-requires
+    enum-known-checked
+    list-refusal-requires
+    same-length
+    returns
+    enum-told
+    node-count-requires
+    mul-if1
+    add-if1
+    put-plan-requires
+    same-length-2
+    returns-2
+    list-two-requires
+    same-length-3
+    returns-3
+    list-eight-requires
+    same-length-4
+    returns-4
+    list-any-requires
+    same-length-5
+    returns-5)
