@@ -35,8 +35,8 @@ fuzz:
 mutants:
 	@cargo run --release --offline --quiet --manifest-path tests/Cargo.toml --bin mutants -- $(ONLY)
 
-# The wrong programs that the prover must refuse, those of the gate and those outside it (docs/WRONG_PROGRAMS.md), tried in a
-# copy. All of them take half an hour; `make wrong ONLY='plan_file text'` tries those of some crates.
+# The wrong programs that the prover must refuse, those of the gate and those beside it (docs/WRONG_PROGRAMS.md), tried in
+# a copy. All of them take half an hour; `make wrong ONLY='plan_file text'` tries those of some crates.
 wrong:
 	@tools/wrong $(ONLY)
 
