@@ -2,7 +2,7 @@ PLAN ?= samples/p.plan
 # Through the environment, so that the shell takes any name as one word.
 export PLAN
 
-.PHONY: list test bench fuzz mutants samples fmt
+.PHONY: list test bench fuzz mutants wrong samples fmt
 
 # Proves and builds the listing program, if that was not done yet, and lists a plan file.
 list:
@@ -34,6 +34,11 @@ fuzz:
 # an hour or less; `make mutants ONLY='timing/ map/'` tries those with one of these in their name.
 mutants:
 	@cargo run --release --offline --quiet --manifest-path tests/Cargo.toml --bin mutants -- $(ONLY)
+
+# The wrong programs that the prover must refuse, those of the gate and those beside it (docs/WRONG_PROGRAMS.md), tried in
+# a copy. All of them take half an hour; `make wrong ONLY='plan_file text'` tries those of some crates.
+wrong:
+	@tools/wrong $(ONLY)
 
 # Writes samples/ anew.
 samples:

@@ -46,6 +46,10 @@ impl Copy {
         for folder in ["target/bin", "target/staticlib"] {
             copy_item(&from.join(folder), &to.join("target"));
         }
+        for edits in edit_folders(&from) {
+            let place = edits.strip_prefix(&from).expect("it lies below");
+            copy_item(&edits, &to.join(place.parent().expect("a crate")));
+        }
         let tests = to.join("tests");
         for item in ["src", "corpus", "Cargo.toml", "Cargo.lock"] {
             copy_item(&from.join("tests").join(item), &tests);
@@ -89,6 +93,15 @@ fn join_tests(from: &Path, to: &Path) -> Vec<String> {
     }
     write(&all.join("main.rs"), &parts);
     comparing
+}
+
+/// Where the crates have their wrong programs, which a test reads. Of the
+/// crates nothing else is copied: rt would take it for files that no crate has.
+fn edit_folders(root: &Path) -> Vec<PathBuf> {
+    let both = |item: &PathBuf| ["must-fail", "wrong"].map(|name| item.join(name));
+    let all = items(&root.join("crates"));
+    let folders = all.iter().flat_map(both);
+    folders.filter(|folder| folder.exists()).collect()
 }
 
 fn items(folder: &Path) -> Vec<PathBuf> {
