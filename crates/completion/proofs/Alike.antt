@@ -8,43 +8,43 @@ use lib.ListN.{length}
 use lib.Dec.{ltb, eqb}
 use Rattle.task_model.specs.declared.Entry.{Entry}
 use Rattle.task_model.specs.Limits.{entryAt}
-use Rattle.completion.specs.Demand.{ceilDiv, releases, sumTo, only, urgentShare, besideShare, demand, start}
-use Rattle.completion.specs.Test.{completionTest}
+use Rattle.completion.specs.Demand.{ceilDiv, releases, sumTo, only, urgentShare, besideShare, demandWith, startWith}
+use Rattle.completion.specs.Test.{limit, testWith}
 use Rattle.completion.proofs.Sums.{sumTo-eq}
 use Rattle.completion.proofs.Iteration.{test-same}
 use Rattle.completion.proofs.Shares.{leb-or}
 use Rattle.completion.proofs.Groups.{urgentIn, besideIn, demandIn}
 
-pub test-alike : (es es′ : List Entry) (lv lv′ : ℕ → ℕ) (i : ℕ) → entryAt es i .deadline ≡ entryAt es′ i .deadline
-    → start es lv i ≡ start es′ lv′ i → ((t : ℕ) → demand es lv i t ≡ demand es′ lv′ i t)
-    → completionTest es lv i ≡ completionTest es′ lv′ i
-unfolding completionTest
-test-alike es es′ lv lv′ i d s w =
-    rw (d, s) (test-same (demand es lv i) (demand es′ lv′ i) w (entryAt es′ i .deadline) (start es′ lv′ i) 0)
+pub test-alike : (b b′ : ℕ) (es es′ : List Entry) (lv lv′ : ℕ → ℕ) (i : ℕ) → limit (entryAt es i) ≡ limit (entryAt es′ i)
+    → startWith b es lv i ≡ startWith b′ es′ lv′ i → ((t : ℕ) → demandWith b es lv i t ≡ demandWith b′ es′ lv′ i t)
+    → testWith b es lv i ≡ testWith b′ es′ lv′ i
+unfolding testWith
+test-alike b b′ es es′ lv lv′ i d s w =
+    rw (d, s) (test-same (demandWith b es lv i) (demandWith b′ es′ lv′ i) w (limit (entryAt es′ i)) (startWith b′ es′ lv′ i) 0)
 
 -- levels that compare alike with the timed entry's
-module _ (es : List Entry) (lv lv′ : ℕ → ℕ) (i : ℕ)
+module _ (b : ℕ) (es : List Entry) (lv lv′ : ℕ → ℕ) (i : ℕ)
     (h : (j : ℕ) → j < length es → (ltb (lv j) (lv i) ≡ ltb (lv′ j) (lv′ i)) × (eqb (lv j) (lv i) ≡ eqb (lv′ j) (lv′ i))) where
-  pub demand-alike : (t : ℕ) → demand es lv i t ≡ demand es lv′ i t
-  unfolding demand
+  pub demand-alike : (t : ℕ) → demandWith b es lv i t ≡ demandWith b es lv′ i t
+  unfolding demandWith
   demand-alike t =
-      ap₂ (λ x y. entryAt es i .wcet + entryAt es i .blocking + x + y)
-      (sumTo-eq _ _ (length es) (λ j l. ap (λ b. only b (urgentShare (entryAt es j) t)) (h j l .0)))
+      ap₂ (λ x y. entryAt es i .wcet + b + x + y)
+      (sumTo-eq _ _ (length es) (λ j l. ap (λ c. only c (urgentShare (entryAt es j) t)) (h j l .0)))
       (sumTo-eq _ _ (length es)
-      (λ j l. ap (λ b. only (b && not (eqb j i)) (besideShare (entryAt es j) (entryAt es i .calls) t)) (h j l .1)))
+      (λ j l. ap (λ c. only (c && not (eqb j i)) (besideShare (entryAt es j) (entryAt es i .calls) t)) (h j l .1)))
 
-  pub start-alike : start es lv i ≡ start es lv′ i
-  unfolding start
+  pub start-alike : startWith b es lv i ≡ startWith b es lv′ i
+  unfolding startWith
   start-alike =
-      ap (λ x. entryAt es i .blocking + x)
+      ap (λ x. b + x)
       (sumTo-eq _ _ (length es)
       (λ j l.
-      ap (λ b. only b (entryAt es j .wcet)) (leb-or (lv j) (lv i) ∙ ap₂ _||_ (h j l .0) (h j l .1) ∙ sym (leb-or (lv′ j) (lv′ i)))))
+      ap (λ c. only c (entryAt es j .wcet)) (leb-or (lv j) (lv i) ∙ ap₂ _||_ (h j l .0) (h j l .1) ∙ sym (leb-or (lv′ j) (lv′ i)))))
 
--- nodes that agree in C and T up to the group's last entry, and in the timed entry's B and r
+-- nodes that agree in C and T up to the group's last entry, and in the timed entry's blocking and r
 module _ (es es′ : List Entry) (first last i : ℕ) (hf : first ≤ i) (hi : i ≤ last)
     (ct : (j : ℕ) → j ≤ last → (entryAt es j .wcet ≡ entryAt es′ j .wcet) × (entryAt es j .period ≡ entryAt es′ j .period))
-    (b : entryAt es i .blocking ≡ entryAt es′ i .blocking) (r : entryAt es i .calls ≡ entryAt es′ i .calls) where
+    (r : entryAt es i .calls ≡ entryAt es′ i .calls) where
   urgent-same : (t j : ℕ) → j ≤ last → urgentIn es t j ≡ urgentIn es′ t j
   unfolding urgentShare releases
   urgent-same t j l = ap₂ (λ c p. c * ceilDiv t p) (ct j l .0) (ct j l .1)
@@ -53,14 +53,13 @@ module _ (es es′ : List Entry) (first last i : ℕ) (hf : first ≤ i) (hi : i
   unfolding besideShare releases
   beside-same t j l = rw (ct j l .0, ct j l .1, r)
 
-  pub demandIn-same : (t : ℕ) → demandIn es first last i t ≡ demandIn es′ first last i t
-  demandIn-same t =
+  pub demandIn-same : (b t : ℕ) → demandIn b es first last i t ≡ demandIn b es′ first last i t
+  demandIn-same b t =
       let u = sumTo-eq (urgentIn es t) (urgentIn es′ t) first (λ j l. urgent-same t j (omega arith)) in
       let s : (m : ℕ) → m ≤ last + 1 → sumTo (besideIn es i t) m ≡ sumTo (besideIn es′ i t) m =
       λ m k. sumTo-eq (besideIn es i t) (besideIn es′ i t) m (λ j l. beside-same t j (omega arith)) in
       rw (
         ct i hi .0,
-        b,
         u,
         s i (omega arith),
         s first (omega arith),

@@ -14,7 +14,7 @@ use Rattle.task_model.specs.Words.{entryOf, entriesOf}
 use Rattle.task_model.proofs.Laws.{entry-of, true-or-false}
 use Rattle.completion.specs.Demand.{sumTo}
 use Rattle.completion.specs.Group.{groupLevel}
-use Rattle.completion.specs.Test.{completionTest, isOnTime}
+use Rattle.completion.specs.Test.{limit, testWith, isOnTime}
 use Rattle.completion.specs.Behind.{lateByRuns, behindLast, behindLate}
 use Rattle.completion.proofs.Groups.{wcetIn, named-group, start-in}
 use Rattle.completion.proofs.Words.{in-words, wcetOf}
@@ -62,21 +62,21 @@ pub behind-most : (es : List Entry) (end : ℕ) → behindLate es end ≤ end
 unfolding behindLate
 behind-most es end = last-most (lateByRuns es end) end
 
--- and the entry before it is late in each group that ends just before `end` and has it.
+-- and the entry before it is late in each group that ends just before `end` and has it, with its own B or more.
 pub behind-late : (es : List Entry) → AllHold es → (end : ℕ) → end ≤ length es
-    → (i first : ℕ) → behindLate es end ≡ i + 1 → first ≤ i
-    → isOnTime (completionTest es (groupLevel first (end - 1)) i) ≡ false
+    → (i first : ℕ) → behindLate es end ≡ i + 1 → first ≤ i → (b : ℕ) → entryAt es i .blocking ≤ b
+    → isOnTime (testWith b es (groupLevel first (end - 1)) i) ≡ false
 unfolding behindLate lateByRuns
-behind-late es all end h i first e hf =
+behind-late es all end h i first e hf b more =
     let l : i < end = omega (arith, behind-most es end) in
-    let short : entryAt es i .deadline < entryAt es i .blocking + sumTo (wcetIn es) end =
+    let short : limit (entryAt es i) < entryAt es i .blocking + sumTo (wcetIn es) end =
     ltb-true _ _ (last-holds (lateByRuns es end) end i (rw add-one at e)) in
     let known : i < length es = omega arith in
     let level = groupLevel first (end - 1) in
     let group = named-group first (end - 1) (length es) i hf (omega arith) in
-    let begin = start-in es first (end - 1) i level group hf (omega arith) (omega arith) in
+    let begin = start-in es first (end - 1) i level group hf (omega arith) (omega arith) b in
     let whole : (end - 1) + 1 ≡ end = omega arith in
-    late-none es all level i known .1 (λ t due w. omega (arith, rw whole at begin, not-before es all level i known t w))
+    late-none b es all level i known .1 (λ t due w. omega (arith, rw whole at begin, not-before b es all level i known t w))
 
 -- whether the runs make an entry late, by the words that hold the node
 module _ (ws : List ℕ) (n end runs : ℕ) (h : end ≤ n) (r : runs ≡ sumTo (wcetOf ws) end) (i : ℕ) (l : i < n) (e : Entry)
@@ -87,10 +87,10 @@ module _ (ws : List ℕ) (n end runs : ℕ) (h : end ≤ n) (r : runs ≡ sumTo 
   whole : sumTo (λ j. entryAt (entriesOf ws n) j .wcet) end ≡ runs
   whole = in-words ws n (λ x. x .wcet) end h ∙ sym r
 
-  pub runs-late : e .deadline < e .blocking + runs → lateByRuns (entriesOf ws n) end i ≡ true
+  pub runs-late : limit e < e .blocking + runs → lateByRuns (entriesOf ws n) end i ≡ true
   unfolding lateByRuns
   runs-late p = rw (own, whole) (lt-ltb _ _ p)
 
-  pub runs-fit : e .blocking + runs ≤ e .deadline → lateByRuns (entriesOf ws n) end i ≡ false
+  pub runs-fit : e .blocking + runs ≤ limit e → lateByRuns (entriesOf ws n) end i ≡ false
   unfolding lateByRuns
   runs-fit p = rw (own, whole) (le-ltb _ _ p)

@@ -1,18 +1,17 @@
 -- What decides whether an entry is on time without its rounds, by the words that hold the node.
 use Prim.Native.Nat.{ℕ, _+_, _-_, _*_, _/_, _≤_, _<_}
 use native.Mathlib.Nat.{add-mul, mul-comm, one-mul, div-lt-iff-lt-mul}
-use mathlib.Core.Path.{_≡_, _∙_, sym, ap}
+use mathlib.Core.Path.{_≡_, sym}
 use mathlib.Core.Bool.{true, false}
 use mathlib.Core.List.{List}
 use native.Mathlib.Omega.{arith}
 use lib.ListN.{length}
-use Rattle.task_model.specs.declared.Entry.{Entry}
 use Rattle.task_model.specs.Limits.{entryAt, AllHold}
 use Rattle.task_model.specs.Words.{entryOf, entriesOf}
-use Rattle.task_model.proofs.Laws.{length-entries, entry-of, all-at}
-use Rattle.completion.specs.Demand.{sumTo, demand, start}
+use Rattle.task_model.proofs.Laws.{length-entries, all-at}
+use Rattle.completion.specs.Demand.{sumTo, demandWith, startWith}
 use Rattle.completion.specs.Group.{groupLevel}
-use Rattle.completion.specs.Test.{completionTest, isOnTime}
+use Rattle.completion.specs.Test.{limit, testWith, isOnTime}
 use Rattle.completion.specs.Load.{one, recurringLoad, recurringRun}
 use Rattle.completion.proofs.Sums.{sumTo-up, sumTo-more}
 use Rattle.completion.proofs.Words.{in-words, wcetOf, words-start}
@@ -33,63 +32,59 @@ ceil-least x f t h l =
     omega arith
 
 module _ (ws : List ℕ) (n : ℕ) (all : AllHold (entriesOf ws n)) (first last i : ℕ) (hf : first ≤ i) (hi : i ≤ last) (hl : last < n)
-    (own : Entry) (named : own ≡ entryOf ws i) where
+    (b d : ℕ) (due : limit (entryAt (entriesOf ws n) i) ≡ d) where
   known : last < length (entriesOf ws n)
   known = omega (arith, length-entries ws 0 n)
 
-  due : entryAt (entriesOf ws n) i .deadline ≡ own .deadline
-  due = ap (λ (e : Entry). e .deadline) (entry-of ws n i (omega arith) ∙ sym named)
-
   -- late from the start
-  pub late-start : (s : ℕ) → s ≡ start (entriesOf ws n) (groupLevel first last) i → own .deadline < s
-      → isOnTime (completionTest (entriesOf ws n) (groupLevel first last) i) ≡ false
+  pub late-start : (s : ℕ) → s ≡ startWith b (entriesOf ws n) (groupLevel first last) i → d < s
+      → isOnTime (testWith b (entriesOf ws n) (groupLevel first last) i) ≡ false
   late-start s p h =
       let i-known : i < length (entriesOf ws n) = omega (arith, known) in
-      late-none (entriesOf ws n) all (groupLevel first last) i i-known .1
-      (λ t l w. omega (arith, due, not-before (entriesOf ws n) all (groupLevel first last) i i-known t w))
+      late-none b (entriesOf ws n) all (groupLevel first last) i i-known .1
+      (λ t l w. omega (arith, due, not-before b (entriesOf ws n) all (groupLevel first last) i i-known t w))
 
   -- where the test starts
   pub start-runs : (runs : ℕ) → runs ≡ sumTo (wcetOf ws) (last + 1)
-      → own .blocking + runs ≡ start (entriesOf ws n) (groupLevel first last) i
-  start-runs runs p =
-      omega (arith, p, ap (λ (e : Entry). e .blocking) named, words-start ws n first last i hf hi hl)
+      → b + runs ≡ startWith b (entriesOf ws n) (groupLevel first last) i
+  start-runs runs p = omega (arith, p, words-start ws n first last i hf hi hl b)
 
   -- no time at which the demand is met is before a bound by the load
-  pub not-earlier : (s x : ℕ) → s ≡ start (entriesOf ws n) (groupLevel first last) i
+  pub not-earlier : (s x : ℕ) → s ≡ startWith b (entriesOf ws n) (groupLevel first last) i
       → ((t : ℕ) → s ≤ t
-      → one * (s - sumTo (runOf (own .deadline) ws) first) ≤ (one - sumTo (loadOf (own .deadline) ws) first) * t
+      → one * (s - sumTo (runOf d ws) first) ≤ (one - sumTo (loadOf d ws) first) * t
       → x ≤ t)
-      → (t : ℕ) → demand (entriesOf ws n) (groupLevel first last) i t ≤ t → x ≤ t
+      → (t : ℕ) → demandWith b (entriesOf ws n) (groupLevel first last) i t ≤ t → x ≤ t
   not-earlier s x p h t w =
       h t
-      (omega (arith, not-before (entriesOf ws n) all (groupLevel first last) i (omega (arith, known)) t w))
+      (omega (arith, not-before b (entriesOf ws n) all (groupLevel first last) i (omega (arith, known)) t w))
       (rw (
         p,
-        sym (in-words ws n (recurringLoad (own .deadline)) first (omega arith)),
-        sym (in-words ws n (recurringRun (own .deadline)) first (omega arith)),
+        sym (in-words ws n (recurringLoad d) first (omega arith)),
+        sym (in-words ws n (recurringRun d) first (omega arith)),
       )
-      (fits-by-load (entriesOf ws n) all first last i hf hi known (own .deadline) t w))
+      (fits-by-load (entriesOf ws n) all first last i hf hi known b d t w))
 
-  -- late where the demand is met at no time up to the deadline
-  pub late-after : (t : ℕ) → own .deadline < t → ((u : ℕ) → demand (entriesOf ws n) (groupLevel first last) i u ≤ u → t ≤ u)
-      → isOnTime (completionTest (entriesOf ws n) (groupLevel first last) i) ≡ false
+  -- late where the demand is met at no time up to the limit
+  pub late-after : (t : ℕ) → d < t → ((u : ℕ) → demandWith b (entriesOf ws n) (groupLevel first last) i u ≤ u → t ≤ u)
+      → isOnTime (testWith b (entriesOf ws n) (groupLevel first last) i) ≡ false
   late-after t l h =
-      late-none (entriesOf ws n) all (groupLevel first last) i (omega (arith, known)) .1
-      (λ u d w. omega (arith, due, h u w))
+      late-none b (entriesOf ws n) all (groupLevel first last) i (omega (arith, known)) .1
+      (λ u l′ w. omega (arith, h u w))
 
   -- on time at t
-  pub on-time-at : (t w : ℕ) → t ≤ own .deadline → w ≡ demand (entriesOf ws n) (groupLevel first last) i t → w ≤ t
-      → isOnTime (completionTest (entriesOf ws n) (groupLevel first last) i) ≡ true
+  pub on-time-at : (t w : ℕ) → t ≤ d → w ≡ demandWith b (entriesOf ws n) (groupLevel first last) i t → w ≤ t
+      → isOnTime (testWith b (entriesOf ws n) (groupLevel first last) i) ≡ true
   on-time-at t w l p h =
-      on-time-some (entriesOf ws n) all (groupLevel first last) i (omega (arith, known)) .1
+      on-time-some b (entriesOf ws n) all (groupLevel first last) i (omega (arith, known)) .1
       (t, omega (arith, due), omega (arith, p))
 
   -- the start is above the runs of the entries before the timed one
-  pub runs-below : (s m : ℕ) → s ≡ start (entriesOf ws n) (groupLevel first last) i → m ≤ i → sumTo (wcetOf ws) m < s
+  pub runs-below : (s m : ℕ) → s ≡ startWith b (entriesOf ws n) (groupLevel first last) i → m ≤ i → sumTo (wcetOf ws) m < s
   runs-below s m p h =
       omega (
         arith,
-        words-start ws n first last i hf hi hl,
+        words-start ws n first last i hf hi hl b,
         sumTo-up (wcetOf ws) m i h,
         sumTo-more (wcetOf ws) i,
         sumTo-up (wcetOf ws) (i + 1) (last + 1) (omega arith),

@@ -10,7 +10,7 @@ use lib.Dec.{leb}
 use borrow.Author.Tests.{lt-ltb, le-ltb, le-leb, lt-leb, eq-eqb, ne-eqb}
 use Rattle.task_model.specs.declared.Entry.{Entry}
 use Rattle.task_model.specs.Limits.{entryAt}
-use Rattle.completion.specs.Demand.{sumTo, only, moreUrgent, beside, urgentShare, besideShare, demand, start}
+use Rattle.completion.specs.Demand.{sumTo, only, moreUrgent, beside, urgentShare, besideShare, demandWith, startWith}
 use Rattle.completion.specs.Group.{IsGroup, groupLevel}
 use Rattle.completion.proofs.Sums.{sumTo-none, sumTo-between, sumTo-flat, sumTo-up}
 
@@ -46,10 +46,10 @@ besideIn es i t j = besideShare (entryAt es j) (entryAt es i .calls) t
 abbrev pub wcetIn : List Entry → ℕ → ℕ
 wcetIn es j = entryAt es j .wcet
 
--- The demand of the entry at i in the group from `first` to `last`.
-abbrev pub demandIn : List Entry → ℕ → ℕ → ℕ → ℕ → ℕ
-demandIn es first last i t =
-    entryAt es i .wcet + entryAt es i .blocking + sumTo (urgentIn es t) first
+-- The demand of the entry at i in the group from `first` to `last`, with the blocking b.
+abbrev pub demandIn : ℕ → List Entry → ℕ → ℕ → ℕ → ℕ → ℕ
+demandIn b es first last i t =
+    entryAt es i .wcet + b + sumTo (urgentIn es t) first
     + (sumTo (besideIn es i t) i - sumTo (besideIn es i t) first)
     + (sumTo (besideIn es i t) (last + 1) - sumTo (besideIn es i t) (i + 1))
 
@@ -91,13 +91,13 @@ module _ (es : List Entry) (first last i : ℕ) (lv : ℕ → ℕ) (g : IsGroup 
       (λ j l u. rw (ne-eqb (lv j) (lv i) (λ e. omega (arith, g .after j (omega arith) u)))) in
       omega (arith, sumTo-none f, sumTo-up b first i hf, sumTo-up b (i + 1) (last + 1) (omega arith))
 
-  pub demand-in : (t : ℕ) → demand es lv i t ≡ demandIn es first last i t
-  unfolding demand
-  demand-in t = omega (arith, urgent-part t, beside-part t)
+  pub demand-in : (b t : ℕ) → demandWith b es lv i t ≡ demandIn b es first last i t
+  unfolding demandWith
+  demand-in b t = omega (arith, urgent-part t, beside-part t)
 
-  pub start-in : start es lv i ≡ entryAt es i .blocking + sumTo (wcetIn es) (last + 1)
-  unfolding start
-  start-in =
+  pub start-in : (b : ℕ) → startWith b es lv i ≡ b + sumTo (wcetIn es) (last + 1)
+  unfolding startWith
+  start-in b =
       let f : ℕ → ℕ = λ j. only (leb (lv j) (lv i)) (wcetIn es j) in
       let low = sumTo-between f (wcetIn es) 0 (last + 1) zero-le (λ j l u. rw (le-leb (lv j) (lv i) (not-above j (omega arith)))) in
       let high = sumTo-flat f (last + 1) (length es) (omega arith) (λ j l u. rw (lt-leb (lv j) (lv i) (g .after j (omega arith) u))) in

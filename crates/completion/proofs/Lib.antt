@@ -1,4 +1,5 @@
 -- Laws of the completion time test, one subject to a file, and its theorems.
+pub mod Bounds
 pub mod Sums
 pub mod Releases
 pub mod Iteration

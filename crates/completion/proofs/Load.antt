@@ -10,7 +10,7 @@ use lib.ListN.{length}
 use borrow.Author.Tests.{lt-ltb, le-ltb}
 use Rattle.task_model.specs.declared.Entry.{Entry}
 use Rattle.task_model.specs.Limits.{entryAt, TimesHold, AllHold}
-use Rattle.completion.specs.Demand.{releases, sumTo, urgentShare, demand, start}
+use Rattle.completion.specs.Demand.{releases, sumTo, urgentShare, demandWith, startWith}
 use Rattle.completion.specs.Group.{groupLevel}
 use Rattle.completion.specs.Load.{one, load, recurringLoad, recurringRun}
 use Rattle.completion.proofs.Releases.{releases-more, urgent-first, urgent-up, beside-first, beside-up}
@@ -38,11 +38,11 @@ load-share e h t =
 load-most : (e : Entry) → TimesHold e → load e ≤ one
 unfolding load
 load-most e h =
-    let below : (one * e .wcet) / e .period < 17179869185 =
-    div-lt-iff-lt-mul {k = e .period} {x = one * e .wcet} {y = 17179869185} (omega arith) .1 (omega (arith, h .due, h .periodic)) in
+    let below : (one * e .wcet) / e .period < one + 1 =
+    div-lt-iff-lt-mul {k = e .period} {x = one * e .wcet} {y = one + 1} (omega arith) .1 (omega (arith, h .due, h .periodic)) in
     omega arith
 
--- what an entry adds to the sums of the code, by whether its period is shorter than the deadline
+-- what an entry adds to the sums of the code, by whether its period is shorter than the limit
 module _ (d : ℕ) (e : Entry) where
   pub recurs : e .period < d → (recurringLoad d e ≡ load e) × (recurringRun d e ≡ e .wcet)
   unfolding recurringLoad recurringRun
@@ -113,13 +113,13 @@ module _ (es : List Entry) (all : AllHold es) (first last i : ℕ) (hf : first �
   runs-within d = sumTo-le (runIn d es) (wcetIn es) first (λ j k. run-most d (entryAt es j))
 
   -- The demand is at least the start without those runs, and the load times t.
-  pub demand-load : (d t : ℕ) → 1 ≤ t
-      → one * (start es (groupLevel first last) i - sumTo (runIn d es) first) + sumTo (loadIn d es) first * t
-      ≤ one * demand es (groupLevel first last) i t
-  demand-load d t p =
+  pub demand-load : (b d t : ℕ) → 1 ≤ t
+      → one * (startWith b es (groupLevel first last) i - sumTo (runIn d es) first) + sumTo (loadIn d es) first * t
+      ≤ one * demandWith b es (groupLevel first last) i t
+  demand-load b d t p =
       let g = named-group first last (length es) i hf hi in
-      let named = demand-in es first last i (groupLevel first last) g hf hi hl t in
-      let begin = start-in es first last i (groupLevel first last) g hf hi hl in
+      let named = demand-in es first last i (groupLevel first last) g hf hi hl b t in
+      let begin = start-in es first last i (groupLevel first last) g hf hi hl b in
       omega (
         arith,
         once t first i p hf (omega arith),
@@ -132,12 +132,12 @@ module _ (es : List Entry) (all : AllHold es) (first last i : ℕ) (hf : first �
       )
 
   -- Where the demand is at most t, what runs once is at most what the load leaves free of t.
-  pub fits-by-load : (d t : ℕ) → demand es (groupLevel first last) i t ≤ t
-      → one * (start es (groupLevel first last) i - sumTo (runIn d es) first)
+  pub fits-by-load : (b d t : ℕ) → demandWith b es (groupLevel first last) i t ≤ t
+      → one * (startWith b es (groupLevel first last) i - sumTo (runIn d es) first)
       ≤ (one - sumTo (loadIn d es) first) * t
-  fits-by-load d t w =
+  fits-by-load b d t w =
       let u = sumTo (loadIn d es) first in
-      let some : 1 ≤ t = le-trans (demand-some es all (groupLevel first last) i (omega arith) t) w in
+      let some : 1 ≤ t = le-trans (demand-some es all (groupLevel first last) i (omega arith) b t) w in
       let both : ((one - u) + u) * t ≡ (one - u) * t + u * t = add-mul (one - u) u t in
       let whole : one * t ≤ ((one - u) + u) * t = mul-le-mul-right t (omega arith) in
-      omega (arith, demand-load d t some)
+      omega (arith, demand-load b d t some)

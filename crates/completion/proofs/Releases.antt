@@ -4,7 +4,8 @@ use mathlib.Core.Path.{_≡_}
 use native.Mathlib.Nat.{zero-add, mul-zero, le-trans, le-antisymm, le-div-iff-mul-le, div-lt-iff-lt-mul, div-mul-le-self, mul-div-le, mul-one, one-mul, add-mul, mul-comm, mul-le-mul-left, mul-le-mul-right, min-le-left, min-eq-right}
 use native.Mathlib.Omega.{arith}
 use Rattle.task_model.specs.declared.Entry.{Entry}
-use Rattle.task_model.specs.Limits.{TimesHold}
+use Rattle.task_model.specs.Limits.{mostTicks, TimesHold}
+use Rattle.completion.proofs.Bounds.{mostShare}
 use Rattle.completion.specs.Demand.{ceilDiv, releases, urgentShare, besideShare}
 
 -- more than k periods begin in t ticks exactly if k periods are shorter than t
@@ -58,7 +59,7 @@ module _ (e : Entry) (h : TimesHold e) where
       rw m (mul-one (e .wcet))
 
   -- at most t + T, since C is at most T
-  pub urgent-most : (t : ℕ) → t ≤ 1000000000 → urgentShare e t ≤ 2000000000
+  pub urgent-most : (t : ℕ) → t ≤ mostTicks → urgentShare e t ≤ mostShare
   unfolding urgentShare releases ceilDiv
   urgent-most t l =
       let q : ℕ = (t + (e .period - 1)) / e .period in

@@ -21,8 +21,8 @@ use Rattle.completion.specs.Demand.{
   beside,
   urgentShare,
   besideShare,
-  demand,
-  start,
+  demandWith,
+  startWith,
 }
 use Rattle.task_model.proofs.Laws.{true-or-false}
 use Rattle.completion.proofs.Sums.{sumTo-le, sumTo-eq, sumTo-add, sumTo-strict, sumTo-one}
@@ -33,10 +33,10 @@ abbrev pub share : List Entry → (ℕ → ℕ) → ℕ → ℕ → ℕ → ℕ
 share es lv i t j =
     only (moreUrgent lv i j) (urgentShare (entryAt es j) t) + only (beside lv i j) (besideShare (entryAt es j) (entryAt es i .calls) t)
 
-pub demand-shares : (es : List Entry) (lv : ℕ → ℕ) (i t : ℕ)
-    → demand es lv i t ≡ entryAt es i .wcet + entryAt es i .blocking + sumTo (share es lv i t) (length es)
-unfolding demand
-demand-shares es lv i t =
+pub demand-shares : (b : ℕ) (es : List Entry) (lv : ℕ → ℕ) (i t : ℕ)
+    → demandWith b es lv i t ≡ entryAt es i .wcet + b + sumTo (share es lv i t) (length es)
+unfolding demandWith
+demand-shares b es lv i t =
     omega (
       arith,
       sumTo-add (λ j. only (moreUrgent lv i j) (urgentShare (entryAt es j) t))
@@ -98,12 +98,12 @@ module _ (es : List Entry) (all : AllHold es) (lv : ℕ → ℕ) (i : ℕ) (hi :
   periodic j h = omega (arith, times j h)
 
   -- The demand never falls.
-  pub demand-up : (a b : ℕ) → a ≤ b → demand es lv i a ≤ demand es lv i b
-  demand-up a b l =
+  pub demand-up : (c a b : ℕ) → a ≤ b → demandWith c es lv i a ≤ demandWith c es lv i b
+  demand-up c a b l =
       omega (
         arith,
-        demand-shares es lv i a,
-        demand-shares es lv i b,
+        demand-shares c es lv i a,
+        demand-shares c es lv i b,
         sumTo-le (share es lv i a) (share es lv i b) (length es)
             (λ j h.
             omega (
@@ -114,13 +114,13 @@ module _ (es : List Entry) (all : AllHold es) (lv : ℕ → ℕ) (i : ℕ) (hi :
       )
 
   -- It is at least the entry's own run.
-  pub demand-some : (t : ℕ) → 1 ≤ demand es lv i t
-  demand-some t = omega (arith, demand-shares es lv i t, times i hi)
+  pub demand-some : (b t : ℕ) → 1 ≤ demandWith b es lv i t
+  demand-some b t = omega (arith, demand-shares b es lv i t, times i hi)
 
   -- The test starts at the demand of the first tick.
-  pub start-first : start es lv i ≡ demand es lv i 1
-  unfolding start
-  start-first =
+  pub start-first : (b : ℕ) → startWith b es lv i ≡ demandWith b es lv i 1
+  unfolding startWith
+  start-first b =
       let n = length es in
       let urgent : ℕ → ℕ = λ j. only (moreUrgent lv i j) (entryAt es j .wcet) in
       let other : ℕ → ℕ = λ j. only (beside lv i j) (entryAt es j .wcet) in
@@ -132,7 +132,7 @@ module _ (es : List Entry) (all : AllHold es) (lv : ℕ → ℕ) (i : ℕ) (hi :
       (urgent-first (entryAt es j) (times j h)) (beside-first (entryAt es j) (times j h) (entryAt es i .calls))) in
       omega (
         arith,
-        demand-shares es lv i 1,
+        demand-shares b es lv i 1,
         shares,
         parts,
         sumTo-add (λ j. urgent j + other j) own n,
@@ -166,10 +166,10 @@ module _ (es : List Entry) (all : AllHold es) (lv : ℕ → ℕ) (i : ℕ) (hi :
       (true-or-false (leb (lv j) (lv i) && not (eqb j i))))
       (eq-or-lt-of-le (releases-up (entryAt es j) (periodic j h) a b l))
 
-  pub later-strict : (a b : ℕ) → 1 ≤ a → a ≤ b → demand es lv i a < demand es lv i b
+  pub later-strict : (c a b : ℕ) → 1 ≤ a → a ≤ b → demandWith c es lv i a < demandWith c es lv i b
       → sumTo (later es lv i a) (length es) < sumTo (later es lv i b) (length es)
-  later-strict a b p l h =
+  later-strict c a b p l h =
       ⊎-elim
       (λ k. k)
-      (λ k. absurd (omega (arith, demand-shares es lv i a, demand-shares es lv i b)))
+      (λ k. absurd (omega (arith, demand-shares c es lv i a, demand-shares c es lv i b)))
       (sumTo-strict (later es lv i a) (later es lv i b) (share es lv i a) (share es lv i b) (length es) (rises a b p l))

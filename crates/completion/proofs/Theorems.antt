@@ -1,7 +1,8 @@
--- The theorems of the completion time test, for any levels of the entries; those of a group, for any group bounds.
+-- The theorems of the completion time test, for any levels of the entries and any blocking of the timed one; those of a
+-- group, for any group bounds.
 use Prim.Native.Nat.{ℕ, _+_, _≤_, _<_}
-use mathlib.Core.Path.{_≡_, _∙_, refl, ap, ap₂, sym}
-use mathlib.Core.Bool.{true, false, not, false≢true}
+use mathlib.Core.Path.{_≡_, _∙_, refl, ap, sym}
+use mathlib.Core.Bool.{true, false, false≢true}
 use mathlib.Core.Logic.{_↔_}
 use mathlib.Core.List.{List}
 use native.Mathlib.Nat.{le-trans}
@@ -10,11 +11,12 @@ use lib.ListN.{length}
 use lib.Dec.{ltb, eqb}
 use Rattle.task_model.specs.declared.Entry.{Entry}
 use Rattle.task_model.specs.Limits.{entryAt, AllHold}
-use Rattle.completion.specs.Demand.{releases, sumTo, only, demand, start}
+use Rattle.completion.specs.Demand.{sumTo, demandWith, startWith}
 use Rattle.completion.specs.Group.{IsGroup, groupLevel}
-use Rattle.completion.specs.Test.{Completion, on-time, late, completionTest, isOnTime, roundsIn, roundsBound}
+use Rattle.completion.specs.Test.{Completion, on-time, late, limit, testWith, isOnTime, roundsIn, roundsBound}
 use Rattle.completion.specs.Rounds.{iterates, FixedIn, LateIn}
-use Rattle.completion.specs.Right.{LeastTime, NoTime, RightTiming}
+use Rattle.completion.specs.Right.{LeastTime, NoTime, RightWith}
+use Rattle.completion.proofs.Bounds.{limit-due}
 use Rattle.completion.proofs.Sums.{sumTo-eq, sumTo-up, part-le}
 use Rattle.completion.proofs.Releases.{beside-most}
 use Rattle.completion.proofs.Iteration.{Least, test-least}
@@ -29,29 +31,39 @@ module _ {A : Type 0} where
   by-answer (on-time time rounds) f g = f time rounds refl
   by-answer (late rounds) f g = g rounds refl
 
-module _ (es : List Entry) (all : AllHold es) (level : ℕ → ℕ) (i : ℕ) (known : i < length es) where
-  up : (a b : ℕ) → a ≤ b → demand es level i a ≤ demand es level i b
-  up = demand-up es all level i known
+module _ (b : ℕ) (es : List Entry) (all : AllHold es) (level : ℕ → ℕ) (i : ℕ) (known : i < length es) where
+  -- the demand, where the test starts, and its limit
+  abbrev w : ℕ → ℕ
+  w = demandWith b es level i
 
-  some : (t : ℕ) → 1 ≤ demand es level i t
-  some = demand-some es all level i known
+  abbrev begin : ℕ
+  begin = startWith b es level i
 
-  first : start es level i ≡ demand es level i 1
-  first = start-first es all level i known
+  abbrev d : ℕ
+  d = limit (entryAt es i)
 
-  begins : start es level i ≤ demand es level i (start es level i)
-  begins = rw first (up 1 (demand es level i 1) (some 1))
+  up : (s t : ℕ) → s ≤ t → w s ≤ w t
+  up = demand-up es all level i known b
+
+  some : (t : ℕ) → 1 ≤ w t
+  some = demand-some es all level i known b
+
+  first : begin ≡ w 1
+  first = start-first es all level i known b
+
+  begins : begin ≤ w begin
+  begins = rw first (up 1 (w 1) (some 1))
 
   -- a time whose demand is at most that time is not before the start
-  pub not-before : (t : ℕ) → demand es level i t ≤ t → start es level i ≤ t
+  pub not-before : (t : ℕ) → demandWith b es level i t ≤ t → startWith b es level i ≤ t
   not-before t h = rw first (le-trans (up 1 t (le-trans (some t) h)) h)
 
-  least : Least (demand es level i) (entryAt es i .deadline) up (start es level i) (completionTest es level i)
-  unfolding completionTest
-  least = test-least (demand es level i) (entryAt es i .deadline) up (start es level i) 0 begins
+  least : Least w d up begin (testWith b es level i)
+  unfolding testWith
+  least = test-least w d up begin 0 begins
 
   -- The completion time is the least time whose demand is at most that time.
-  pub completion-least : (time rounds : ℕ) → completionTest es level i ≡ on-time time rounds → LeastTime es level i time
+  pub completion-least : (time rounds : ℕ) → testWith b es level i ≡ on-time time rounds → LeastTime b es level i time
   completion-least time rounds p =
       let l = rw p at least in
       record {
@@ -61,113 +73,128 @@ module _ (es : List Entry) (all : AllHold es) (level : ℕ → ℕ) (i : ℕ) (k
         first = λ t h. l .3 t (not-before t h) h;
       }
 
-  -- An entry is on time exactly if some time up to its deadline has a demand of at most that time, and late exactly if
-  -- none has.
-  pub on-time-some : isOnTime (completionTest es level i) ≡ true
-      ↔ ((t : ℕ) × (t ≤ entryAt es i .deadline) × (demand es level i t ≤ t))
+  -- An entry is on time exactly if some time up to its limit has a demand of at most that time, and late exactly if none
+  -- has.
+  pub on-time-some : isOnTime (testWith b es level i) ≡ true
+      ↔ ((t : ℕ) × (t ≤ limit (entryAt es i)) × (demandWith b es level i t ≤ t))
   on-time-some = (
     λ p.
-        by-answer (completionTest es level i)
+        by-answer (testWith b es level i)
         (λ time rounds e. let l = completion-least time rounds e in (time, l .due, omega (arith, l .equal)))
         (λ rounds e. absurd (false≢true (sym (ap isOnTime e) ∙ p))),
     λ h.
-        by-answer (completionTest es level i)
+        by-answer (testWith b es level i)
         (λ time rounds e. ap isOnTime e)
         (λ rounds e. absurd (let l = rw e at least in omega (arith, l (h .0) (not-before (h .0) (h .2)) (h .2)))),
   )
 
-  pub late-none : isOnTime (completionTest es level i) ≡ false ↔ NoTime es level i
+  pub late-none : isOnTime (testWith b es level i) ≡ false ↔ NoTime b es level i
   late-none = (
-    λ p t h d. false≢true (sym p ∙ on-time-some .1 (t, h, d)),
+    λ p t h l. false≢true (sym p ∙ on-time-some .1 (t, h, l)),
     λ h.
-        by-answer (completionTest es level i)
+        by-answer (testWith b es level i)
         (λ time rounds e. let l = completion-least time rounds e in absurd (h time (l .due) (omega (arith, l .equal))))
         (λ rounds e. ap isOnTime e),
   )
 
   -- While the test goes on, the demand is never below the time.
   pub never-below : (k : ℕ)
-      → iterates (demand es level i) (start es level i) k ≤ demand es level i (iterates (demand es level i) (start es level i) k)
-  never-below = iterates-ahead (demand es level i) (entryAt es i .deadline) up (start es level i) begins
+      → iterates (demandWith b es level i) (startWith b es level i) k
+      ≤ demandWith b es level i (iterates (demandWith b es level i) (startWith b es level i) k)
+  never-below = iterates-ahead w d up begin begins
 
   -- What the rounds are, by the iterates of the demand from the start.
-  pub on-time-rounds : (time rounds : ℕ) → completionTest es level i ≡ on-time time rounds
-      ↔ FixedIn (demand es level i) (start es level i) (entryAt es i .deadline) time rounds
-  unfolding completionTest
-  on-time-rounds = fixed-in (demand es level i) (entryAt es i .deadline) up (start es level i) begins
+  pub on-time-rounds : (time rounds : ℕ) → testWith b es level i ≡ on-time time rounds
+      ↔ FixedIn (demandWith b es level i) (startWith b es level i) (limit (entryAt es i)) time rounds
+  unfolding testWith
+  on-time-rounds = fixed-in w d up begin begins
 
-  pub late-rounds : (rounds : ℕ) → completionTest es level i ≡ late rounds
-      ↔ LateIn (demand es level i) (start es level i) (entryAt es i .deadline) rounds
-  unfolding completionTest
-  late-rounds = late-in (demand es level i) (entryAt es i .deadline) up (start es level i) begins
+  pub late-rounds : (rounds : ℕ) → testWith b es level i ≡ late rounds
+      ↔ LateIn (demandWith b es level i) (startWith b es level i) (limit (entryAt es i)) rounds
+  unfolding testWith
+  late-rounds = late-in w d up begin begins
 
-  -- There are no more rounds than ticks in the deadline,
-  pub rounds-deadline : roundsIn (completionTest es level i) ≤ entryAt es i .deadline
-  unfolding completionTest
-  rounds-deadline =
-      rounds-due (demand es level i) (entryAt es i .deadline) up (start es level i) begins (rw first (some 1))
+  -- There are no more rounds than ticks up to the limit,
+  pub rounds-limit : roundsIn (testWith b es level i) ≤ limit (entryAt es i)
+  unfolding testWith
+  rounds-limit = rounds-due w d up begin begins (rw first (some 1))
 
   -- and no more than 1 and the releases after the first, up to the deadline, of the others on its own and more urgent
   -- levels.
-  pub rounds-releases : roundsIn (completionTest es level i) ≤ roundsBound es level i
-  unfolding completionTest roundsBound
+  pub rounds-releases : roundsIn (testWith b es level i) ≤ roundsBound es level i
+  unfolding testWith roundsBound
   rounds-releases =
       rw first
-      (rounds-bounded (demand es level i) (entryAt es i .deadline) up (some 1) (λ t. sumTo (later es level i t) (length es))
-      (later-up es all level i known) (later-strict es all level i known))
+      (le-trans
+      (rounds-bounded w d up (some 1) (λ t. sumTo (later es level i t) (length es)) (later-up es all level i known)
+      (later-strict es all level i known b))
+      (omega (arith, later-up es all level i known d (entryAt es i .deadline) (limit-due (entryAt es i) (all i known .times)))))
 
   -- The test's answer is right, and so is every answer that equals it.
-  pub timing-right : (o : Completion) → o ≡ completionTest es level i → RightTiming es level i o
+  pub timing-right : (o : Completion) → o ≡ testWith b es level i → RightWith b es level i o
   timing-right o p = rw p (record { least = completion-least; lateIfNone = late-none; bounded = rounds-releases })
 
 -- The answer depends only on which entries are more urgent than the timed one, and which are beside it.
-pub alike : (es : List Entry) (lv lv′ : ℕ → ℕ) (i : ℕ)
+pub alike : (b : ℕ) (es : List Entry) (lv lv′ : ℕ → ℕ) (i : ℕ)
     → ((j : ℕ) → j < length es → (ltb (lv j) (lv i) ≡ ltb (lv′ j) (lv′ i)) × (eqb (lv j) (lv i) ≡ eqb (lv′ j) (lv′ i)))
-    → completionTest es lv i ≡ completionTest es lv′ i
-alike es lv lv′ i h =
-    test-alike es es lv lv′ i refl (start-alike es lv lv′ i h) (λ t. demand-alike es lv lv′ i h t)
+    → testWith b es lv i ≡ testWith b es lv′ i
+alike b es lv lv′ i h =
+    test-alike b b es es lv lv′ i refl (start-alike b es lv lv′ i h) (λ t. demand-alike b es lv lv′ i h t)
 
--- The answer of an entry in a group depends only on C and T up to the group's last entry, and on its own D, B and r: any
--- two nodes that agree in these, each with the entry's group from `first` to `last`, give the same.
-pub same-group : (es es′ : List Entry) (lv lv′ : ℕ → ℕ) (first last i : ℕ) → first ≤ i → i ≤ last
+-- The answer of an entry in a group depends only on C and T up to the group's last entry, and on its own limit, blocking and
+-- r: any two nodes that agree in these, each with the entry's group from `first` to `last`, give the same.
+pub same-group : (b : ℕ) (es es′ : List Entry) (lv lv′ : ℕ → ℕ) (first last i : ℕ) → first ≤ i → i ≤ last
     → last < length es → last < length es′ → IsGroup (length es) first last i lv → IsGroup (length es′) first last i lv′
     → ((j : ℕ) → j ≤ last → (entryAt es j .wcet ≡ entryAt es′ j .wcet) × (entryAt es j .period ≡ entryAt es′ j .period))
-    → entryAt es i .deadline ≡ entryAt es′ i .deadline
-    → entryAt es i .blocking ≡ entryAt es′ i .blocking
+    → limit (entryAt es i) ≡ limit (entryAt es′ i)
     → entryAt es i .calls ≡ entryAt es′ i .calls
-    → completionTest es lv i ≡ completionTest es′ lv′ i
-same-group es es′ lv lv′ first last i hf hi hl hl′ g g′ ct d b r =
-    test-alike es es′ lv lv′ i d
-    (start-in es first last i lv g hf hi hl
-    ∙ ap₂ _+_ b (sumTo-eq (wcetIn es) (wcetIn es′) (last + 1) (λ j l. ct j (omega arith) .0))
-    ∙ sym (start-in es′ first last i lv′ g′ hf hi hl′))
+    → testWith b es lv i ≡ testWith b es′ lv′ i
+same-group b es es′ lv lv′ first last i hf hi hl hl′ g g′ ct d r =
+    test-alike b b es es′ lv lv′ i d
+    (start-in es first last i lv g hf hi hl b
+    ∙ ap (λ x. b + x) (sumTo-eq (wcetIn es) (wcetIn es′) (last + 1) (λ j l. ct j (omega arith) .0))
+    ∙ sym (start-in es′ first last i lv′ g′ hf hi hl′ b))
     (λ t.
-    demand-in es first last i lv g hf hi hl t ∙ demandIn-same es es′ first last i hf hi ct b r t
-    ∙ sym (demand-in es′ first last i lv′ g′ hf hi hl′ t))
+    demand-in es first last i lv g hf hi hl b t ∙ demandIn-same es es′ first last i hf hi ct r b t
+    ∙ sym (demand-in es′ first last i lv′ g′ hf hi hl′ b t))
 
--- An entry that is on time stays on time when its group loses entries at its end.
-pub shrink : (es : List Entry) → AllHold es → (first last last′ i : ℕ) → first ≤ i → i ≤ last′ → last′ ≤ last → last < length es
-    → isOnTime (completionTest es (groupLevel first last) i) ≡ true
-    → isOnTime (completionTest es (groupLevel first last′) i) ≡ true
-shrink es all first last last′ i hf hi hl known p =
-    let t = on-time-some es all (groupLevel first last) i (omega arith) .0 p in
-    let wide = demand-in es first last i (groupLevel first last) (named-group first last (length es) i hf (omega arith)) hf (omega arith) known (t .0) in
-    let small = demand-in es first last′ i (groupLevel first last′) (named-group first last′ (length es) i hf hi) hf hi (omega arith) (t .0) in
-    on-time-some es all (groupLevel first last′) i (omega arith) .1
-    (t .0, t .1, omega (arith, wide, small, sumTo-up (besideIn es i (t .0)) (last′ + 1) (last + 1) (omega arith)))
+-- An entry that is on time is on time wherever its demand is no greater.
+pub on-time-less : (es : List Entry) → AllHold es → (i : ℕ) → i < length es → (b b′ : ℕ) (lv lv′ : ℕ → ℕ)
+    → ((t : ℕ) → 1 ≤ t → demandWith b′ es lv′ i t ≤ demandWith b es lv i t)
+    → isOnTime (testWith b es lv i) ≡ true → isOnTime (testWith b′ es lv′ i) ≡ true
+on-time-less es all i known b b′ lv lv′ less p =
+    let t = on-time-some b es all lv i known .0 p in
+    on-time-some b′ es all lv′ i known .1
+    (t .0, t .1, le-trans (less (t .0) (le-trans (demand-some es all lv i known b (t .0)) (t .2))) (t .2))
 
--- An entry that is on time stays on time when more urgent entries just before its group join it.
-pub widen : (es : List Entry) → AllHold es → (first first′ last i : ℕ) → first′ ≤ first → first ≤ i → i ≤ last → last < length es
-    → isOnTime (completionTest es (groupLevel first last) i) ≡ true
-    → isOnTime (completionTest es (groupLevel first′ last) i) ≡ true
-widen es all first first′ last i le hf hi known p =
-    let t = on-time-some es all (groupLevel first last) i (omega arith) .0 p in
-    let narrow = demand-in es first last i (groupLevel first last) (named-group first last (length es) i hf hi) hf hi known (t .0) in
-    let wide = demand-in es first′ last i (groupLevel first′ last) (named-group first′ last (length es) i (omega arith) hi) (omega arith) hi known (t .0) in
-    let less = part-le (besideIn es i (t .0)) (urgentIn es (t .0)) first′ first le
-    (λ j l. beside-most (entryAt es j) (all j (omega arith) .times) (entryAt es i .calls) (t .0)) in
-    on-time-some es all (groupLevel first′ last) i (omega arith) .1 (
-      t .0,
-      t .1,
-      omega (arith, wide, narrow, less, sumTo-up (besideIn es i (t .0)) first′ first le, sumTo-up (urgentIn es (t .0)) first′ first le, sumTo-up (besideIn es i (t .0)) first i hf),
-    )
+-- So it stays on time when its group loses entries at its end,
+pub shrink : (b : ℕ) (es : List Entry) → AllHold es → (first last last′ i : ℕ) → first ≤ i → i ≤ last′ → last′ ≤ last → last < length es
+    → isOnTime (testWith b es (groupLevel first last) i) ≡ true
+    → isOnTime (testWith b es (groupLevel first last′) i) ≡ true
+shrink b es all first last last′ i hf hi hl known =
+    on-time-less es all i (omega arith) b b (groupLevel first last) (groupLevel first last′)
+    (λ t some.
+    let wide = demand-in es first last i (groupLevel first last) (named-group first last (length es) i hf (omega arith)) hf (omega arith) known b t in
+    let small = demand-in es first last′ i (groupLevel first last′) (named-group first last′ (length es) i hf hi) hf hi (omega arith) b t in
+    omega (arith, wide, small, sumTo-up (besideIn es i t) (last′ + 1) (last + 1) (omega arith)))
+
+-- and when more urgent entries just before its group join it.
+pub widen : (b : ℕ) (es : List Entry) → AllHold es → (first first′ last i : ℕ) → first′ ≤ first → first ≤ i → i ≤ last → last < length es
+    → isOnTime (testWith b es (groupLevel first last) i) ≡ true
+    → isOnTime (testWith b es (groupLevel first′ last) i) ≡ true
+widen b es all first first′ last i le hf hi known =
+    on-time-less es all i (omega arith) b b (groupLevel first last) (groupLevel first′ last)
+    (λ t some.
+    let narrow = demand-in es first last i (groupLevel first last) (named-group first last (length es) i hf hi) hf hi known b t in
+    let wide = demand-in es first′ last i (groupLevel first′ last) (named-group first′ last (length es) i (omega arith) hi) (omega arith) hi known b t in
+    let less = part-le (besideIn es i t) (urgentIn es t) first′ first le
+    (λ j l. beside-most (entryAt es j) (all j (omega arith) .times) (entryAt es i .calls) t) in
+    omega (
+      arith,
+      wide,
+      narrow,
+      less,
+      sumTo-up (besideIn es i t) first′ first le,
+      sumTo-up (urgentIn es t) first′ first le,
+      sumTo-up (besideIn es i t) first i hf,
+    ))

@@ -1,17 +1,18 @@
 -- The demand and the start of an entry in a named group, by the words that hold the node.
 use Prim.Native.Nat.{ℕ, _+_, _-_, _≤_, _<_}
-use mathlib.Core.Path.{_≡_, _∙_, ap}
+use mathlib.Core.Path.{_≡_, _∙_, ap, sym}
 use mathlib.Core.List.{List}
 use native.Mathlib.Nat.{le-trans}
 use native.Mathlib.Omega.{arith}
 use lib.ListN.{length}
 use Rattle.task_model.specs.declared.Entry.{Entry}
-use Rattle.task_model.specs.Limits.{entryAt, AllHold}
+use Rattle.task_model.specs.Limits.{mostTicks, mostEntries, entryAt, TimesHold, AllHold}
 use Rattle.task_model.specs.Words.{entryOf, entriesOf}
 use Rattle.task_model.proofs.Laws.{length-entries, entry-of, all-at}
-use Rattle.completion.specs.Demand.{sumTo, urgentShare, besideShare, demand, start}
+use Rattle.completion.specs.Demand.{sumTo, urgentShare, besideShare, demandWith, startWith}
 use Rattle.completion.specs.Group.{groupLevel}
-use Rattle.completion.specs.Test.{testFrom, completionTest}
+use Rattle.completion.specs.Test.{limit, testFrom, testWith}
+use Rattle.completion.proofs.Bounds.{mostShare, mostShares, mostRuns, limit-most, limit-run}
 use Rattle.completion.proofs.Sums.{sumTo-eq, sumTo-most}
 use Rattle.completion.proofs.Releases.{urgent-most, beside-most}
 use Rattle.completion.proofs.Shares.{demand-up, demand-some, start-first}
@@ -26,6 +27,19 @@ besideOf ws calls t j = besideShare (entryOf ws j) calls t
 abbrev pub wcetOf : List ℕ → ℕ → ℕ
 wcetOf ws j = entryOf ws j .wcet
 
+-- an entry that code reads is within the limits, and so is its own limit
+module _ (ws : List ℕ) (n : ℕ) (all : AllHold (entriesOf ws n)) (i : ℕ) (h : i < n) (e : Entry) (named : e ≡ entryOf ws i) where
+  pub words-times : TimesHold e
+  words-times = rw named (all-at ws n all i h .times)
+
+  pub words-limit : (d : ℕ) → d ≡ limit e → (1 ≤ d) × (d ≤ mostTicks)
+  words-limit d p =
+      let t = words-times in
+      (omega (arith, limit-run e t), omega (arith, limit-most e t))
+
+  pub words-due : (d : ℕ) → d ≡ limit e → limit (entryAt (entriesOf ws n) i) ≡ d
+  words-due d p = ap limit (entry-of ws n i h ∙ sym named) ∙ sym p
+
 module _ (ws : List ℕ) (n : ℕ) where
   -- a sum over entries is one over their words
   pub in-words : (f : Entry → ℕ) (m : ℕ) → m ≤ n
@@ -36,17 +50,17 @@ module _ (ws : List ℕ) (n : ℕ) where
     inside : last < length (entriesOf ws n)
     inside = omega (arith, length-entries ws 0 n)
 
-    pub words-demand : (t : ℕ) → demand (entriesOf ws n) (groupLevel first last) i t
-        ≡ entryOf ws i .wcet + entryOf ws i .blocking + sumTo (urgentOf ws t) first
+    pub words-demand : (b t : ℕ) → demandWith b (entriesOf ws n) (groupLevel first last) i t
+        ≡ entryOf ws i .wcet + b + sumTo (urgentOf ws t) first
         + (sumTo (besideOf ws (entryOf ws i .calls) t) i - sumTo (besideOf ws (entryOf ws i .calls) t) first)
         + (sumTo (besideOf ws (entryOf ws i .calls) t) (last + 1) - sumTo (besideOf ws (entryOf ws i .calls) t) (i + 1))
-    words-demand t =
+    words-demand b t =
         let es = entriesOf ws n in
         let own : entryAt es i ≡ entryOf ws i = entry-of ws n i (omega arith) in
         let same : (m : ℕ) → m ≤ n → sumTo (besideIn es i t) m ≡ sumTo (besideOf ws (entryOf ws i .calls) t) m =
         λ m h. in-words (λ e. besideShare e (entryAt es i .calls) t) m h
         ∙ ap (λ (e : Entry). sumTo (besideOf ws (e .calls) t) m) own in
-        demand-in es first last i (groupLevel first last) (named-group first last (length es) i hf hi) hf hi inside t
+        demand-in es first last i (groupLevel first last) (named-group first last (length es) i hf hi) hf hi inside b t
         ∙ rw (
           in-words (λ e. urgentShare e t) first (omega arith),
           same i (omega arith),
@@ -57,64 +71,66 @@ module _ (ws : List ℕ) (n : ℕ) where
         )
 
     -- the same from its parts, as code adds them up
-    pub words-parts : (t : ℕ) (own : Entry) (urgent left right : ℕ) → own ≡ entryOf ws i → urgent ≡ sumTo (urgentOf ws t) first
+    pub words-parts : (b t : ℕ) (own : Entry) (urgent left right : ℕ) → own ≡ entryOf ws i → urgent ≡ sumTo (urgentOf ws t) first
         → left ≡ sumTo (besideOf ws (own .calls) t) i - sumTo (besideOf ws (own .calls) t) first
         → right ≡ sumTo (besideOf ws (own .calls) t) (last + 1) - sumTo (besideOf ws (own .calls) t) (i + 1)
-        → own .wcet + own .blocking + urgent + left + right ≡ demand (entriesOf ws n) (groupLevel first last) i t
-    words-parts t own urgent left right o u l r = rw (words-demand t, u, l, r, o)
+        → own .wcet + b + urgent + left + right ≡ demandWith b (entriesOf ws n) (groupLevel first last) i t
+    words-parts b t own urgent left right o u l r = rw (words-demand b t, u, l, r, o)
 
-    pub words-start : start (entriesOf ws n) (groupLevel first last) i ≡ entryOf ws i .blocking + sumTo (wcetOf ws) (last + 1)
-    words-start =
+    pub words-start : (b : ℕ) → startWith b (entriesOf ws n) (groupLevel first last) i ≡ b + sumTo (wcetOf ws) (last + 1)
+    words-start b =
         let es = entriesOf ws n in
-        start-in es first last i (groupLevel first last) (named-group first last (length es) i hf hi) hf hi inside
-        ∙ rw (in-words (λ e. e .wcet) (last + 1) (omega arith), entry-of ws n i (omega arith))
+        start-in es first last i (groupLevel first last) (named-group first last (length es) i hf hi) hf hi inside b
+        ∙ rw (in-words (λ e. e .wcet) (last + 1) (omega arith))
 
   -- the sums are small
-  module _ (all : AllHold (entriesOf ws n)) (few : n ≤ 64) where
-    pub urgent-small : (t m : ℕ) → t ≤ 1000000000 → m ≤ n → sumTo (urgentOf ws t) m ≤ 128000000000
+  module _ (all : AllHold (entriesOf ws n)) (few : n ≤ mostEntries) where
+    pub urgent-small : (t m : ℕ) → t ≤ mostTicks → m ≤ n → sumTo (urgentOf ws t) m ≤ mostShares
     urgent-small t m h l =
         omega (
           arith,
-          sumTo-most (urgentOf ws t) 2000000000 m (λ j p. urgent-most _ (all-at ws n all j (omega arith) .times) t h),
+          sumTo-most (urgentOf ws t) mostShare m (λ j p. urgent-most _ (all-at ws n all j (omega arith) .times) t h),
         )
 
-    pub beside-small : (calls t m : ℕ) → t ≤ 1000000000 → m ≤ n → sumTo (besideOf ws calls t) m ≤ 128000000000
+    pub beside-small : (calls t m : ℕ) → t ≤ mostTicks → m ≤ n → sumTo (besideOf ws calls t) m ≤ mostShares
     beside-small calls t m h l =
         omega (
           arith,
-          sumTo-most (besideOf ws calls t) 2000000000 m
+          sumTo-most (besideOf ws calls t) mostShare m
               (λ j p.
               let k = all-at ws n all j (omega arith) .times in
               le-trans (beside-most _ k calls t) (urgent-most _ k t h)),
         )
 
-    pub wcet-small : (m : ℕ) → m ≤ n → sumTo (wcetOf ws) m ≤ 64000000000
+    pub wcet-small : (m : ℕ) → m ≤ n → sumTo (wcetOf ws) m ≤ mostRuns
     wcet-small m l =
         omega (
           arith,
-          sumTo-most (wcetOf ws) 1000000000 m (λ j p. omega (arith, all-at ws n all j (omega arith) .times)),
+          sumTo-most (wcetOf ws) mostTicks m (λ j p. omega (arith, all-at ws n all j (omega arith) .times)),
         )
 
--- The demand of an entry of a node that is held in words: it never falls, and the test starts at a time that it is not below.
-module _ (ws : List ℕ) (n : ℕ) (all : AllHold (entriesOf ws n)) (first last i : ℕ) (hi : i ≤ last) (hl : last < n) where
+-- The demand of an entry of a node that is held in words, with the blocking b: it never falls, and the test starts at a time
+-- that it is not below.
+module _ (ws : List ℕ) (n : ℕ) (all : AllHold (entriesOf ws n)) (first last i : ℕ) (hi : i ≤ last) (hl : last < n) (b : ℕ) where
   known : i < length (entriesOf ws n)
   known = omega (arith, length-entries ws 0 n)
 
-  pub words-up : (a b : ℕ) → a ≤ b
-      → demand (entriesOf ws n) (groupLevel first last) i a ≤ demand (entriesOf ws n) (groupLevel first last) i b
-  words-up = demand-up (entriesOf ws n) all (groupLevel first last) i known
+  abbrev w : ℕ → ℕ
+  w = demandWith b (entriesOf ws n) (groupLevel first last) i
 
-  pub words-begin : (1 ≤ start (entriesOf ws n) (groupLevel first last) i)
-      × (start (entriesOf ws n) (groupLevel first last) i
-      ≤ demand (entriesOf ws n) (groupLevel first last) i (start (entriesOf ws n) (groupLevel first last) i))
+  abbrev begin : ℕ
+  begin = startWith b (entriesOf ws n) (groupLevel first last) i
+
+  pub words-up : (s t : ℕ) → s ≤ t → w s ≤ w t
+  words-up = demand-up (entriesOf ws n) all (groupLevel first last) i known b
+
+  pub words-begin : (1 ≤ begin) × (begin ≤ w begin)
   words-begin =
-      let w = demand (entriesOf ws n) (groupLevel first last) i in
-      let some = demand-some (entriesOf ws n) all (groupLevel first last) i known 1 in
-      rw (start-first (entriesOf ws n) all (groupLevel first last) i known) (some, words-up 1 (w 1) some)
+      let some = demand-some (entriesOf ws n) all (groupLevel first last) i known b 1 in
+      rw (start-first (entriesOf ws n) all (groupLevel first last) i known b) (some, words-up 1 (w 1) some)
 
   -- the whole test, from what code has found of it before its loop
-  pub words-test : (t d : ℕ) → t ≡ start (entriesOf ws n) (groupLevel first last) i → d ≡ entryOf ws i .deadline
-      → testFrom (demand (entriesOf ws n) (groupLevel first last) i) d t 0
-      ≡ completionTest (entriesOf ws n) (groupLevel first last) i
-  unfolding completionTest
-  words-test t d p q = rw (p, q, entry-of ws n i (omega arith))
+  pub words-test : (t d : ℕ) → t ≡ begin → limit (entryAt (entriesOf ws n) i) ≡ d
+      → testFrom w d t 0 ≡ testWith b (entriesOf ws n) (groupLevel first last) i
+  unfolding testWith
+  words-test t d p q = rw (p, q)

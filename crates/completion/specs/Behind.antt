@@ -7,10 +7,11 @@ use lib.Dec.{ltb}
 use Rattle.task_model.specs.declared.Entry.{Entry}
 use Rattle.task_model.specs.Limits.{entryAt}
 use Rattle.completion.specs.Demand.{sumTo}
+use Rattle.completion.specs.Test.{limit}
 
--- The deadline of the entry at i is shorter than its blocking and one run of every entry before `end`.
+-- The limit of the entry at i is shorter than its blocking and one run of every entry before `end`.
 unfoldable pub lateByRuns : List Entry → ℕ → ℕ → Bool
-lateByRuns es end i = ltb (entryAt es i .deadline) (entryAt es i .blocking + sumTo (λ j. entryAt es j .wcet) end)
+lateByRuns es end i = ltb (limit (entryAt es i)) (entryAt es i .blocking + sumTo (λ j. entryAt es j .wcet) end)
 
 -- The position behind the last of the first n positions at which the test holds, or 0 if there is none.
 unfoldable pub behindLast : (ℕ → Bool) → ℕ → ℕ

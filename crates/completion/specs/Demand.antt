@@ -43,13 +43,22 @@ urgentShare e t = e .wcet * releases e t
 unfoldable pub besideShare : Entry → ℕ → ℕ → ℕ
 besideShare e calls t = e .wcet * min (releases e t) (calls + 1)
 
--- The demand of the entry at i at time t: its own C and B, the entries on more urgent levels, and the others on its own.
-unfoldable pub demand : List Entry → (ℕ → ℕ) → ℕ → ℕ → ℕ
-demand es level i t =
-    entryAt es i .wcet + entryAt es i .blocking
+-- The demand of the entry at i at time t, where less urgent work can hold it up for b ticks: its own C and b, the entries
+-- on more urgent levels, and the others on its own.
+unfoldable pub demandWith : ℕ → List Entry → (ℕ → ℕ) → ℕ → ℕ → ℕ
+demandWith b es level i t =
+    entryAt es i .wcet + b
     + sumTo (λ j. only (moreUrgent level i j) (urgentShare (entryAt es j) t)) (length es)
     + sumTo (λ j. only (beside level i j) (besideShare (entryAt es j) (entryAt es i .calls) t)) (length es)
 
--- Where the test starts: B of the entry at i, and C of every entry on its own and more urgent levels, itself included.
-unfoldable pub start : List Entry → (ℕ → ℕ) → ℕ → ℕ
-start es level i = entryAt es i .blocking + sumTo (λ j. only (leb (level j) (level i)) (entryAt es j .wcet)) (length es)
+-- The demand: its own C and B, the entries on more urgent levels, and the others on its own.
+abbrev pub demand : List Entry → (ℕ → ℕ) → ℕ → ℕ → ℕ
+demand es level i t = demandWith (entryAt es i .blocking) es level i t
+
+-- Where the test starts: b, and C of every entry on its own and more urgent levels, itself included.
+unfoldable pub startWith : ℕ → List Entry → (ℕ → ℕ) → ℕ → ℕ
+startWith b es level i = b + sumTo (λ j. only (leb (level j) (level i)) (entryAt es j .wcet)) (length es)
+
+-- With B of the entry at i.
+abbrev pub start : List Entry → (ℕ → ℕ) → ℕ → ℕ
+start es level i = startWith (entryAt es i .blocking) es level i

@@ -13,7 +13,7 @@ one = 17179869184
 unfoldable pub load : Entry → ℕ
 load e = (one * e .wcet) / e .period
 
--- In t ticks, up to a deadline d, an entry with a period shorter than d runs at least its load times t; any other at least
+-- In t ticks, up to a limit d, an entry with a period shorter than d runs at least its load times t; any other at least
 -- once.
 -- These are the load and the run that the first kind adds to a sum, and 0 for the second.
 unfoldable pub recurringLoad : ℕ → Entry → ℕ

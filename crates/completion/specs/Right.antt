@@ -6,23 +6,28 @@ use mathlib.Core.Logic.{_↔_}
 use mathlib.Core.List.{List}
 use Rattle.task_model.specs.declared.Entry.{Entry}
 use Rattle.task_model.specs.Limits.{entryAt}
-use Rattle.completion.specs.Demand.{demand}
-use Rattle.completion.specs.Test.{Completion, on-time, isOnTime, roundsIn, roundsBound}
+use Rattle.completion.specs.Demand.{demandWith}
+use Rattle.completion.specs.Test.{Completion, on-time, limit, isOnTime, roundsIn, roundsBound}
 
--- The least time whose demand is at most that time: the demand equals it there, it is at least 1, and at most the deadline.
-pub record LeastTime (es : List Entry) (level : ℕ → ℕ) (i time : ℕ) : Type 0 where
+-- The least time whose demand, with the blocking b, is at most that time: the demand equals it there, it is at least 1, and
+-- at most the entry's limit, its deadline.
+pub record LeastTime (b : ℕ) (es : List Entry) (level : ℕ → ℕ) (i time : ℕ) : Type 0 where
   pub some : 1 ≤ time
-  pub due : time ≤ entryAt es i .deadline
-  pub equal : demand es level i time ≡ time
-  pub first : (t : ℕ) → demand es level i t ≤ t → time ≤ t
+  pub due : time ≤ limit (entryAt es i)
+  pub equal : demandWith b es level i time ≡ time
+  pub first : (t : ℕ) → demandWith b es level i t ≤ t → time ≤ t
 
--- No time up to the deadline has a demand of at most that time.
-abbrev pub NoTime : List Entry → (ℕ → ℕ) → ℕ → Type 0
-NoTime es level i = (t : ℕ) → t ≤ entryAt es i .deadline → demand es level i t ≤ t → ⊥
+-- No time up to the limit has a demand of at most that time.
+abbrev pub NoTime : ℕ → List Entry → (ℕ → ℕ) → ℕ → Type 0
+NoTime b es level i = (t : ℕ) → t ≤ limit (entryAt es i) → demandWith b es level i t ≤ t → ⊥
 
--- An answer for the entry at i is right: the time of an entry that is on time is the least, an entry is late exactly if
--- there is no such time, and the rounds are within their bound.
-pub record RightTiming (es : List Entry) (level : ℕ → ℕ) (i : ℕ) (o : Completion) : Type 0 where
-  pub least : (time rounds : ℕ) → o ≡ on-time time rounds → LeastTime es level i time
-  pub lateIfNone : isOnTime o ≡ false ↔ NoTime es level i
+-- An answer for the entry at i, with the blocking b, is right: the time of an entry that is on time is the least, an entry
+-- is late exactly if there is no such time, and the rounds are within their bound.
+pub record RightWith (b : ℕ) (es : List Entry) (level : ℕ → ℕ) (i : ℕ) (o : Completion) : Type 0 where
+  pub least : (time rounds : ℕ) → o ≡ on-time time rounds → LeastTime b es level i time
+  pub lateIfNone : isOnTime o ≡ false ↔ NoTime b es level i
   pub bounded : roundsIn o ≤ roundsBound es level i
+
+-- With its own B.
+abbrev pub RightTiming : List Entry → (ℕ → ℕ) → ℕ → Completion → Type 0
+RightTiming es level i o = RightWith (entryAt es i .blocking) es level i o

@@ -11,7 +11,7 @@ iterates w t0 (suc k) = w (iterates w t0 k)
 abbrev pub Fixed : (ℕ → ℕ) → ℕ → Type 0
 Fixed w t = w t ≡ t
 
--- On time at `time` in `rounds` rounds: the iterate before the last round is the first fixed one, and at most the deadline.
+-- On time at `time` in `rounds` rounds: the iterate before the last round is the first fixed one, and at most the limit d.
 pub record FixedIn (w : ℕ → ℕ) (t0 d time rounds : ℕ) : Type 0 where
   pub last : ℕ
   pub counted : rounds ≡ last + 1
@@ -20,7 +20,7 @@ pub record FixedIn (w : ℕ → ℕ) (t0 d time rounds : ℕ) : Type 0 where
   pub first : (j : ℕ) → j < last → Fixed w (iterates w t0 j) → ⊥
   pub due : time ≤ d
 
--- Late in `rounds` rounds: as many iterates are at most the deadline and none of them is fixed, and the next is above it.
+-- Late in `rounds` rounds: as many iterates are at most the limit d and none of them is fixed, and the next is above it.
 pub record LateIn (w : ℕ → ℕ) (t0 d rounds : ℕ) : Type 0 where
   pub within : (j : ℕ) → j < rounds → iterates w t0 j ≤ d
   pub moving : (j : ℕ) → j < rounds → Fixed w (iterates w t0 j) → ⊥

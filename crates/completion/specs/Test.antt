@@ -11,7 +11,7 @@ use Rattle.completion.specs.declared.Timing.{Timing}
 use Rattle.completion.specs.declared.Timing.the-variants.{OnTime, Late}
 use Rattle.completion.specs.declared.Ending.{Ending}
 use Rattle.completion.specs.declared.Ending.the-variants as ending
-use Rattle.completion.specs.Demand.{releases, sumTo, only, demand, start}
+use Rattle.completion.specs.Demand.{releases, sumTo, only, demandWith, startWith}
 
 -- The answer for an entry: on time, with its completion time and the rounds, or late, with the rounds alone. Rounds is
 -- the number of times that the demand was evaluated.
@@ -24,7 +24,11 @@ abbrev pub completion : Timing → Completion
 completion (OnTime time rounds) = on-time time rounds
 completion (Late rounds) = late rounds
 
--- While t is at most the deadline d, the demand w is evaluated at t: if it equals t, t is the completion time, and else
+-- The limit of an entry: the last time, counted from its release, by which it may end. It is its deadline, D.
+unfoldable pub limit : Entry → ℕ
+limit e = e .deadline
+
+-- While t is at most the limit d, the demand w is evaluated at t: if it equals t, t is the completion time, and else
 -- it becomes the next t. `rounds` counts the evaluations made so far, and no more than `fuel` are made.
 unfoldable pub iterate : (ℕ → ℕ) → ℕ → ℕ → ℕ → ℕ → Completion
 iterate w d zero t rounds = late rounds
@@ -41,9 +45,13 @@ iterate w d (suc fuel) t rounds =
 unfoldable pub testFrom : (ℕ → ℕ) → ℕ → ℕ → ℕ → Completion
 testFrom w d t rounds = iterate w d (d + 1 - t) t rounds
 
--- The completion time test of the entry at i.
-unfoldable pub completionTest : List Entry → (ℕ → ℕ) → ℕ → Completion
-completionTest es level i = testFrom (demand es level i) (entryAt es i .deadline) (start es level i) 0
+-- The test of the entry at i, where less urgent work can hold it up for b ticks.
+unfoldable pub testWith : ℕ → List Entry → (ℕ → ℕ) → ℕ → Completion
+testWith b es level i = testFrom (demandWith b es level i) (limit (entryAt es i)) (startWith b es level i) 0
+
+-- The completion time test of the entry at i: with its own B.
+abbrev pub completionTest : List Entry → (ℕ → ℕ) → ℕ → Completion
+completionTest es level i = testWith (entryAt es i .blocking) es level i
 
 -- The entry ends by its deadline.
 abbrev pub isOnTime : Completion → Bool

@@ -7,9 +7,9 @@ ghost use mathlib.Core.Path.{_≡_};
 ghost use Prim.Native.Nat.{_+_, _-_, _≤_, _<_};
 ghost use Rattle.task_model.specs.Limits.{mostTicks, mostEntries, AllHold, TimesHold};
 ghost use Rattle.task_model.specs.Words.{entryOf, entriesOf};
-ghost use Rattle.completion.specs.Demand.{releases, sumTo, urgentShare, besideShare, demand, start};
+ghost use Rattle.completion.specs.Demand.{releases, sumTo, urgentShare, besideShare, demandWith, startWith};
 ghost use Rattle.completion.specs.Group.{groupLevel, InGroup};
-ghost use Rattle.completion.specs.Test.{completion, completionTest, roundsIn, roundsBound};
+ghost use Rattle.completion.specs.Test.{completion, limit, testWith, completionTest, roundsIn, roundsBound};
 use task_model::Entry;
 use task_model::NodeWords;
 use task_model::entry_at;
@@ -36,6 +36,14 @@ impl Timing {
 pub enum Ending {
     OnTime,
     Late,
+}
+
+// The last time, counted from its release, by which an entry may end.
+fn limit_of(e: Entry) -> u32
+    requires { ⌜ TimesHold e ⌝ }
+    ensures { λ d. ⌜ d ≡ limit e ⌝ }
+{
+    e.deadline
 }
 
 // How often an entry is released in `t` ticks. The first period needs no division.
@@ -94,15 +102,24 @@ fn beside_sum(words: &NodeWords, begin: usize, end: usize, calls: u8, t: u32) ->
     sum
 }
 
-// The demand at `t` of the entry at `i`, in the group from `first` to `last`.
-fn demand_at(words: &NodeWords, count: usize, first: usize, last: usize, i: usize, t: u32) -> u64
+// The demand at `t` of the entry at `i`, in the group from `first` to `last`, where less urgent work can hold it up for
+// `blocking` ticks.
+fn demand_at(
+    words: &NodeWords,
+    count: usize,
+    first: usize,
+    last: usize,
+    i: usize,
+    blocking: u32,
+    t: u32,
+) -> u64
     requires { ⌜ AllHold (entriesOf (now words) count) ⌝ ∗ ⌜ InGroup count first last i ⌝
         ∗ ⌜ (1 ≤ t) × (t ≤ mostTicks) ⌝ }
-    ensures { λ x. ⌜ x ≡ demand (entriesOf (now (words .entry)) count) (groupLevel first last) i t ⌝ }
+    ensures { λ x. ⌜ x ≡ demandWith blocking (entriesOf (now (words .entry)) count) (groupLevel first last) i t ⌝ }
 {
     let own = entry_at(words, i);
     own.wcet as u64
-        + own.blocking as u64
+        + blocking as u64
         + urgent_sum(words, first, t)
         + beside_sum(words, first, i, own.calls, t)
         + beside_sum(words, i + 1, last + 1, own.calls, t)
@@ -122,12 +139,48 @@ pub fn wcet_sum(words: &NodeWords, end: usize) -> u64
 }
 
 // Where the test of the entry at `i` starts, in the group from `first` to `last`.
-fn start_at(words: &NodeWords, count: usize, first: usize, last: usize, i: usize) -> u64
+fn start_at(
+    words: &NodeWords,
+    count: usize,
+    first: usize,
+    last: usize,
+    i: usize,
+    blocking: u32,
+) -> u64
     requires { ⌜ AllHold (entriesOf (now words) count) ⌝ ∗ ⌜ InGroup count first last i ⌝ }
-    ensures { λ x. ⌜ x ≡ start (entriesOf (now (words .entry)) count) (groupLevel first last) i ⌝ }
+    ensures { λ x. ⌜ x ≡ startWith blocking (entriesOf (now (words .entry)) count) (groupLevel first last) i ⌝ }
 {
-    let own = entry_at(words, i);
-    own.blocking as u64 + wcet_sum(words, last + 1)
+    blocking as u64 + wcet_sum(words, last + 1)
+}
+
+// Times the entry at `i` of a node, in the group from `first` to `last`, where less urgent work can hold it up for `blocking`
+// ticks; the entries before the group are more urgent.
+fn test_with(
+    words: &NodeWords,
+    count: usize,
+    first: usize,
+    last: usize,
+    i: usize,
+    blocking: u32,
+) -> Timing
+    requires { ⌜ AllHold (entriesOf (now words) count) ⌝ ∗ ⌜ InGroup count first last i ⌝ }
+    ensures answered { λ a. ⌜ completion a ≡ testWith blocking (entriesOf (now (words .entry)) count) (groupLevel first last) i ⌝ }
+    ensures bounded { λ a.
+        ⌜ roundsIn (completion a) ≤ roundsBound (entriesOf (now (words .entry)) count) (groupLevel first last) i ⌝ }
+{
+    let limit = limit_of(entry_at(words, i)) as u64;
+    let mut t = start_at(words, count, first, last, i, blocking);
+    let mut rounds = 0;
+    while t <= limit {
+        let time = t as u32;
+        let next = demand_at(words, count, first, last, i, blocking, time);
+        rounds += 1;
+        if next == t {
+            return Timing::OnTime { time, rounds };
+        }
+        t = next;
+    }
+    Timing::Late { rounds }
 }
 
 // Times the entry at `i` of a node, in the group from `first` to `last`; the entries before it are more urgent.
@@ -144,17 +197,5 @@ pub fn completion_test(
         ⌜ roundsIn (completion a) ≤ roundsBound (entriesOf (now (words .entry)) count) (groupLevel first last) i ⌝ }
 {
     let own = entry_at(words, i);
-    let deadline = own.deadline as u64;
-    let mut t = start_at(words, count, first, last, i);
-    let mut rounds = 0;
-    while t <= deadline {
-        let time = t as u32;
-        let next = demand_at(words, count, first, last, i, time);
-        rounds += 1;
-        if next == t {
-            return Timing::OnTime { time, rounds };
-        }
-        t = next;
-    }
-    Timing::Late { rounds }
+    test_with(words, count, first, last, i, own.blocking)
 }

@@ -1,7 +1,7 @@
 -- Whether an entry is on time depends on its group alone, so a choice among assignments is one among groups.
 use Prim.Native.Nat.{ℕ, zero, suc, _+_, _-_, _≤_, _<_}
 use mathlib.Core.Path.{_≡_, refl, sym, _∙_, ap}
-use mathlib.Core.Bool.{Bool, true}
+use mathlib.Core.Bool.{true}
 use mathlib.Core.List.{List}
 use mathlib.Core.Logic.{by-cases, _↔_}
 use native.Mathlib.Omega.{arith}
@@ -10,12 +10,13 @@ use lib.ListN.{length}
 use lib.Dec.{ltb, eqb}
 use borrow.Author.Tests.{lt-ltb, le-ltb, eq-eqb, ne-eqb}
 use Rattle.task_model.specs.declared.Entry.{Entry}
-use Rattle.task_model.specs.Limits.{AllHold}
+use Rattle.task_model.specs.Limits.{entryAt, AllHold}
 use Rattle.completion.specs.Group.{IsGroup, groupLevel}
 use Rattle.completion.specs.Test.{completionTest, isOnTime}
 use Rattle.completion.proofs.Groups.{named-group}
 use Rattle.completion.proofs.Theorems.{alike, same-group, shrink}
 use Rattle.level_map.specs.Assignments.{levelOf, Assignment, NoneLate}
+use Rattle.level_map.specs.Groups.{onTimeIn}
 use Rattle.level_map.proofs.Levels.{
   before,
   before-length,
@@ -54,10 +55,6 @@ module _ {n hi : ℕ} {a : List ℕ} (s : Assignment n hi a) (i : ℕ) (h : i < 
             before-out 1 hi (suc (levelOf a i)) a j (assignment-rising s) (omega (arith, s .each)) (omega (arith, group-end));
       }
 
--- The entry at i is on time in the group from position a up to, and without, position e.
-abbrev pub onTimeIn : List Entry → ℕ → ℕ → ℕ → Bool
-onTimeIn es i a e = isOnTime (completionTest es (groupLevel a (e - 1)) i)
-
 module _ (es : List Entry) where
   -- Under an assignment, the test of an entry is that of its group.
   pub group-test : {hi : ℕ} {a : List ℕ} → Assignment (length es) hi a → (i : ℕ) → i < length es
@@ -69,20 +66,23 @@ module _ (es : List Entry) where
       let lo : f ≤ i = group-first s i h in
       let up : i ≤ l = omega (arith, group-end s i h) in
       let fits : l < length es = omega (arith, group-end s i h, group-fits s i h) in
-      same-group es es (levelOf a) (groupLevel f l) f l i lo up fits fits
-      (level-group s i h) (named-group f l (length es) i lo up) (λ j k. (refl, refl)) refl refl refl
+      same-group _ es es (levelOf a) (groupLevel f l) f l i lo up fits fits
+      (level-group s i h) (named-group f l (length es) i lo up) (λ j k. (refl, refl)) refl refl
 
-  -- No entry is late exactly if each is on time in its group.
-  pub grouped : (hi : ℕ) (a : List ℕ) → Assignment (length es) hi a → NoneLate es a ↔ InTime (onTimeIn es) (length es) a
-  grouped hi a s = (
-    λ f i h. sym (ap isOnTime (group-test s i h)) ∙ f i h,
-    λ f i h. ap isOnTime (group-test s i h) ∙ f i h,
-  )
+  -- No entry is late exactly if each is on time in its group, to whose blocking nothing is added.
+  on-time-same : {hi : ℕ} {a : List ℕ} → Assignment (length es) hi a → (i : ℕ) → i < length es
+      → isOnTime (completionTest es (levelOf a) i) ≡ onTimeIn es 0 i (before (levelOf a i) a) (before (suc (levelOf a i)) a)
+  on-time-same s i h =
+      let e : entryAt es i .blocking + 0 ≡ entryAt es i .blocking = omega arith in
+      rw e (ap isOnTime (group-test s i h))
+
+  pub grouped : (hi : ℕ) (a : List ℕ) → Assignment (length es) hi a → NoneLate es a ↔ InTime (onTimeIn es 0) (length es) a
+  grouped hi a s = (λ f i h. sym (on-time-same s i h) ∙ f i h, λ f i h. on-time-same s i h ∙ f i h)
 
   -- An entry that is on time stays so when its group loses entries at its end.
   pub loses-end : AllHold es → (i a e e′ : ℕ) → a ≤ i → i < e′ → e′ ≤ e → e ≤ length es
-      → onTimeIn es i a e ≡ true → onTimeIn es i a e′ ≡ true
-  loses-end hold i a e e′ lo up le k t = shrink es hold a (e - 1) (e′ - 1) i lo (omega arith) (omega arith) (omega arith) t
+      → onTimeIn es 0 i a e ≡ true → onTimeIn es 0 i a e′ ≡ true
+  loses-end hold i a e e′ lo up le k t = shrink _ es hold a (e - 1) (e′ - 1) i lo (omega arith) (omega arith) (omega arith) t
 
 -- Levels that do not fall along the n entries.
 abbrev Monotone : (ℕ → ℕ) → ℕ → Type 0
@@ -133,7 +133,7 @@ module _ (es : List Entry) {hi hi′ : ℕ} {a b : List ℕ} (s : Assignment (le
   groups-answer i h =
       let m = assignment-monotone s in
       let m′ = assignment-monotone s′ in
-      alike es (levelOf a) (levelOf b) i
+      alike _ es (levelOf a) (levelOf b) i
       (λ j k. (
         lt-same (levelOf a j) (levelOf a i) (levelOf b j) (levelOf b i)
             (less-same (levelOf a) (levelOf b) (length es) i j m m′ h k (f i j h k))

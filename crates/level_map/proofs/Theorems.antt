@@ -18,12 +18,13 @@ use Rattle.completion.specs.Test.{completionTest, isOnTime}
 use Rattle.level_map.specs.Assignments.{levelOf, Assignment, NoneLate, Passing, levelsUsed}
 use Rattle.level_map.specs.Map.{IsMap, Chosen, maps, mapsWith, firstOf, noneLateTo, passTest, theMap}
 use Rattle.level_map.specs.Answer.{mapOf, heldCheck, heldAnswer, Mapping, NodeDemand3}
+use Rattle.level_map.specs.Groups.{onTimeIn}
 use Rattle.level_map.proofs.Tests.{by-test}
 use Rattle.level_map.proofs.Search.{greedy}
 use Rattle.level_map.proofs.Optimal.{cutLevels, leastUrgent, Best}
 use Rattle.level_map.proofs.Choice.{first-left}
 use Rattle.level_map.proofs.Exact.{GroupTest, exact-cases, exact-best, exact-none, exact-chosen}
-use Rattle.level_map.proofs.Grouping.{onTimeIn, grouped, loses-end}
+use Rattle.level_map.proofs.Grouping.{grouped, loses-end}
 
 late-to : (es : List Entry) (a : List ℕ) (n : ℕ) → noneLateTo es a n ≡ true
     → (i : ℕ) → i < n → isOnTime (completionTest es (levelOf a) i) ≡ true
@@ -51,7 +52,7 @@ pass-none-late es a = (late-to es a (length es), late-of es a (length es))
 abbrev pub nodeTest : (es : List Entry) → AllHold es → (n : ℕ) → length es ≡ n → GroupTest n
 nodeTest es hold n e =
     record {
-      ok = onTimeIn es;
+      ok = onTimeIn es 0;
       shrink = λ i a k k′ lo up h fits t. loses-end es hold i a k k′ lo up h (omega arith) t;
       Passes = NoneLate es;
       grouped = rw (← e) (grouped es);
@@ -69,9 +70,9 @@ not-both p = let z : _≡_ {A = ℕ} 0 1 = cc in omega arith
 
 module _ (es : List Entry) (hold : AllHold es) (most : ℕ) where
   -- The search finds cuts whose levels are the map, and the best; or there is no map, and no assignment passes.
-  pub map-cases : ((s : List ℕ) × (greedy (onTimeIn es) most (length es) ≡ some s) × (theMap es most ≡ some (cutLevels s (length es)))
+  pub map-cases : ((s : List ℕ) × (greedy (onTimeIn es 0) most (length es) ≡ some s) × (theMap es most ≡ some (cutLevels s (length es)))
       × (levelsUsed (cutLevels s (length es)) ≡ length s) × Best (NoneLate es) most (length es) (cutLevels s (length es)))
-      ⊎ ((greedy (onTimeIn es) most (length es) ≡ none) × (theMap es most ≡ none)
+      ⊎ ((greedy (onTimeIn es 0) most (length es) ≡ none) × (theMap es most ≡ none)
       × ((a : List ℕ) → Assignment (length es) most a → NoneLate es a → ⊥))
   unfolding theMap
   map-cases =

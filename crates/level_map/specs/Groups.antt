@@ -1,22 +1,28 @@
 -- What the functions inside the search answer of a node's groups. No public contract goes by it.
-use Prim.Native.Nat.{ℕ, _-_, _≤_, _<_}
+use Prim.Native.Nat.{ℕ, _+_, _-_, _≤_, _<_}
 use mathlib.Core.Path.{_≡_}
-use mathlib.Core.Bool.{true}
+use mathlib.Core.Bool.{Bool, true}
 use mathlib.Core.Option.{Option, none, some}
 use mathlib.Core.List.{List, map}
 use lib.ListN.{length, getD, take}
 use Rattle.task_model.specs.declared.Entry.{Entry}
+use Rattle.task_model.specs.Limits.{entryAt}
 use Rattle.completion.specs.Group.{groupLevel}
-use Rattle.completion.specs.Test.{completionTest, isOnTime}
+use Rattle.completion.specs.Test.{testWith, isOnTime}
 use Rattle.level_map.specs.declared.Mapped.{Mapped}
 use Rattle.level_map.specs.declared.Mapped.the-variants.{Levels, NoMap}
 use Rattle.level_map.specs.declared.Start.{Start}
 use Rattle.level_map.specs.declared.Start.the-variants.{At, Nowhere}
 use Rattle.level_map.specs.Assignments.{levelsUsed}
 
--- None of the entries from position `first` up to, and without, `end` is late as a group.
-abbrev pub GroupPasses : List Entry → ℕ → ℕ → Type 0
-GroupPasses es end first = (i : ℕ) → first ≤ i → i < end → isOnTime (completionTest es (groupLevel first (end - 1)) i) ≡ true
+-- The entry at i is on time in the group from position `first` up to, and without, `end`, where the end of the group adds
+-- `more` ticks to its blocking.
+abbrev pub onTimeIn : List Entry → ℕ → ℕ → ℕ → ℕ → Bool
+onTimeIn es more i first end = isOnTime (testWith (entryAt es i .blocking + more) es (groupLevel first (end - 1)) i)
+
+-- None of the entries from `first` up to, and without, `end` is late as a group.
+abbrev pub GroupPasses : List Entry → ℕ → ℕ → ℕ → Type 0
+GroupPasses es more end first = (i : ℕ) → first ≤ i → i < end → onTimeIn es more i first end ≡ true
 
 -- The least start of a passing group that ends before `end`, or that there is none.
 abbrev pub LeastStart : (ℕ → Type 0) → ℕ → Start → Type 0

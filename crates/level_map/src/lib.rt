@@ -3,7 +3,7 @@ ghost use mathlib.Core.Path.{_≡_};
 ghost use mathlib.Core.List.{_++_};
 ghost use Prim.Native.Nat.{ℕ, _-_, _≤_, _<_};
 ghost use lib.ListN.{length, getD, take, drop, replicate};
-ghost use Rattle.task_model.specs.Limits.{mostEntries, AllHold, NodeHolds};
+ghost use Rattle.task_model.specs.Limits.{mostTicks, mostEntries, AllHold, NodeHolds};
 ghost use Rattle.task_model.specs.Answers.{left};
 ghost use Rattle.task_model.specs.Words.{entriesOf, nodeOf};
 ghost use Rattle.level_map.specs.Map.{theMap};
@@ -16,6 +16,7 @@ use completion::wcet_sum;
 use task_model::MOST_ENTRIES;
 use task_model::NodeWords;
 use task_model::Refusal;
+use task_model::entry_at;
 
 // A map, with the number of its levels, or why there is none.
 pub enum MappedNode {
@@ -38,16 +39,20 @@ enum Start {
 // The least start of a group that ends just before `end` and has no late entry. An entry that is late stays late in each
 // group that starts later and has it, since what leaves its level becomes more urgent: so the next start to try is behind
 // it, and the last entries, which rule out the most starts, are asked first. Of a longer group its lateness says nothing.
-fn least_start(words: &NodeWords, count: usize, end: usize) -> Start
-    requires { ⌜ AllHold (entriesOf (now words) count) ⌝ ∗ ⌜ (end ≤ count) × (count ≤ mostEntries) ⌝ }
-    ensures { λ a. ⌜ LeastStart (GroupPasses (entriesOf (now (words .entry)) count) end) end a ⌝ }
+// `added` is what the end of the group adds to the blocking of its entries.
+fn least_start(words: &NodeWords, count: usize, end: usize, added: u32) -> Start
+    requires { ⌜ AllHold (entriesOf (now words) count) ⌝ ∗ ⌜ (end ≤ count) × (count ≤ mostEntries) × (added ≤ mostTicks) ⌝ }
+    ensures { λ a. ⌜ LeastStart (GroupPasses (entriesOf (now (words .entry)) count) added end) end a ⌝ }
 {
     let runs = wcet_sum(words, end);
     let mut start = behind_late(words, count, end, runs);
     'starts: while start < end {
         let mut i = end;
         while start < i {
-            let Ending::OnTime = ends_on_time(words, count, start, end - 1, i - 1, runs) else {
+            let own = entry_at(words, i - 1);
+            let blocking = own.blocking + added;
+            let Ending::OnTime = ends_on_time(words, count, start, end - 1, i - 1, blocking, runs)
+            else {
                 start = i;
                 continue 'starts;
             };
@@ -85,7 +90,7 @@ fn rank_groups(
         if levels <= groups {
             return Mapped::NoMap;
         }
-        let Start::At(start) = least_start(words, count, end) else {
+        let Start::At(start) = least_start(words, count, end, 0) else {
             return Mapped::NoMap;
         };
         set_rank(ranks, start, end, groups);

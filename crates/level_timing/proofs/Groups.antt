@@ -56,11 +56,11 @@ pub time-group : (es : List Entry) (n : ℕ) → length es ≡ n → (a : List �
     → FirstOf a i first → LastOf n a i last
     → completionTest es (groupLevel first last) i ≡ completionTest es (levelOf a) i
 time-group es n e a h i first last f l =
-    same-group es es (groupLevel first last) (levelOf a) first last i (f .within) (l .within)
+    same-group _ es es (groupLevel first last) (levelOf a) first last i (f .within) (l .within)
     (omega (arith, l .inside)) (omega (arith, l .inside))
     (named-group first last (length es) i (f .within) (l .within))
     (rw e (own-group n a h i first last f l))
-    (λ j p. (refl, refl)) refl refl refl
+    (λ j p. (refl, refl)) refl refl
 
 -- one entry more on either side
 pub more-before : (a : List ℕ) (i first : ℕ) → 0 < first → ((j : ℕ) → first ≤ j → j ≤ i → levelOf a j ≡ levelOf a i)

@@ -45,7 +45,7 @@ module _ (n : Node) (room : ℕ) (fits : length (n .entries) ≤ room) where
 
 module _ (es : List Entry) (m levels : List ℕ) (same : (j : ℕ) → j < length es → levelOf levels j ≡ levelOf m j) where
   same-test : (i : ℕ) → i < length es → completionTest es (levelOf levels) i ≡ completionTest es (levelOf m) i
-  same-test i h = alike es (levelOf levels) (levelOf m) i (λ j l. (ap₂ ltb (same j l) (same i h), ap₂ eqb (same j l) (same i h)))
+  same-test i h = alike _ es (levelOf levels) (levelOf m) i (λ j l. (ap₂ ltb (same j l) (same i h), ap₂ eqb (same j l) (same i h)))
 
   same-entry : (i : ℕ) → i < length es → entryText es levels i ≡ entryText es m i
   same-entry i h =

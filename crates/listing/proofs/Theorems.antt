@@ -36,7 +36,7 @@ entry-has-line es all most m p i h =
       rounds = n;
       line = entry-on-time es m i t n e;
       tested = e;
-      right = timing-right es all (levelOf m) i h (on-time t n) (sym e);
+      right = timing-right _ es all (levelOf m) i h (on-time t n) (sym e);
     })
     (λ n e. absurd (false≢true (sym (ap isOnTime e) ∙ map-best es all most m p .chosen .passes i h)))
 

@@ -125,7 +125,7 @@ time-right s first last i o p =
     (λ a.
     let q = time-ready s first last i a in
     let t = time-given (nodeIn s) first last i a in
-    timing-right (nodeIn s .entries) (q .0) (groupLevel first last) i (omega (arith, length-entries (s .words) 0 (s .count))) o (cc))
+    timing-right _ (nodeIn s .entries) (q .0) (groupLevel first last) i (omega (arith, length-entries (s .words) 0 (s .count))) o (cc))
     (λ a. let t = time-refused (nodeIn s) first last i (a .0) (a .1) in absurd (let z : _≡_ {A = ℕ} 0 1 = cc in omega arith))
     (either (stepCheck (asking (timing first last i)) (nodeIn s)))
 

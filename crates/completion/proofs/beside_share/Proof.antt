@@ -3,11 +3,12 @@ use mathlib.Core.Path.{_∙_, sym}
 use native.Mathlib.Nat.{mul-le-mul}
 use native.Mathlib.Omega.{arith}
 use borrow.Author.Needs.{needs}
+use Rattle.task_model.specs.Limits.{mostTicks}
 use Rattle.completion.proofs.Releases.{beside-limit, beside-all}
 use Rattle.completion.proofs.beside_share.Statement.{statement}
 use Rattle.completion.proofs.beside_share.Tie as tie
 
-product : (x y : ℕ) → x ≤ 1000000000 → y ≤ 256 → x * y ≤ 256000000000
+product : (x y : ℕ) → x ≤ mostTicks → y ≤ 256 → x * y ≤ mostTicks * 256
 product x y p q = mul-le-mul p q
 
 cast-if1 : tie.Need-cast-if1

@@ -5,6 +5,7 @@ use native.Mathlib.Omega.{arith}
 use Rattle.task_model.specs.Words.{entryOf}
 use Rattle.task_model.proofs.Laws.{all-at}
 use Rattle.completion.specs.Demand.{sumTo, besideShare}
+use Rattle.completion.proofs.Bounds.{mostShare}
 use Rattle.completion.proofs.Sums.{sumTo-more}
 use Rattle.completion.proofs.Releases.{urgent-most, beside-most}
 use Rattle.completion.proofs.beside_sum.Statement.{statement}
@@ -14,7 +15,7 @@ abbrev Inv-loop : tie.InvT-loop
 Inv-loop words begin end calls t sum₀ j₀ sum j =
     (begin ≤ j)
     × (j ≤ end)
-    × (sum ≤ 2000000000 * j)
+    × (sum ≤ mostShare * j)
     × (sum + sumTo (λ k. besideShare (entryOf words k) calls t) begin ≡ sumTo (λ k. besideShare (entryOf words k) calls t) j)
 
 abbrev μ-loop : tie.MeasureT-loop
@@ -43,7 +44,7 @@ module _ (c : tie.After-beside-share Inv-loop μ-loop) where
       ≡ besideShare (entryOf (at-start .args .words .now) (at-loop .loop .j)) (at-start .args .calls) (at-start .args .t)
   shared = rw (c .before .entry-at .ensures) at (c .beside-share .ensures)
 
-  few : c .beside-share .result ≤ 2000000000
+  few : c .beside-share .result ≤ mostShare
   few =
       let h = all-at _ _ (at-start .pre .0) _ (c .before .before .loop-test .taken) .times in
       rw shared (le-trans (beside-most _ h _ _) (urgent-most _ h _ (omega arith)))

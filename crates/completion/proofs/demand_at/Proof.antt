@@ -1,11 +1,10 @@
 use Prim.Native.Nat.{_+_, _≤_}
-use mathlib.Core.Path.{_≡_, ap}
 use native.Mathlib.Omega.{arith}
 use borrow.Author.Needs.{needs}
-use Rattle.task_model.specs.declared.Entry.{Entry}
-use Rattle.task_model.specs.Words.{entryOf}
-use Rattle.task_model.proofs.Laws.{all-at, all-fewer}
-use Rattle.completion.proofs.Words.{words-parts, urgent-small, beside-small}
+use Rattle.task_model.specs.Limits.{mostTicks}
+use Rattle.task_model.proofs.Laws.{all-fewer}
+use Rattle.completion.proofs.Bounds.{mostShares}
+use Rattle.completion.proofs.Words.{words-times, words-parts, urgent-small, beside-small}
 use Rattle.completion.proofs.demand_at.Statement.{statement}
 use Rattle.completion.proofs.demand_at.Tie as tie
 
@@ -15,54 +14,44 @@ entry-at-requires c κs = omega arith
 cast-result : tie.Need-cast-result
 cast-result c = search needs
 
-cast-result-2 : tie.Need-cast-result-2
-cast-result-2 c = search needs
-
 add-result : tie.Need-add-result
 add-result c = search needs
 
 urgent-sum-requires : tie.Need-urgent-sum-requires
 urgent-sum-requires c κs =
-    let p = c .before .before .before .pre in
+    let p = c .before .before .pre in
     (all-fewer _ _ _ (omega arith) (p .0), (omega arith, p .1 .1))
 
 -- what the parts add up to
-module _ (c : tie.After-struct-known2) where
-  abbrev at-start : tie.Start
-  at-start = c .before .before .before
+few-own : (c : tie.After-struct-known) → c .before .entry-at .result .wcet ≤ mostTicks
+few-own c =
+    let s = c .before .before in
+    let h = words-times _ _ (s .pre .0) (s .args .i) (omega arith) _ (c .before .entry-at .ensures) in
+    omega arith
 
-  own : c .before .before .entry-at .result ≡ entryOf (at-start .args .words .now) (at-start .args .i)
-  own = c .before .before .entry-at .ensures
-
-  few-own : (c .before .before .entry-at .result .wcet ≤ 1000000000) × (c .before .before .entry-at .result .blocking ≤ 1000000000)
-  few-own =
-      let h = all-at _ _ (at-start .pre .0) (at-start .args .i) (omega arith) .times in
-      let w = ap (λ (e : Entry). e .wcet) own in
-      let b = ap (λ (e : Entry). e .blocking) own in
-      (omega arith, omega arith)
-
-few-urgent : (c : tie.After-urgent-sum) → c .urgent-sum .result ≤ 128000000000
+few-urgent : (c : tie.After-urgent-sum) → c .urgent-sum .result ≤ mostShares
 few-urgent c =
     rw (c .urgent-sum .ensures)
-    (urgent-small _ _ (at-start (c .before) .pre .0) (omega arith) _ _ (omega arith) (omega arith))
+    (urgent-small _ _ (c .before .before .before .pre .0) (omega arith) _ _ (omega arith) (omega arith))
 
-few-left : (c : tie.After-beside-sum) → c .beside-sum .result ≤ 128000000000
+few-left : (c : tie.After-beside-sum) → c .beside-sum .result ≤ mostShares
 few-left c =
+    let s = c .before .before .before .before in
     omega (
       arith,
       c .beside-sum .ensures,
-      beside-small _ _ (at-start (c .before .before) .pre .0) (omega arith) (c .before .before .before .before .entry-at .result .calls)
-          (at-start (c .before .before) .args .t) (at-start (c .before .before) .args .i) (omega arith) (omega arith),
+      beside-small _ _ (s .pre .0) (omega arith) (c .before .before .before .entry-at .result .calls) (s .args .t) (s .args .i)
+          (omega arith) (omega arith),
     )
 
-few-right : (c : tie.After-beside-sum2) → c .beside-sum2 .result ≤ 128000000000
+few-right : (c : tie.After-beside-sum2) → c .beside-sum2 .result ≤ mostShares
 few-right c =
+    let s = c .before .before .before .before .before in
     omega (
       arith,
       c .beside-sum2 .ensures,
-      beside-small _ _ (at-start (c .before .before .before) .pre .0) (omega arith)
-          (c .before .before .before .before .before .entry-at .result .calls) (at-start (c .before .before .before) .args .t)
-          (at-start (c .before .before .before) .args .last + 1) (omega arith) (omega arith),
+      beside-small _ _ (s .pre .0) (omega arith) (c .before .before .before .before .entry-at .result .calls) (s .args .t)
+          (s .args .last + 1) (omega arith) (omega arith),
     )
 
 add-result-2 : tie.Need-add-result-2
@@ -70,7 +59,7 @@ add-result-2 c = omega (arith, few-own (c .before), few-urgent c)
 
 beside-sum-requires : tie.Need-beside-sum-requires
 beside-sum-requires c κs =
-    let p = c .before .before .before .before .pre in
+    let p = c .before .before .before .pre in
     (all-fewer _ _ _ (omega arith) (p .0), ((omega arith, omega arith), p .1 .1))
 
 add-result-3 : tie.Need-add-result-3
@@ -84,7 +73,7 @@ add-beside-sum-2 c = omega arith
 
 beside-sum-requires-2 : tie.Need-beside-sum-requires-2
 beside-sum-requires-2 c κs =
-    let p = c .before .before .before .before .before .pre in
+    let p = c .before .before .before .before .pre in
     (all-fewer _ _ _ (omega arith) (p .0), ((omega arith, omega arith), p .1 .1))
 
 add-result-4 : tie.Need-add-result-4
@@ -93,7 +82,7 @@ add-result-4 c =
 
 returns : tie.Need-returns
 returns c =
-    words-parts _ _ _ _ _ (omega arith) (omega arith) (omega arith) _ _ _ _ _ (own (c .before .before .before))
+    words-parts _ _ _ _ _ (omega arith) (omega arith) (omega arith) _ _ _ _ _ _ (c .before .before .before .before .entry-at .ensures)
     (c .before .before .urgent-sum .ensures) (c .before .beside-sum .ensures) (c .beside-sum2 .ensures)
 
 pub demand-at-spec : {M : Type 1} → statement M
@@ -102,7 +91,6 @@ demand-at-spec =
     (tie.spec
     entry-at-requires
     cast-result
-    cast-result-2
     add-result
     urgent-sum-requires
     add-result-2

@@ -4,6 +4,7 @@ use native.Mathlib.Omega.{arith}
 use Rattle.task_model.specs.Words.{entryOf}
 use Rattle.task_model.proofs.Laws.{all-at}
 use Rattle.completion.specs.Demand.{sumTo, urgentShare}
+use Rattle.completion.proofs.Bounds.{mostShare}
 use Rattle.completion.proofs.Sums.{sumTo-none, sumTo-step, sumTo-all}
 use Rattle.completion.proofs.Releases.{urgent-most}
 use Rattle.completion.proofs.urgent_sum.Statement.{statement}
@@ -11,7 +12,7 @@ use Rattle.completion.proofs.urgent_sum.Tie as tie
 
 abbrev Inv-loop : tie.InvT-loop
 Inv-loop words end t sum₀ j₀ sum j =
-    (j ≤ end) × (sum ≤ 2000000000 * j) × (sum ≡ sumTo (λ k. urgentShare (entryOf words k) t) j)
+    (j ≤ end) × (sum ≤ mostShare * j) × (sum ≡ sumTo (λ k. urgentShare (entryOf words k) t) j)
 
 abbrev μ-loop : tie.MeasureT-loop
 μ-loop words end t sum₀ j₀ sum j = end - j
@@ -38,7 +39,7 @@ module _ (c : tie.After-urgent-share Inv-loop μ-loop) where
   shared : c .urgent-share .result ≡ urgentShare (entryOf (at-start .args .words .now) (at-loop .loop .j)) (at-start .args .t)
   shared = rw (c .before .entry-at .ensures) at (c .urgent-share .ensures)
 
-  few : c .urgent-share .result ≤ 2000000000
+  few : c .urgent-share .result ≤ mostShare
   few =
       rw shared
       (urgent-most _ (all-at _ _ (at-start .pre .0) _ (c .before .before .loop-test .taken) .times) _ (omega arith))

@@ -3,6 +3,7 @@ use mathlib.Core.Path.{_≡_, ap, sym}
 use native.Mathlib.Omega.{arith}
 use borrow.Author.Needs.{needs}
 use Rattle.task_model.specs.declared.Entry.{Entry}
+use Rattle.task_model.specs.Limits.{mostTicks}
 use Rattle.task_model.specs.Words.{entryOf}
 use Rattle.task_model.proofs.Laws.{all-at}
 use Rattle.completion.specs.Demand.{sumTo}
@@ -12,7 +13,7 @@ use Rattle.completion.proofs.wcet_sum.Tie as tie
 
 abbrev Inv-loop : tie.InvT-loop
 Inv-loop words end sum₀ j₀ sum j =
-    (j ≤ end) × (sum ≤ 1000000000 * j) × (sum ≡ sumTo (λ k. entryOf words k .wcet) j)
+    (j ≤ end) × (sum ≤ mostTicks * j) × (sum ≡ sumTo (λ k. entryOf words k .wcet) j)
 
 abbrev μ-loop : tie.MeasureT-loop
 μ-loop words end sum₀ j₀ sum j = end - j
@@ -32,7 +33,7 @@ module _ (c : tie.After-struct-known Inv-loop μ-loop) where
       ≡ entryOf (c .before .before .before .before .args .words .now) (c .before .before .before .loop .j) .wcet
   run = ap (λ (e : Entry). e .wcet) (c .before .entry-at .ensures)
 
-  few : c .before .entry-at .result .wcet ≤ 1000000000
+  few : c .before .entry-at .result .wcet ≤ mostTicks
   few = omega (arith, run, all-at _ _ (c .before .before .before .before .pre .0) _ (c .before .before .loop-test .taken) .times)
 
 add-sum : tie.Need-add-sum Inv-loop μ-loop

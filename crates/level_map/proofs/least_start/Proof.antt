@@ -6,33 +6,35 @@ use native.Mathlib.Omega.{arith}
 use native.Mathlib.Decide.{decLt}
 use borrow.Author.Needs.{needs}
 use lib.ListN.{length}
+use Rattle.task_model.specs.declared.Entry.{Entry}
+use Rattle.task_model.specs.Limits.{entryAt}
 use Rattle.task_model.specs.Words.{entriesOf}
-use Rattle.task_model.proofs.Laws.{length-entries, all-fewer}
+use Rattle.task_model.proofs.Laws.{length-entries, entry-of, all-at, all-fewer}
 use Rattle.completion.specs.Group.{groupLevel}
-use Rattle.completion.specs.Test.{completionTest, isOnTime, endsOnTime}
+use Rattle.completion.specs.Test.{testWith, isOnTime, endsOnTime}
 use Rattle.completion.specs.Behind.{behindLate}
 use Rattle.completion.proofs.Theorems.{widen}
 use Rattle.completion.proofs.Behind.{behind-most, behind-late}
-use Rattle.level_map.specs.Groups.{GroupPasses}
+use Rattle.level_map.specs.Groups.{onTimeIn, GroupPasses}
 use Rattle.level_map.proofs.least_start.Statement.{statement}
 use Rattle.level_map.proofs.least_start.Tie as tie
 
 -- the entries from i on are on time in the group from this start
 abbrev Inv-loop : tie.InvT-loop
-Inv-loop words count end runs start₀ i₀ start i =
-    ((j : ℕ) → i ≤ j → j < end → isOnTime (completionTest (entriesOf words count) (groupLevel start (end - 1)) j) ≡ true)
+Inv-loop words count end added runs start₀ i₀ start i =
+    ((j : ℕ) → i ≤ j → j < end → onTimeIn (entriesOf words count) added j start end ≡ true)
     × (start ≡ start₀) × (start ≤ i) × (i ≤ end) × (start < end)
 
 abbrev μ-loop : tie.MeasureT-loop
-μ-loop words count end runs start₀ i₀ start i = i
+μ-loop words count end added runs start₀ i₀ start i = i
 
 -- no group that starts before this start passes
 abbrev Inv-starts : tie.InvT-starts
-Inv-starts words count end runs start₀ start =
-    ((b : ℕ) → b < start → GroupPasses (entriesOf words count) end b → ⊥) × (start ≤ end)
+Inv-starts words count end added runs start₀ start =
+    ((b : ℕ) → b < start → GroupPasses (entriesOf words count) added end b → ⊥) × (start ≤ end)
 
 abbrev μ-starts : tie.MeasureT-starts
-μ-starts words count end runs start₀ start = end - start
+μ-starts words count end added runs start₀ start = end - start
 
 wcet-sum-requires : tie.Need-wcet-sum-requires Inv-loop μ-loop Inv-starts μ-starts
 wcet-sum-requires c κs = (all-fewer _ _ _ (omega arith) (c .pre .0), omega arith)
@@ -50,13 +52,29 @@ starts-holds c =
     let known : k .args .end ≤ length es = omega (arith, length-entries (k .args .words .now) 0 (k .args .count)) in (
       λ b h g.
           let e : behindLate es (k .args .end) ≡ (s - 1) + 1 = omega (arith, c .behind-late .ensures) in
-          let late = behind-late es (k .pre .0) (k .args .end) known (s - 1) b e (omega arith) in
+          let late = behind-late es (k .pre .0) (k .args .end) known (s - 1) b e (omega arith) (entryAt es (s - 1) .blocking + k .args .added) (omega arith) in
           false≢true (sym late ∙ g (s - 1) (omega arith) (omega arith)),
       most,
     )
 
 loop-holds : tie.Need-loop-holds Inv-loop μ-loop Inv-starts μ-starts
 loop-holds c = (λ j lo hi. absurd (omega arith), refl, omega arith, omega arith, omega arith)
+
+sub-entry-at : tie.Need-sub-entry-at Inv-loop μ-loop Inv-starts μ-starts
+sub-entry-at c = omega arith
+
+entry-at-requires : tie.Need-entry-at-requires Inv-loop μ-loop Inv-starts μ-starts
+entry-at-requires c κs = omega arith
+
+add-blocking : tie.Need-add-blocking Inv-loop μ-loop Inv-starts μ-starts
+add-blocking c =
+    let k = c .before .before .before .before .before .before .before .before in
+    let l = c .before .before .before .loop in
+    omega (
+      arith,
+      ap (λ (e : Entry). e .blocking) (c .before .entry-at .ensures),
+      all-at (k .args .words .now) (k .args .count) (k .pre .0) (l .i - 1) (omega arith) .times,
+    )
 
 sub-ends-on-time : tie.Need-sub-ends-on-time Inv-loop μ-loop Inv-starts μ-starts
 sub-ends-on-time c = omega arith
@@ -66,11 +84,10 @@ sub-ends-on-time-2 c = omega arith
 
 ends-on-time-requires : tie.Need-ends-on-time-requires Inv-loop μ-loop Inv-starts μ-starts
 ends-on-time-requires c κs =
-    let k = c .before .before .before .before .before .before in
-    let whole : (k .args .end - 1) + 1 ≡ k .args .end = omega arith in (
-      k .pre .0,
-      ((omega arith, omega arith, omega arith, omega arith), rw whole (c .before .before .before .before .before .wcet-sum .ensures)),
-    )
+    let s = c .before .before .before .before .before .before .before in
+    let k = s .before in
+    let whole : (k .args .end - 1) + 1 ≡ k .args .end = omega arith in
+    (k .pre .0, ((omega arith, omega arith, omega arith, omega arith), rw whole (s .wcet-sum .ensures)))
 
 enum-told : tie.Need-enum-told Inv-loop μ-loop Inv-starts μ-starts
 enum-told c = search needs
@@ -78,22 +95,40 @@ enum-told c = search needs
 enum-told-2 : tie.Need-enum-told-2 Inv-loop μ-loop Inv-starts μ-starts
 enum-told-2 c = search needs
 
+-- what is answered for the entry before i
+module _ (c : tie.After-ends-on-time Inv-loop μ-loop Inv-starts μ-starts) where
+  abbrev at-loop : tie.At-loop Inv-loop μ-loop Inv-starts μ-starts
+  at-loop = c .before .before .before .before
+
+  abbrev at-start : tie.Start Inv-loop μ-loop Inv-starts μ-starts
+  at-start = at-loop .before .before .before .before .before
+
+  answered : endsOnTime (c .ends-on-time .result)
+      ≡ onTimeIn (entriesOf (at-start .args .words .now) (at-start .args .count)) (at-start .args .added) (at-loop .loop .i - 1)
+      (at-loop .loop .start) (at-start .args .end)
+  answered =
+      let a = at-start .args in
+      let l = at-loop .loop in
+      c .ends-on-time .ensures
+      ∙ ap (λ (e : Entry). isOnTime (testWith (e .blocking + a .added) (entriesOf (a .words .now) (a .count)) (groupLevel (l .start) (a .end - 1)) (l .i - 1)))
+      (c .before .before .entry-at .ensures ∙ sym (entry-of (a .words .now) (a .count) (l .i - 1) (omega arith)))
+
 starts-less : tie.Need-starts-less Inv-loop μ-loop Inv-starts μ-starts
-starts-less c = omega (arith, c .before .before .before .before .loop .inv .1)
+starts-less c = omega (arith, at-loop (c .before .before) .loop .inv .1)
 
 -- a late entry is late in the groups that start between this start and it
 starts-again : tie.Need-starts-again Inv-loop μ-loop Inv-starts μ-starts
 starts-again c =
-    let k = c .before .before .before .before .before .before .before .before .before in
-    let l = c .before .before .before .before .loop in
-    let s = c .before .before .before .before .before .before .starts in
-    let late = sym (ap endsOnTime (c .enum-told2 .given .1)) ∙ c .before .before .ends-on-time .ensures in (
+    let k = at-start (c .before .before) in
+    let l = at-loop (c .before .before) .loop in
+    let s = at-loop (c .before .before) .before .before .starts in
+    let late = sym (ap endsOnTime (c .enum-told2 .given .1)) ∙ answered (c .before .before) in (
       λ b h g.
           by-cases (decLt b (l .start))
           (λ y. s .inv .0 b (omega arith) g)
           (λ z.
           false≢true (late
-          ∙ widen _ (k .pre .0) b (l .start) _ (l .i - 1) (omega arith) (omega arith) (omega arith)
+          ∙ widen _ _ (k .pre .0) b (l .start) _ (l .i - 1) (omega arith) (omega arith) (omega arith)
           (omega (arith, length-entries (k .args .words .now) 0 (k .args .count))) (g (l .i - 1) (omega arith) (omega arith)))),
       omega arith,
     )
@@ -106,12 +141,12 @@ loop-less c = omega arith
 
 loop-again : tie.Need-loop-again Inv-loop μ-loop Inv-starts μ-starts
 loop-again c =
-    let l = c .before .before .before .before .loop in (
+    let l = at-loop (c .before .before) .loop in (
       λ j lo hi.
           by-cases (decLt j (l .i))
           (λ y.
           let e : j ≡ l .i - 1 = omega arith in
-          rw e (sym (c .before .before .ends-on-time .ensures) ∙ ap endsOnTime (c .enum-told .given .1)))
+          rw e (sym (answered (c .before .before)) ∙ ap endsOnTime (c .enum-told .given .1)))
           (λ z. l .inv .0 j (omega arith) hi),
       l .inv .1,
       omega arith,
@@ -140,6 +175,9 @@ least-start-spec =
     behind-late-requires
     starts-holds
     loop-holds
+    sub-entry-at
+    entry-at-requires
+    add-blocking
     sub-ends-on-time
     sub-ends-on-time-2
     ends-on-time-requires

@@ -8,10 +8,9 @@ use Rattle.task_model.proofs.Laws.{length-entries}
 use Rattle.level_map.specs.declared.Start.{Start}
 use Rattle.level_map.specs.declared.Start.the-variants.{At, Nowhere}
 use Rattle.level_map.specs.Map.{maps, firstOf, passTest, theMap}
-use Rattle.level_map.specs.Groups.{GroupPasses, LeastStart}
+use Rattle.level_map.specs.Groups.{onTimeIn, GroupPasses, LeastStart}
 use Rattle.level_map.proofs.Lists.{length-filled}
 use Rattle.level_map.proofs.Exact.{GroupTest}
-use Rattle.level_map.proofs.Grouping.{onTimeIn}
 use Rattle.level_map.proofs.Theorems.{nodeTest, map-first}
 use Rattle.level_map.proofs.Loop.{Reached, reached-first, reached-next, reached-full, reached-stop, reached-end}
 use Rattle.level_map.proofs.rank_groups.Statement.{statement}
@@ -20,7 +19,7 @@ use Rattle.level_map.proofs.rank_groups.Tie as tie
 -- what is left of the search gives the answer of the whole
 abbrev Inv-loop : tie.InvT-loop
 Inv-loop words count levels ranks₀ end₀ groups₀ ranks end groups =
-    (end ≤ count) × (groups ≤ levels) × Reached (onTimeIn (entriesOf words count)) levels count ranks end groups
+    (end ≤ count) × (groups ≤ levels) × Reached (onTimeIn (entriesOf words count) 0) levels count ranks end groups
     × (length ranks ≡ 64)
 
 abbrev μ-loop : tie.MeasureT-loop
@@ -56,7 +55,7 @@ enum-told c = search needs
 -- what the answer for the last group says
 told : (c : tie.After-least-start Inv-loop μ-loop) (o : Start) → c .least-start .result ≡ o
     → LeastStart
-    (GroupPasses (entriesOf (c .before .before .before .before .args .words .now) (c .before .before .before .before .args .count))
+    (GroupPasses (entriesOf (c .before .before .before .before .args .words .now) (c .before .before .before .before .args .count)) 0
     (c .before .before .before .loop .end))
     (c .before .before .before .loop .end) o
 told c o p = subst (LeastStart _ _) p (c .least-start .ensures)
@@ -71,7 +70,7 @@ returns-2 c =
 -- where the group starts, and that it is the least passing one
 least : (c : tie.After-known-told Inv-loop μ-loop)
     → LeastStart
-    (GroupPasses (entriesOf (c .before .before .before .before .before .before .before .args .words .now) (c .before .before .before .before .before .before .before .args .count))
+    (GroupPasses (entriesOf (c .before .before .before .before .before .before .before .args .words .now) (c .before .before .before .before .before .before .before .args .count)) 0
     (c .before .before .before .before .before .before .loop .end))
     (c .before .before .before .before .before .before .loop .end) (At (c .before .start .given .0 .0))
 least c = told (c .before .before .before) _ (c .before .start .given .1)

@@ -1,5 +1,6 @@
 use mathlib.Core.Path.{_∙_}
 use borrow.Author.Needs.{needs}
+use Rattle.task_model.specs.Words.{entriesOf}
 use Rattle.task_model.proofs.Laws.{length-entries}
 use Rattle.level_timing.proofs.Groups.{time-group}
 use Rattle.level_timing.proofs.time_under.Statement.{statement}
@@ -16,8 +17,10 @@ completion-test-requires c κs = search needs
 
 returns : tie.Need-returns
 returns c =
+    let s = c .before .before .before in
+    let ws = s .args .words .now in
     c .completion-test .ensures .0
-    ∙ time-group _ _ (length-entries _ 0 _) _ (c .before .before .before .pre .1 .1) _ _ _ (c .before .before .group-first .ensures)
+    ∙ time-group (entriesOf ws (s .args .count)) _ (length-entries ws 0 _) _ (s .pre .1 .1) _ _ _ (c .before .before .group-first .ensures)
     (c .before .group-last .ensures)
 
 pub time-under-spec : {M : Type 1} → statement M

@@ -1,19 +1,18 @@
 use Prim.Native.Nat.{_-_, _≤_}
-use mathlib.Core.Path.{_≡_, _∙_, sym, ap}
+use mathlib.Core.Path.{_≡_, _∙_, sym}
 use native.Mathlib.Omega.{arith}
 use borrow.Author.Needs.{needs}
-use Rattle.task_model.specs.declared.Entry.{Entry}
 use Rattle.task_model.specs.Words.{entriesOf}
-use Rattle.task_model.proofs.Laws.{all-at}
 use Rattle.completion.specs.Behind.{lateByRuns, behindLast, behindLate}
-use Rattle.completion.proofs.Words.{wcet-small}
+use Rattle.completion.proofs.Bounds.{mostRuns}
+use Rattle.completion.proofs.Words.{words-times, wcet-small}
 use Rattle.completion.proofs.Behind.{last-none, last-found, last-kept, runs-late, runs-fit}
 use Rattle.completion.proofs.deciding.behind_late.Statement.{statement}
 use Rattle.completion.proofs.deciding.behind_late.Tie as tie
 
 abbrev Inv-loop : tie.InvT-loop
 Inv-loop words count end runs behind₀ i₀ behind i =
-    (behind ≡ behindLast (lateByRuns (entriesOf words count) end) i) × (i ≤ end) × (runs ≤ 64000000000)
+    (behind ≡ behindLast (lateByRuns (entriesOf words count) end) i) × (i ≤ end) × (runs ≤ mostRuns)
 
 abbrev μ-loop : tie.MeasureT-loop
 μ-loop words count end runs behind₀ i₀ behind i = end - i
@@ -32,18 +31,12 @@ entry-at-requires c κs = omega arith
 cast-if1 : tie.Need-cast-if1 Inv-loop μ-loop
 cast-if1 c = search needs
 
--- the entry at hand is within the limits
-few : (c : tie.After-entry-at Inv-loop μ-loop) → c .entry-at .result .blocking ≤ 1000000000
-few c =
-    let s = c .before .before .before in
-    omega (
-      arith,
-      ap (λ (e : Entry). e .blocking) (c .entry-at .ensures),
-      all-at _ _ (s .pre .0) (c .before .before .loop .i) (omega arith) .times,
-    )
-
 add-if1 : tie.Need-add-if1 Inv-loop μ-loop
-add-if1 c = omega (arith, few (c .before), c .before .before .before .loop .inv .2)
+add-if1 c = omega (arith, c .before .before .before .loop .inv .2)
+
+limit-of-requires : tie.Need-limit-of-requires Inv-loop μ-loop
+limit-of-requires c κs =
+    words-times _ _ (c .before .before .before .before .pre .0) _ (omega arith) _ (c .before .entry-at .ensures)
 
 cast-if1-2 : tie.Need-cast-if1-2 Inv-loop μ-loop
 cast-if1-2 c = search needs
@@ -61,7 +54,7 @@ loop-again c =
     let ws = s .args .words .now in (
       l .inv .0
           ∙ sym (last-kept _ (l .i) (runs-fit ws (s .args .count) (s .args .end) _ (omega arith) (s .pre .1 .1) (l .i) (omega arith) _
-          (c .before .before .before .entry-at .ensures) (omega (arith, c .if1 .taken)))),
+          (c .before .before .before .entry-at .ensures) (omega (arith, c .before .limit-of .ensures, c .if1 .taken)))),
       omega arith,
       l .inv .2,
     )
@@ -81,7 +74,7 @@ loop-again-2 c =
     let l = c .before .before .before .before .before .loop in
     let ws = s .args .words .now in (
       sym (last-found _ (l .i) (runs-late ws (s .args .count) (s .args .end) _ (omega arith) (s .pre .1 .1) (l .i) (omega arith) _
-          (c .before .before .before .entry-at .ensures) (omega (arith, c .if1 .left)))),
+          (c .before .before .before .entry-at .ensures) (omega (arith, c .before .limit-of .ensures, c .if1 .left)))),
       omega arith,
       l .inv .2,
     )
@@ -103,6 +96,7 @@ behind-late-spec =
     entry-at-requires
     cast-if1
     add-if1
+    limit-of-requires
     cast-if1-2
     add-i
     loop-less

@@ -26,7 +26,7 @@ add-result c = search needs
 module _ (c : tie.After-recurring-sum) where
   less : c .recurring-sum .result .runs + 1 ≤ c .before .args .start
   less =
-      let d = c .before .args .deadline in
+      let d = c .before .args .limit in
       let ws = c .before .args .words .now in
       omega (
         arith,
@@ -39,7 +39,7 @@ returns : tie.Need-returns
 returns c = (
   omega arith,
   λ t h w.
-      let none : one - sumTo (loadOf (c .before .before .before .args .deadline) (c .before .before .before .args .words .now))
+      let none : one - sumTo (loadOf (c .before .before .before .args .limit) (c .before .before .before .args .words .now))
       (c .before .before .before .args .first) ≡ 0 =
       omega (arith, c .if1 .taken, c .before .free-share .ensures, c .before .before .recurring-sum .ensures .0) in
       absurd (omega (arith, less (c .before .before), c .before .before .recurring-sum .ensures .1, rw (none, zero-mul t) at w)),

@@ -1,14 +1,15 @@
 use Prim.Native.Nat.{_+_, _≤_}
-use mathlib.Core.Path.{_≡_, sym, ap}
+use mathlib.Core.Path.{_≡_, sym}
 use native.Mathlib.Nat.{le-refl}
 use native.Mathlib.Omega.{arith}
 use borrow.Author.Needs.{needs}
-use Rattle.task_model.specs.declared.Entry.{Entry}
-use Rattle.task_model.specs.Words.{entryOf, entriesOf}
-use Rattle.task_model.proofs.Laws.{all-at, all-fewer}
-use Rattle.completion.specs.Demand.{start}
+use Rattle.task_model.specs.Limits.{mostTicks, entryAt}
+use Rattle.task_model.specs.Words.{entriesOf}
+use Rattle.task_model.proofs.Laws.{all-fewer}
+use Rattle.completion.specs.Demand.{startWith}
 use Rattle.completion.specs.Group.{groupLevel}
-use Rattle.completion.proofs.Words.{words-begin, wcet-small}
+use Rattle.completion.specs.Test.{limit}
+use Rattle.completion.proofs.Words.{words-times, words-limit, words-due, words-begin, wcet-small}
 use Rattle.completion.proofs.Early.{start-runs, late-start, on-time-at, not-earlier, runs-below}
 use Rattle.completion.proofs.deciding.ends_on_time.Statement.{statement}
 use Rattle.completion.proofs.deciding.ends_on_time.Tie as tie
@@ -16,32 +17,29 @@ use Rattle.completion.proofs.deciding.ends_on_time.Tie as tie
 entry-at-requires : tie.Need-entry-at-requires
 entry-at-requires c κs = search needs
 
--- the entry, and its deadline
-module _ (c : tie.After-entry-at) where
-  own : c .entry-at .result ≡ entryOf (c .before .args .words .now) (c .before .args .i)
-  own = c .entry-at .ensures
+limit-of-requires : tie.Need-limit-of-requires
+limit-of-requires c κs = words-times _ _ (c .before .pre .0) _ (omega arith) _ (c .entry-at .ensures)
 
-  few : (1 ≤ c .entry-at .result .deadline) × (c .entry-at .result .deadline ≤ 1000000000)
-  few =
-      let h = all-at _ _ (c .before .pre .0) (c .before .args .i) (omega arith) .times in
-      let d = ap (λ (e : Entry). e .deadline) own in
-      (omega arith, omega arith)
+-- the entry's limit, and where its test starts
+module _ (c : tie.After-limit-of) where
+  abbrev at-start : tie.Start
+  at-start = c .before .before
 
-  begins : c .entry-at .result .blocking + c .before .args .runs
-      ≡ start (entriesOf (c .before .args .words .now) (c .before .args .count)) (groupLevel (c .before .args .first) (c .before .args .last))
-      (c .before .args .i)
-  begins =
-      start-runs _ _ (c .before .pre .0) _ _ _ (omega arith) (omega arith) (omega arith) _ own _ (c .before .pre .1 .1)
+  few : (1 ≤ c .limit-of .result) × (c .limit-of .result ≤ mostTicks)
+  few = words-limit _ _ (at-start .pre .0) _ (omega arith) _ (c .before .entry-at .ensures) _ (c .limit-of .ensures)
 
-cast-start : tie.Need-cast-start
-cast-start c = search needs
+  due : limit (entryAt (entriesOf (at-start .args .words .now) (at-start .args .count)) (at-start .args .i)) ≡ c .limit-of .result
+  due = words-due _ _ (at-start .pre .0) _ (omega arith) _ (c .before .entry-at .ensures) _ (c .limit-of .ensures)
+
+  begins : at-start .args .blocking + at-start .args .runs
+      ≡ startWith (at-start .args .blocking) (entriesOf (at-start .args .words .now) (at-start .args .count))
+      (groupLevel (at-start .args .first) (at-start .args .last)) (at-start .args .i)
+  begins = start-runs _ _ (at-start .pre .0) _ _ _ (omega arith) (omega arith) (omega arith) _ _ due _ (at-start .pre .1 .1)
 
 add-start : tie.Need-add-start
 add-start c =
-    let s = c .before .before in
+    let s = at-start c in
     let a = s .args in
-    let b = ap (λ (e : Entry). e .blocking) (own (c .before)) in
-    let h = all-at _ _ (s .pre .0) (a .i) (omega arith) .times in
     omega (arith, s .pre .1 .1, wcet-small (a .words .now) (a .count) (s .pre .0) (omega arith) (a .last + 1) (omega arith))
 
 cast-if1 : tie.Need-cast-if1
@@ -49,50 +47,54 @@ cast-if1 c = search needs
 
 returns : tie.Need-returns
 returns c =
-    sym (late-start _ _ (c .before .before .before .pre .0) _ _ _ (omega arith) (omega arith) (omega arith) _
-    (own (c .before .before)) _ (begins (c .before .before)) (c .if1 .taken))
+    let k = c .before in
+    sym (late-start _ _ (at-start k .pre .0) _ _ _ (omega arith) (omega arith) (omega arith) _ _ (due k) _ (begins k) (c .if1 .taken))
 
 demand-at-requires : tie.Need-demand-at-requires
 demand-at-requires c κs =
-    let p = c .before .before .before .pre in
-    (p .0, ((omega arith, omega arith, omega arith, omega arith), few (c .before .before)))
+    let p = at-start (c .before) .pre in
+    (p .0, ((omega arith, omega arith, omega arith, omega arith), few (c .before)))
 
 cast-if2 : tie.Need-cast-if2
 cast-if2 c = search needs
 
 returns-2 : tie.Need-returns-2
 returns-2 c =
-    let p = c .before .before .before .before .before .pre in
-    sym (on-time-at _ _ (p .0) _ _ _ (omega arith) (omega arith) (omega arith) _
-    (own (c .before .before .before .before)) _ _ (le-refl _) (c .before .demand-at .ensures) (c .if2 .taken))
+    let k = c .before .before .before in
+    sym (on-time-at _ _ (at-start k .pre .0) _ _ _ (omega arith) (omega arith) (omega arith) _ _ (due k) _ _ (le-refl _)
+    (c .before .demand-at .ensures) (c .if2 .taken))
 
 earliest-requires : tie.Need-earliest-requires
 earliest-requires c κs =
-    let p = c .before .before .before .before .before .pre in (
+    let k = c .before .before .before in
+    let p = at-start k .pre in (
       all-fewer _ _ _ (omega arith) (p .0),
       (
         omega arith,
         (
-          runs-below _ _ (p .0) _ _ _ (omega arith) (omega arith) (omega arith) _ (own (c .before .before .before .before)) _ _
-              (begins (c .before .before .before .before)) (omega arith),
+          runs-below _ _ (p .0) _ _ _ (omega arith) (omega arith) (omega arith) _ _ (due k) _ _ (begins k) (omega arith),
           omega (arith, c .before .before .if1 .left),
-          few (c .before .before .before .before) .1,
+          few k .1,
         ),
       ),
     )
 
 met-from-requires : tie.Need-met-from-requires
 met-from-requires c κs =
-    let p = c .before .before .before .before .before .before .pre in
-    let a = c .before .before .before .before .before .before .args in
-    let s = begins (c .before .before .before .before .before) in (
+    let k = c .before .before .before .before in
+    let p = at-start k .pre in
+    let a = at-start k .args in (
       p .0,
       (
         (omega arith, omega arith, omega arith, omega arith),
         (
-          omega (arith, s, c .earliest .ensures .0, words-begin _ _ (p .0) (a .first) (a .last) (a .i) (omega arith) (omega arith) .0),
-          not-earlier _ _ (p .0) _ _ _ (omega arith) (omega arith) (omega arith) _ (own (c .before .before .before .before .before)) _ _ s
-              (c .earliest .ensures .1),
+          omega (
+            arith,
+            begins k,
+            c .earliest .ensures .0,
+            words-begin _ _ (p .0) (a .first) (a .last) (a .i) (omega arith) (omega arith) (a .blocking) .0,
+          ),
+          not-earlier _ _ (p .0) _ _ _ (omega arith) (omega arith) (omega arith) _ _ (due k) _ _ (begins k) (c .earliest .ensures .1),
         ),
       ),
     )
@@ -105,7 +107,7 @@ ends-on-time-spec =
     tie.close
     (tie.spec
     entry-at-requires
-    cast-start
+    limit-of-requires
     add-start
     cast-if1
     returns

@@ -8,7 +8,7 @@ use Rattle.completion.proofs.deciding.recurring_part.Tie as tie
 
 returns : tie.Need-returns
 returns c =
-    let r = recurs-not (c .before .before .args .deadline) (c .before .before .args .e) (c .if1 .taken) in
+    let r = recurs-not (c .before .before .args .limit) (c .before .before .args .e) (c .if1 .taken) in
     (sym (r .0), sym (r .1))
 
 cast-t4 : tie.Need-cast-t4
@@ -30,7 +30,7 @@ returns-2 : tie.Need-returns-2
 unfolding load
 returns-2 c =
     let s = c .before .before .before .before .before in
-    let r = recurs (s .args .deadline) (s .args .e) (omega arith) in
+    let r = recurs (s .args .limit) (s .args .e) (omega arith) in
     (sym (r .0), sym (r .1))
 
 pub recurring-part-spec : {M : Type 1} → statement M

@@ -1,6 +1,7 @@
 use Prim.Native.Nat.{_*_, _-_, _≤_}
 use mathlib.Core.Path.{_≡_, sym}
 use native.Mathlib.Omega.{arith}
+use Rattle.task_model.specs.Limits.{mostTicks}
 use Rattle.task_model.specs.Words.{entryOf}
 use Rattle.task_model.proofs.Laws.{all-at}
 use Rattle.completion.specs.Demand.{sumTo}
@@ -11,13 +12,13 @@ use Rattle.completion.proofs.deciding.recurring_sum.Statement.{statemen
 use Rattle.completion.proofs.deciding.recurring_sum.Tie as tie
 
 abbrev Inv-loop : tie.InvT-loop
-Inv-loop words end deadline load₀ runs₀ j₀ load runs j =
-    (j ≤ end) × (load ≤ one * j) × (runs ≤ 1000000000 * j)
-    × (load ≡ sumTo (λ k. recurringLoad deadline (entryOf words k)) j)
-    × (runs ≡ sumTo (λ k. recurringRun deadline (entryOf words k)) j)
+Inv-loop words end limit load₀ runs₀ j₀ load runs j =
+    (j ≤ end) × (load ≤ one * j) × (runs ≤ mostTicks * j)
+    × (load ≡ sumTo (λ k. recurringLoad limit (entryOf words k)) j)
+    × (runs ≡ sumTo (λ k. recurringRun limit (entryOf words k)) j)
 
 abbrev μ-loop : tie.MeasureT-loop
-μ-loop words end deadline load₀ runs₀ j₀ load runs j = end - j
+μ-loop words end limit load₀ runs₀ j₀ load runs j = end - j
 
 loop-holds : tie.Need-loop-holds Inv-loop μ-loop
 loop-holds c = (omega arith, omega arith, omega arith, sym (sumTo-none _), sym (sumTo-none _))
@@ -38,16 +39,16 @@ module _ (c : tie.After-recurring-part Inv-loop μ-loop) where
   at-loop = c .before .before .before
 
   added : (c .recurring-part .result .load
-      ≡ recurringLoad (at-start .args .deadline) (entryOf (at-start .args .words .now) (at-loop .loop .j)))
+      ≡ recurringLoad (at-start .args .limit) (entryOf (at-start .args .words .now) (at-loop .loop .j)))
       × (c .recurring-part .result .runs
-      ≡ recurringRun (at-start .args .deadline) (entryOf (at-start .args .words .now) (at-loop .loop .j)))
+      ≡ recurringRun (at-start .args .limit) (entryOf (at-start .args .words .now) (at-loop .loop .j)))
   added = rw (c .before .entry-at .ensures) at (c .recurring-part .ensures)
 
-  few : (c .recurring-part .result .load ≤ one) × (c .recurring-part .result .runs ≤ 1000000000)
+  few : (c .recurring-part .result .load ≤ one) × (c .recurring-part .result .runs ≤ mostTicks)
   few =
       let e = entryOf (at-start .args .words .now) (at-loop .loop .j) in
       let ok = all-at _ _ (at-start .pre .0) _ (c .before .before .loop-test .taken) .times in
-      let d = at-start .args .deadline in
+      let d = at-start .args .limit in
       (omega (arith, added .0, recurring-load-most d e ok), omega (arith, added .1, run-most d e, ok))
 
 add-load : tie.Need-add-load Inv-loop μ-loop

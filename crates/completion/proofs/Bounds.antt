@@ -1,0 +1,30 @@
+-- Bounds of what the code adds up, by the limits of an entry and of a node; and what is known of the limit of an entry.
+use Prim.Native.Nat.{ℕ, _+_, _*_, _≤_}
+use native.Mathlib.Omega.{arith}
+use Rattle.task_model.specs.declared.Entry.{Entry}
+use Rattle.task_model.specs.Limits.{mostTicks, mostEntries, TimesHold}
+use Rattle.completion.specs.Test.{limit}
+
+-- What one entry runs in up to `mostTicks` ticks, at most: t + T, since C is at most T.
+abbrev pub mostShare : ℕ
+mostShare = mostTicks + mostTicks
+
+-- What all entries of a node run in that time, and one run of each.
+abbrev pub mostShares : ℕ
+mostShares = mostShare * mostEntries
+
+abbrev pub mostRuns : ℕ
+mostRuns = mostTicks * mostEntries
+
+module _ (e : Entry) (h : TimesHold e) where
+  pub limit-most : limit e ≤ mostTicks
+  unfolding limit
+  limit-most = omega arith
+
+  pub limit-run : e .wcet ≤ limit e
+  unfolding limit
+  limit-run = omega arith
+
+  pub limit-due : limit e ≤ e .deadline
+  unfolding limit
+  limit-due = omega arith
