@@ -2,8 +2,6 @@
 //! that answers wrongly is worth nothing. Answers, refusals with their places,
 //! and what is left in every lent buffer.
 
-use oracle::compare::rooms;
-use oracle::ffi::session::Session;
 use oracle::file::{self, encode};
 use oracle::gen::budget;
 use oracle::gen::buffers::known;
@@ -20,8 +18,13 @@ use oracle::refusal::{Refusal, BUFFER};
 use oracle::rng::Rng;
 use oracle::session::{Op, Reply};
 use oracle::tally::Tally;
-use oracle::tuned;
+use oracle::tuned::{self, session::Session};
 use oracle::words::{self, entry_words, ENTRY_WORDS};
+
+/// Room for a result of `needed`: none, one too short, exact, and too long.
+fn rooms(needed: usize) -> [usize; 4] {
+    [0, needed.saturating_sub(1), needed, needed + 9]
+}
 
 /// Every call that takes a file. A node whose tests would take the second
 /// implementation long is not mapped, nor its plan listed.

@@ -43,12 +43,11 @@ pub trait Entry {
     /// A task with up to 15 calls, or a section with none.
     fn kind_holds(&self) -> bool {
         let kind = self.word(0) >> 16;
-        kind & 0xF0FF == 1 || kind == 2
+        (kind & 0xF0FF == 1) | (kind == 2)
     }
 
     fn times_hold(&self) -> bool {
-        1 <= self.wcet()
-            && self.wcet() <= self.deadline()
+        self.wcet().wrapping_sub(1) < self.deadline()
             && self.deadline() <= self.period()
             && self.period() <= MOST_TICKS
             && self.blocking() <= MOST_TICKS

@@ -4,7 +4,7 @@ use super::entry::{Bytes, Entry};
 use super::file::{Plan, Row};
 use super::map::Groups;
 use super::text::Text;
-use super::timing::{completion, runs_of};
+use super::timing::{runs_of, Test};
 use crate::refusal::{Refusal, BUFFER};
 use crate::timing::Timing;
 
@@ -72,7 +72,8 @@ fn put_node(text: &mut Text, row: Row, entries: &[Bytes]) -> Option<()> {
 fn put_group(text: &mut Text, entries: &[Bytes], first: usize, level: u32) -> Option<()> {
     let runs = runs_of(entries);
     for (i, entry) in entries.iter().enumerate().skip(first) {
-        let Timing::OnTime { time, rounds } = completion(entries, first, i, runs) else {
+        let timing = Test::new(entries, first, i, runs).completion();
+        let Timing::OnTime { time, rounds } = timing else {
             unreachable!("no entry of a map is late");
         };
         text.put_field(b"entry ", entry.number())?;

@@ -2,7 +2,7 @@
 
 use super::entry::{Entry, MOST};
 use super::file::Plan;
-use super::timing::{ends_on_time, runs_of};
+use super::timing::{runs_of, Test};
 use crate::refusal::{Refusal, BUFFER, NO_MAP, NO_NODE};
 
 /// The groups of a map.
@@ -50,7 +50,7 @@ fn least_start<E: Entry>(entries: &[E]) -> Option<usize> {
     let mut start = entries.iter().rposition(late).map_or(0, |i| i + 1);
     'starts: while start < entries.len() {
         for i in (start..entries.len()).rev() {
-            if !ends_on_time(entries, start, i, runs) {
+            if !Test::new(entries, start, i, runs).is_on_time() {
                 // It is late in each group that starts later and has it.
                 start = i + 1;
                 continue 'starts;

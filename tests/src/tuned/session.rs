@@ -3,10 +3,12 @@
 
 use super::entry::{refusal_in, Entry, Words, MOST};
 use super::map::map_entries;
-use super::timing::{completion, runs_of};
-use crate::ffi::session::Session;
+use super::timing::{runs_of, Test};
 use crate::refusal::{Refusal, FULL, POSITION, ROW};
 use crate::timing::Timing;
+
+/// The lent memory.
+pub use crate::ffi::session::Session;
 
 /// The entries of a sound session, or why it is refused.
 fn held(session: &Session) -> Result<&[Words], Refusal> {
@@ -23,9 +25,15 @@ fn held(session: &Session) -> Result<&[Words], Refusal> {
     Err(refusal_in(entries, 0).expect("an entry is outside the limits"))
 }
 
-/// The slots of all entries that a session may have.
+/// The slots of the entries that a session may have.
 fn slots(session: &mut Session) -> &mut [Words] {
     session.words.as_chunks_mut().0
+}
+
+/// Leaves a session with its first `count` entries, and zeros behind them.
+fn keep(session: &mut Session, count: usize) {
+    session.count = count as u32;
+    session.words[count * 5..].fill(0);
 }
 
 fn check_levels(levels: u8) -> Result<(), Refusal> {
@@ -52,8 +60,7 @@ fn check_entry(entry: &Words, position: usize) -> Result<(), Refusal> {
 pub fn open(session: &mut Session, levels: u8) -> Result<(), Refusal> {
     check_levels(levels)?;
     session.levels = u32::from(levels);
-    session.count = 0;
-    session.words.fill(0);
+    keep(session, 0);
     Ok(())
 }
 
@@ -63,7 +70,7 @@ pub fn set_levels(session: &mut Session, levels: u8) -> Result<(), Refusal> {
     let count = held(session)?.len();
     check_levels(levels)?;
     session.levels = u32::from(levels);
-    slots(session)[count..].fill([0; 5]);
+    keep(session, count);
     Ok(())
 }
 
@@ -81,8 +88,7 @@ pub fn insert(session: &mut Session, position: usize, entry: &Words) -> Result<(
     let slots = slots(session);
     slots.copy_within(position..count, position + 1);
     slots[position] = *entry;
-    slots[count + 1..].fill([0; 5]);
-    session.count += 1;
+    keep(session, count + 1);
     Ok(())
 }
 
@@ -93,10 +99,8 @@ pub fn remove(session: &mut Session, position: usize) -> Result<(), Refusal> {
     if position >= count {
         return Err(Refusal::plain(POSITION));
     }
-    let slots = slots(session);
-    slots.copy_within(position + 1..count, position);
-    slots[count - 1..].fill([0; 5]);
-    session.count -= 1;
+    slots(session).copy_within(position + 1..count, position);
+    keep(session, count - 1);
     Ok(())
 }
 
@@ -108,9 +112,8 @@ pub fn replace(session: &mut Session, position: usize, entry: &Words) -> Result<
         return Err(Refusal::plain(POSITION));
     }
     check_entry(entry, position)?;
-    let slots = slots(session);
-    slots[position] = *entry;
-    slots[count..].fill([0; 5]);
+    slots(session)[position] = *entry;
+    keep(session, count);
     Ok(())
 }
 
@@ -122,7 +125,7 @@ pub fn time(session: &Session, first: usize, last: usize, i: usize) -> Result<Ti
         return Err(Refusal::plain(POSITION));
     }
     let entries = &entries[..=last];
-    Ok(completion(entries, first, i, runs_of(entries)))
+    Ok(Test::new(entries, first, i, runs_of(entries)).completion())
 }
 
 /// Maps the node, and gives the levels used.

@@ -31,13 +31,31 @@ impl Text<'_> {
     }
 
     fn put_number(&mut self, mut number: u32) -> Option<()> {
-        let length = number.checked_ilog10().unwrap_or(0) as usize + 1;
+        if number < 10 {
+            return self.put(&[b'0' + number as u8]);
+        }
+        let length = number.ilog10() as usize + 1;
         let digits = self.out.get_mut(self.at..self.at + length)?;
-        for digit in digits.iter_mut().rev() {
-            *digit = b'0' + (number % 10) as u8;
-            number /= 10;
+        let (one, pairs) = digits.as_rchunks_mut::<2>();
+        for pair in pairs.iter_mut().rev() {
+            *pair = PAIRS[number as usize % 100];
+            number /= 100;
+        }
+        if let [digit] = one {
+            *digit = b'0' + number as u8;
         }
         self.at += length;
         Some(())
     }
 }
+
+/// The digits of the numbers below 100.
+const PAIRS: [[u8; 2]; 100] = {
+    let mut pairs = [[0; 2]; 100];
+    let mut n = 0;
+    while n < 100 {
+        pairs[n] = [b'0' + n as u8 / 10, b'0' + n as u8 % 10];
+        n += 1;
+    }
+    pairs
+};

@@ -1,5 +1,5 @@
-//! The completion time test, and whether an entry is on time without its
-//! rounds where less decides.
+//! The completion time test of an entry, and whether it is on time without
+//! its rounds where less decides.
 
 use super::entry::Entry;
 use crate::timing::Timing;
@@ -7,54 +7,86 @@ use crate::timing::Timing;
 /// A load of 1; loads are in units of 2^-34.
 const ONE: u64 = 1 << 34;
 
-/// How often an entry is released in `t` ticks. The first period needs no
-/// division.
-fn releases(entry: &impl Entry, t: u32) -> u64 {
-    let period = entry.period();
-    if t <= period {
-        1
-    } else {
-        u64::from((t + (period - 1)) / period)
-    }
+/// The runs of these entries, added up.
+pub fn runs_of(entries: &[impl Entry]) -> u64 {
+    entries.iter().map(|entry| u64::from(entry.wcet())).sum()
 }
 
-/// What an entry on a more urgent level runs in `t` ticks.
+/// What an entry on a more urgent level runs in `t` ticks. The first period
+/// needs no division.
 fn urgent_share(entry: &impl Entry, t: u32) -> u64 {
-    u64::from(entry.wcet()) * releases(entry, t)
+    let (wcet, period) = (u64::from(entry.wcet()), entry.period());
+    if t <= period {
+        return wcet;
+    }
+    wcet * u64::from((t + (period - 1)) / period)
 }
 
 /// What another entry on the level of one with so many calls runs in `t`
-/// ticks. Past as many periods the count is at its limit.
+/// ticks. Past as many periods the count is at its limit, and no division is
+/// needed.
 fn beside_share(entry: &impl Entry, calls: u32, t: u32) -> u64 {
     if u64::from(entry.period()) * u64::from(calls) < u64::from(t) {
-        u64::from(entry.wcet()) * u64::from(calls + 1)
-    } else {
-        urgent_share(entry, t)
+        return u64::from(entry.wcet()) * u64::from(calls + 1);
     }
+    urgent_share(entry, t)
 }
 
-/// An entry in its group, and those that its demand counts.
-struct Grouped<'a, E> {
+/// An entry in its group, with what its demand counts.
+pub struct Test<'a, E> {
     own: &'a E,
+    /// Where the test starts: its blocking, and one run of each entry.
+    start: u64,
+    /// Those on more urgent levels.
     urgent: &'a [E],
+    /// The others on its level.
     before: &'a [E],
     behind: &'a [E],
 }
 
-impl<'a, E: Entry> Grouped<'a, E> {
-    /// The entry at `i` in the group from `first` to the last of the entries.
-    fn new(entries: &'a [E], first: usize, i: usize) -> Grouped<'a, E> {
+impl<'a, E: Entry> Test<'a, E> {
+    /// The entry at `i`, in the group from `first` to the last of these
+    /// entries, whose runs add up to `runs`.
+    pub fn new(entries: &'a [E], first: usize, i: usize, runs: u64) -> Test<'a, E> {
         let (earlier, later) = entries.split_at(i);
         let (urgent, before) = earlier.split_at(first);
         let (own, behind) = later.split_first().expect("the entry is in the list");
-        Grouped {
+        Test {
             own,
+            start: u64::from(own.blocking()) + runs,
             urgent,
             before,
             behind,
         }
     }
 
+    /// The test, with its rounds.
+    pub fn completion(&self) -> Timing {
+        let deadline = u64::from(self.own.deadline());
+        let mut t = self.start;
+        let mut rounds = 0;
+        while t <= deadline {
+            let next = self.demand(t as u32);
+            rounds += 1;
+            if next == t {
+                return Timing::OnTime { time: t, rounds };
+            }
+            t = next;
+        }
+        Timing::Late { rounds }
+    }
+
+    /// Whether the entry ends by its deadline: by the start, by the demand at
+    /// the deadline, or else by rounds from as late as the load allows.
+    pub fn is_on_time(&self) -> bool {
+        let deadline = self.own.deadline();
+        if self.start > u64::from(deadline) {
+            return false;
+        }
+        self.demand(deadline) <= u64::from(deadline) || self.is_met_from(self.earliest())
+    }
+
+    /// What has to run by `t`.
     fn demand(&self, t: u32) -> u64 {
         let calls = self.own.calls();
         let mut sum = u64::from(self.own.wcet()) + u64::from(self.own.blocking());
@@ -71,8 +103,8 @@ impl<'a, E: Entry> Grouped<'a, E> {
     }
 
     /// A time before which the demand is not met: the start, or later by the
-    /// load of the more urgent entries.
-    fn earliest(&self, start: u64) -> u64 {
+    /// load of the more urgent entries whose periods are below the deadline.
+    fn earliest(&self) -> u64 {
         let deadline = self.own.deadline();
         let (mut load, mut runs) = (0, 0);
         for entry in self.urgent {
@@ -84,12 +116,13 @@ impl<'a, E: Entry> Grouped<'a, E> {
         if load >= ONE {
             return u64::from(deadline) + 1;
         }
-        (ONE * (start - runs)).div_ceil(ONE - load).max(start)
+        let by_load = (ONE * (self.start - runs)).div_ceil(ONE - load);
+        by_load.max(self.start)
     }
 
-    /// Whether the demand is met by the deadline, by rounds from a time
-    /// before which it is not.
-    fn met_from(&self, mut t: u64) -> bool {
+    /// Whether the demand is met by the deadline, by rounds from a time before
+    /// which it is not.
+    fn is_met_from(&self, mut t: u64) -> bool {
         let deadline = u64::from(self.own.deadline());
         while t <= deadline {
             let next = self.demand(t as u32);
@@ -100,39 +133,4 @@ impl<'a, E: Entry> Grouped<'a, E> {
         }
         false
     }
-}
-
-/// Whether the entry at `i` ends by its deadline, in the group from `first` to
-/// the last of the entries, whose runs add up to `runs`.
-pub fn ends_on_time<E: Entry>(entries: &[E], first: usize, i: usize, runs: u64) -> bool {
-    let own = &entries[i];
-    let deadline = own.deadline();
-    let start = u64::from(own.blocking()) + runs;
-    if start > u64::from(deadline) {
-        return false;
-    }
-    let grouped = Grouped::new(entries, first, i);
-    grouped.demand(deadline) <= u64::from(deadline) || grouped.met_from(grouped.earliest(start))
-}
-
-/// The test of the entry at `i`, in the same group.
-pub fn completion<E: Entry>(entries: &[E], first: usize, i: usize, runs: u64) -> Timing {
-    let grouped = Grouped::new(entries, first, i);
-    let deadline = u64::from(grouped.own.deadline());
-    let mut t = u64::from(grouped.own.blocking()) + runs;
-    let mut rounds = 0;
-    while t <= deadline {
-        let next = grouped.demand(t as u32);
-        rounds += 1;
-        if next == t {
-            return Timing::OnTime { time: t, rounds };
-        }
-        t = next;
-    }
-    Timing::Late { rounds }
-}
-
-/// The runs of these entries, added up.
-pub fn runs_of(entries: &[impl Entry]) -> u64 {
-    entries.iter().map(|entry| u64::from(entry.wcet())).sum()
 }

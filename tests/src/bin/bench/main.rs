@@ -25,7 +25,7 @@ const MOST_TEXT: usize = 115_625;
 /// Entries of a node of a station.
 const COUNT: usize = 12;
 
-fn files(table: &Table) {
+fn files(table: &mut Table) {
     let mut rng = Rng::new(7);
     for count in [8, 16, 32, 64] {
         let mut file = || one_node(&mapped_entries(&mut rng, count, 64), 64);
@@ -90,11 +90,10 @@ fn main() {
             return odd::child(who, family);
         }
     }
-    let table = Table::new(&arguments);
-    table.head("Work");
-    files(&table);
-    sessions::rows(&table);
-    odd::rounds(&Table::of_long_calls(&arguments), 8);
+    let mut table = Table::new(&arguments);
+    files(&mut table);
+    sessions::rows(&mut table);
+    odd::rounds(&mut Table::of_long_calls(&arguments), 8);
     if arguments.is_empty() {
         odd::families();
     }

@@ -36,6 +36,7 @@ pub struct Table<'a> {
     unit: &'static str,
     units_a_second: f64,
     turns: usize,
+    begun: bool,
 }
 
 impl<'a> Table<'a> {
@@ -46,6 +47,7 @@ impl<'a> Table<'a> {
             unit: "µs",
             units_a_second: 1e6,
             turns: 30,
+            begun: false,
         }
     }
 
@@ -59,17 +61,8 @@ impl<'a> Table<'a> {
         }
     }
 
-    /// Writes the head.
-    pub fn head(&self, title: &str) {
-        let unit = self.unit;
-        println!(
-            "| {title} | proved, {unit} | tuned, {unit} | plain, {unit} | of tuned | of plain |"
-        );
-        println!("|---|---|---|---|---|---|");
-    }
-
     /// Compares the answers, then measures, and writes the line.
-    pub fn row<R: Row>(&self, row: &R) {
+    pub fn row<R: Row>(&mut self, row: &R) {
         let name = row.name();
         if !self.asked.is_empty() && !self.asked.iter().any(|part| name.contains(part)) {
             return;
@@ -100,7 +93,16 @@ impl<'a> Table<'a> {
         self.line(&name, best.map(|seconds| seconds / row.parts() as f64));
     }
 
-    fn line(&self, name: &str, [proved, tuned, plain]: [f64; 3]) {
+    /// Writes a line, and the head before the first.
+    fn line(&mut self, name: &str, [proved, tuned, plain]: [f64; 3]) {
+        if !self.begun {
+            self.begun = true;
+            let unit = self.unit;
+            println!(
+                "\n| Work | proved, {unit} | tuned, {unit} | plain, {unit} | of tuned | of plain |"
+            );
+            println!("|---|---|---|---|---|---|");
+        }
         let [a, b, c] = [proved, tuned, plain].map(|seconds| {
             let time = seconds * self.units_a_second;
             format!("{time:.*}", decimals(time, 2, 0))

@@ -96,16 +96,15 @@ fn best_of(mut list: impl FnMut(bool)) -> f64 {
 }
 
 /// The table of a node whose last entries truly take millions of rounds.
-pub fn rounds(table: &Table, count: usize) {
+pub fn rounds(table: &mut Table, count: usize) {
     let file = one_node(&many_rounds(count), 64);
-    println!();
-    table.head(&format!("Node of {count} entries, millions of rounds"));
+    let what = format!("a node of {count} entries with millions of rounds");
     table.row(&Mapping {
-        name: "map".into(),
+        name: format!("map {what}"),
         files: vec![file.clone()],
     });
     table.row(&Listing {
-        name: "list".into(),
+        name: format!("list {what}"),
         file,
         room: MOST_TEXT,
     });

@@ -14,7 +14,7 @@ use std::hint::black_box;
 type Draw = fn(&mut Rng, usize) -> Vec<model::Entry>;
 
 /// All rows.
-pub fn rows(table: &Table) {
+pub fn rows(table: &mut Table) {
     let mut rng = Rng::new(8);
     for count in [8, 32, 63] {
         table.row(&Changes::new(&mut rng, count));
