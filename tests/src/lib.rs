@@ -42,4 +42,5 @@ pub mod rows;
 pub mod session;
 pub mod tally;
 pub mod timing;
+pub mod tuned;
 pub mod words;

@@ -1,8 +1,9 @@
 //! The same work in plain Rust, to measure the proved library against: the
-//! same checks and the same search, with one division a term.
+//! same checks and the same search, with one division a term and every round.
 //!
-//! Written for speed as one would write it by hand, with structs and slices;
-//! nothing here is compared but its time, and that its answers agree.
+//! Written as one would write it by hand, with structs and slices; nothing
+//! here is compared but its time, and that its answers agree. [`crate::tuned`]
+//! is the other measure.
 
 pub mod session;
 
@@ -111,6 +112,41 @@ pub fn read(file: &[u8], rows: &mut [u32], entries: &mut [u32]) -> Option<(usize
         *target = u32::from_le_bytes(*bytes);
     }
     Some((nodes, bodies.len() / 20))
+}
+
+/// Writes words as a file, and gives its length.
+#[inline(never)]
+pub fn write(rows: &[u32], words: &[u32], file: &mut [u8]) -> Option<usize> {
+    if !(1..=32).contains(&rows.len()) {
+        return None;
+    }
+    let (mut least, mut count) = (0, 0);
+    for row in rows {
+        let (number, levels, entries) = (row & 0xFFFF, row >> 16 & 0xFF, row >> 24);
+        if number < least || !(1..=64).contains(&levels) || entries > 64 {
+            return None;
+        }
+        least = number + 1;
+        count += entries as usize;
+    }
+    let entries = words.as_chunks::<5>().0;
+    if words.len() != count * 5 || !entries.iter().all(|e| entry_holds(&session::entry(e))) {
+        return None;
+    }
+    let bodies = 8 + rows.len() * 8;
+    let file = file.get_mut(..bodies + words.len() * 4)?;
+    file[..4].copy_from_slice(b"LMP1");
+    file[4..8].copy_from_slice(&[rows.len() as u8, 0, 0, 0]);
+    let mut offset = bodies as u32;
+    for (target, row) in file[8..bodies].as_chunks_mut::<8>().0.iter_mut().zip(rows) {
+        target[..4].copy_from_slice(&row.to_le_bytes());
+        target[4..].copy_from_slice(&offset.to_le_bytes());
+        offset += (row >> 24) * 20;
+    }
+    for (target, word) in file[bodies..].as_chunks_mut::<4>().0.iter_mut().zip(words) {
+        *target = word.to_le_bytes();
+    }
+    Some(file.len())
 }
 
 fn load(file: &[u8], row: usize) -> Node {

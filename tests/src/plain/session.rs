@@ -1,11 +1,12 @@
 //! The session in plain Rust: the lent memory is checked as the proved
 //! functions check it, and changed in place.
 
-use super::{completion, entry_holds, Entry, MOST};
+use super::{completion, entry_holds, map_entries, Entry, MOST};
 use crate::ffi::session::Session;
 use crate::words::ENTRY_WORDS;
 
-fn entry(words: &[u32; ENTRY_WORDS]) -> Entry {
+/// The entry that five words hold.
+pub(super) fn entry(words: &[u32; ENTRY_WORDS]) -> Entry {
     let [low, high, kind, r] = words[0].to_le_bytes();
     Entry {
         number: u16::from_le_bytes([low, high]),
@@ -69,9 +70,25 @@ pub fn time(session: &Session, first: usize, last: usize, i: usize) -> Option<(u
     if first > i || i > last || last >= count {
         return None;
     }
+    completion(&load(session, last + 1)[..=last], first, last, i)
+}
+
+/// Maps the node, and gives the levels used.
+#[inline(never)]
+pub fn map(session: &Session, levels: &mut [u8]) -> Option<usize> {
+    let count = count_of(session)?;
+    let target = levels.get_mut(..count)?;
+    let entries = load(session, count);
+    let (map, used) = map_entries(&entries[..count], session.levels as u8)?;
+    target.copy_from_slice(&map[..count]);
+    Some(usize::from(used))
+}
+
+/// So many entries of a session.
+fn load(session: &Session, count: usize) -> [Entry; MOST] {
     let mut entries = [Entry::default(); MOST];
-    for (target, words) in entries[..=last].iter_mut().zip(session.words.as_chunks().0) {
+    for (target, words) in entries[..count].iter_mut().zip(session.words.as_chunks().0) {
         *target = entry(words);
     }
-    completion(&entries[..=last], first, last, i)
+    entries
 }

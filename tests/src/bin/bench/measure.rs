@@ -1,58 +1,132 @@
-//! Times of calls, each the best of many runs, taken in turns, so that what
-//! else the machine does hurts both alike.
+//! Tables: a row is the same calls of each of the three, and the best of many
+//! runs counts, taken in turns, so that what else the machine does hurts all
+//! alike.
 
+use crate::planner::{Plain, Planner, Proved, Tuned};
+use std::fmt::Debug;
 use std::time::Instant;
 
-/// Turns of a measure.
-const TURNS: usize = 30;
 /// What one run of a measure takes at least, in seconds.
 const LONG: f64 = 0.004;
 
-/// The best seconds of one call each of the proved and of the plain one.
-pub fn measure(proved: impl FnMut(), plain: impl FnMut()) -> (f64, f64) {
-    measure_turns(TURNS, proved, plain)
-}
+/// What is measured.
+pub trait Row {
+    /// The buffers that are lent to the calls, and what these answer.
+    type Lent: Debug + PartialEq;
 
-/// The same with so many turns.
-pub fn measure_turns(
-    turns: usize,
-    mut proved: impl FnMut(),
-    mut plain: impl FnMut(),
-) -> (f64, f64) {
-    // Each in as many calls as it takes for a run: one may be far slower.
-    let calls = (calls_in(LONG, &mut proved), calls_in(LONG, &mut plain));
-    let mut best = (f64::MAX, f64::MAX);
-    for _ in 0..turns {
-        best.0 = best.0.min(seconds(calls.0, &mut proved));
-        best.1 = best.1.min(seconds(calls.1, &mut plain));
+    /// What the line says.
+    fn name(&self) -> String;
+
+    /// How many things of the name are done by one run of the calls.
+    fn parts(&self) -> usize {
+        1
     }
-    best
+
+    /// What is lent first.
+    fn lent(&self) -> Self::Lent;
+
+    /// The calls.
+    fn call<P: Planner>(&self, lent: &mut Self::Lent);
 }
 
-/// Seconds of a call, over so many calls.
-pub fn seconds(calls: u32, call: &mut impl FnMut()) -> f64 {
+/// A table of rows.
+pub struct Table<'a> {
+    /// Parts of names: a row that has none of them is left out.
+    asked: &'a [String],
+    unit: &'static str,
+    units_a_second: f64,
+    turns: usize,
+    begun: bool,
+}
+
+impl<'a> Table<'a> {
+    /// A table in microseconds, or the rows of it that are asked for.
+    pub fn new(asked: &'a [String]) -> Table<'a> {
+        Table {
+            asked,
+            unit: "µs",
+            units_a_second: 1e6,
+            turns: 30,
+            begun: false,
+        }
+    }
+
+    /// The same for calls that take long: in milliseconds, with few turns.
+    pub fn of_long_calls(asked: &'a [String]) -> Table<'a> {
+        Table {
+            unit: "ms",
+            units_a_second: 1e3,
+            turns: 3,
+            ..Table::new(asked)
+        }
+    }
+
+    /// Compares the answers, then measures, and writes the line.
+    pub fn row<R: Row>(&mut self, row: &R) {
+        let name = row.name();
+        if !self.asked.is_empty() && !self.asked.iter().any(|part| name.contains(part)) {
+            return;
+        }
+        let all: [Run<R>; 3] = [run::<R, Proved>, run::<R, Tuned>, run::<R, Plain>];
+        let mut lent = all.map(|run| {
+            let mut lent = row.lent();
+            run(row, &mut lent, 1);
+            lent
+        });
+        assert!(lent[1] == lent[0], "{name}: the tuned one differs");
+        assert!(lent[2] == lent[0], "{name}: the plain one differs");
+        // Each in as many calls as it takes for a run: one may be far slower.
+        let mut calls = [1; 3];
+        let mut best = [f64::MAX; 3];
+        for who in 0..3 {
+            let mut seconds = |calls| all[who](row, &mut lent[who], calls);
+            while seconds(calls[who]) < LONG {
+                calls[who] *= 2;
+            }
+        }
+        for _ in 0..self.turns {
+            for who in 0..3 {
+                let seconds = all[who](row, &mut lent[who], calls[who]);
+                best[who] = best[who].min(seconds / f64::from(calls[who]));
+            }
+        }
+        self.line(&name, best.map(|seconds| seconds / row.parts() as f64));
+    }
+
+    /// Writes a line, and the head before the first.
+    fn line(&mut self, name: &str, [proved, tuned, plain]: [f64; 3]) {
+        if !self.begun {
+            self.begun = true;
+            let unit = self.unit;
+            println!(
+                "\n| Work | proved, {unit} | tuned, {unit} | plain, {unit} | of tuned | of plain |"
+            );
+            println!("|---|---|---|---|---|---|");
+        }
+        let [a, b, c] = [proved, tuned, plain].map(|seconds| {
+            let time = seconds * self.units_a_second;
+            format!("{time:.*}", decimals(time, 2, 0))
+        });
+        let [d, e] = [proved / tuned, proved / plain]
+            .map(|ratio| format!("{ratio:.*}", decimals(ratio, 0, 2)));
+        println!("| {name} | {a} | {b} | {c} | {d} | {e} |");
+    }
+}
+
+/// So many calls, and the seconds that they take.
+type Run<R> = fn(&R, &mut <R as Row>::Lent, u32) -> f64;
+
+fn run<R: Row, P: Planner>(row: &R, lent: &mut R::Lent, calls: u32) -> f64 {
     let begin = Instant::now();
     for _ in 0..calls {
-        call();
+        row.call::<P>(lent);
     }
-    begin.elapsed().as_secs_f64() / f64::from(calls)
+    begin.elapsed().as_secs_f64()
 }
 
-/// How many calls take so long.
-fn calls_in(long: f64, call: &mut impl FnMut()) -> u32 {
-    let mut calls = 1;
-    while seconds(calls, call) * f64::from(calls) < long {
-        calls *= 2;
-    }
-    calls
-}
-
-/// A line of the table, per part where a call has several.
-pub fn line(name: &str, parts: usize, (proved, plain): (f64, f64)) {
-    let per_part = 1e6 / parts as f64;
-    let (proved_us, plain_us) = (proved * per_part, plain * per_part);
-    println!(
-        "| {name} | {proved_us:.3} | {plain_us:.3} | {:.2} |",
-        proved / plain
-    );
+/// How many decimals show so many digits behind the first, and at least so
+/// many decimals.
+fn decimals(number: f64, digits: i32, least: i32) -> usize {
+    let first = number.log10().floor() as i32;
+    (digits - first).max(least) as usize
 }

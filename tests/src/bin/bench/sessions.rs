@@ -1,102 +1,178 @@
-//! Sessions: changes in the middle, and the completion time test alone.
+//! Sessions: changes in the middle, the completion time test alone, and maps.
 
-use crate::measure::{line, measure};
+use crate::measure::{Row, Table};
+use crate::planner::{Entry, Plain, Planner, Proved, Tuned};
+use crate::stations::mapped_entries;
 use oracle::ffi::session::Session;
 use oracle::gen::entries;
 use oracle::lent::words_of;
-use oracle::model::Entry;
-use oracle::plain::session as plain;
+use oracle::model;
 use oracle::rng::Rng;
-use oracle::timing::Timing;
 use oracle::words::entry_words;
 use std::hint::black_box;
 
-type Draw = fn(&mut Rng, usize) -> Vec<Entry>;
+type Draw = fn(&mut Rng, usize) -> Vec<model::Entry>;
 
-/// All lines of the table.
-pub fn table() {
+/// All rows.
+pub fn rows(table: &mut Table) {
     let mut rng = Rng::new(8);
     for count in [8, 32, 63] {
-        changes(&mut rng, count);
+        table.row(&Changes::new(&mut rng, count));
     }
     let draws: [(&str, Draw); 2] = [("mixed", entries::mixed), ("usual", entries::realistic)];
-    for (name, draw) in draws {
+    for (periods, draw) in draws {
         for count in [8, 32, 64] {
-            timing(&mut rng, count, name, draw);
+            table.row(&Timing::new(&mut rng, count, periods, draw));
         }
+    }
+    for count in [8, 16, 32, 64] {
+        table.row(&Mapping::new(&mut rng, count));
     }
 }
 
-fn session(rng: &mut Rng, count: usize, draw: Draw) -> Session {
-    let held = oracle::session::Session::holding(8, &draw(rng, count));
+fn session(levels: usize, entries: &[model::Entry]) -> Session {
+    let held = oracle::session::Session::holding(levels, entries);
     Session::of(&words_of(&held.expect("generated entries are good")))
 }
 
 /// An insert and a remove, which leave the session as it was.
-fn changes(rng: &mut Rng, count: usize) {
-    let before = session(rng, count, entries::mixed);
-    let entry = entry_words(&Entry::task(99, 5, 1_000, 900));
-    let (mut proved, mut other) = (before.clone(), before.clone());
-    let middle = count / 2;
-    assert!(proved.insert(middle, &entry).is_ok() && plain::insert(&mut other, middle, &entry));
-    assert_eq!(proved, other);
-    assert!(proved.remove(middle).is_ok() && plain::remove(&mut other, middle));
-    assert_eq!((&proved, &other), (&before, &before));
-    let times = measure(
-        || {
-            let _ = black_box(proved.insert(black_box(middle), &entry));
-            let _ = black_box(proved.remove(black_box(middle)));
-        },
-        || {
-            black_box(plain::insert(&mut other, black_box(middle), &entry));
-            black_box(plain::remove(&mut other, black_box(middle)));
-        },
-    );
-    line(
-        &format!("insert into or remove from the middle of a session of {count} entries"),
-        2,
-        times,
-    );
+struct Changes {
+    session: Session,
+    entry: Entry,
+    count: usize,
+}
+
+impl Changes {
+    fn new(rng: &mut Rng, count: usize) -> Changes {
+        let row = Changes {
+            session: session(8, &entries::mixed(rng, count)),
+            entry: entry_words(&model::Entry::task(99, 5, 1_000, 900)),
+            count,
+        };
+        let between = row.between::<Proved>();
+        assert_eq!(row.between::<Tuned>(), between);
+        assert_eq!(row.between::<Plain>(), between);
+        row
+    }
+
+    /// The session between the two.
+    fn between<P: Planner>(&self) -> Session {
+        let mut session = self.session.clone();
+        assert!(P::insert(&mut session, self.count / 2, &self.entry));
+        let between = session.clone();
+        assert!(P::remove(&mut session, self.count / 2));
+        assert_eq!(session, self.session);
+        between
+    }
+}
+
+impl Row for Changes {
+    type Lent = (Session, [bool; 2]);
+
+    fn name(&self) -> String {
+        let count = self.count;
+        format!("insert into or remove from the middle of a session of {count} entries")
+    }
+
+    fn parts(&self) -> usize {
+        2
+    }
+
+    fn lent(&self) -> Self::Lent {
+        (self.session.clone(), [false; 2])
+    }
+
+    fn call<P: Planner>(&self, (session, changed): &mut Self::Lent) {
+        let middle = self.count / 2;
+        changed[0] = P::insert(session, black_box(middle), &self.entry);
+        changed[1] = P::remove(session, black_box(middle));
+    }
 }
 
 /// The last entry in groups that start at the first entry, in the middle, and
 /// at itself.
-fn timing(rng: &mut Rng, count: usize, name: &str, draw: Draw) {
-    let sessions: Vec<Session> = (0..16).map(|_| session(rng, count, draw)).collect();
-    let last = count - 1;
-    let firsts = [0, count / 2, last];
-    let mut on_time = 0;
-    for session in &sessions {
-        for first in firsts {
-            let due = match session.time(first, last, last).expect("a group") {
-                Timing::OnTime { time, rounds } => Some((time as u32, rounds as u32)),
-                Timing::Late { .. } => None,
-            };
-            on_time += u32::from(due.is_some());
-            assert_eq!(plain::time(session, first, last, last), due);
+struct Timing {
+    sessions: Vec<Session>,
+    count: usize,
+    periods: &'static str,
+}
+
+impl Timing {
+    fn new(rng: &mut Rng, count: usize, periods: &'static str, draw: Draw) -> Timing {
+        let row = Timing {
+            sessions: (0..16).map(|_| session(8, &draw(rng, count))).collect(),
+            count,
+            periods,
+        };
+        let mut times = row.lent();
+        row.call::<Proved>(&mut times);
+        let on_time = times.as_flattened().iter().flatten().count();
+        assert!(on_time > 8, "{on_time} of 48 are on time");
+        row
+    }
+}
+
+impl Row for Timing {
+    type Lent = Vec<[Option<(u32, u32)>; 3]>;
+
+    fn name(&self) -> String {
+        let (count, periods) = (self.count, self.periods);
+        format!("time the last of {count} entries with {periods} periods in a session")
+    }
+
+    fn parts(&self) -> usize {
+        self.sessions.len() * 3
+    }
+
+    fn lent(&self) -> Self::Lent {
+        vec![[None; 3]; self.sessions.len()]
+    }
+
+    fn call<P: Planner>(&self, times: &mut Self::Lent) {
+        let last = self.count - 1;
+        let firsts = [0, self.count / 2, last];
+        for (session, times) in self.sessions.iter().zip(times) {
+            for (first, time) in firsts.into_iter().zip(times) {
+                *time = P::time(session, black_box(first), last, last);
+            }
         }
     }
-    assert!(on_time > 8, "{on_time} of 48 are on time");
-    let each = || {
-        sessions
-            .iter()
-            .flat_map(|one| firsts.map(|first| (one, first)))
-    };
-    let times = measure(
-        || {
-            for (session, first) in each() {
-                let _ = black_box(session.time(black_box(first), last, last));
-            }
-        },
-        || {
-            for (session, first) in each() {
-                black_box(plain::time(session, black_box(first), last, last));
-            }
-        },
-    );
-    line(
-        &format!("time the last of {count} entries with {name} periods in a session"),
-        sessions.len() * firsts.len(),
-        times,
-    );
+}
+
+/// Maps of some sessions, which differ in their work.
+struct Mapping {
+    sessions: Vec<Session>,
+    count: usize,
+}
+
+impl Mapping {
+    fn new(rng: &mut Rng, count: usize) -> Mapping {
+        let draw = |_| session(64, &mapped_entries(rng, count, 64));
+        Mapping {
+            sessions: (0..16).map(draw).collect(),
+            count,
+        }
+    }
+}
+
+impl Row for Mapping {
+    type Lent = Vec<(Option<usize>, [u8; 64])>;
+
+    fn name(&self) -> String {
+        format!("map a session of {} entries", self.count)
+    }
+
+    fn parts(&self) -> usize {
+        self.sessions.len()
+    }
+
+    fn lent(&self) -> Self::Lent {
+        vec![(None, [0; 64]); self.sessions.len()]
+    }
+
+    fn call<P: Planner>(&self, lent: &mut Self::Lent) {
+        for (session, (used, levels)) in self.sessions.iter().zip(lent) {
+            *used = P::map_session(black_box(session), levels);
+        }
+    }
 }

@@ -1,0 +1,155 @@
+//! The three that are measured, with the same calls.
+
+use oracle::ffi;
+use oracle::ffi::session::Session;
+use oracle::plain;
+use oracle::timing::Timing;
+use oracle::tuned;
+use oracle::words::ENTRY_WORDS;
+
+/// An entry in words.
+pub type Entry = [u32; ENTRY_WORDS];
+
+/// One of them. A call that is refused answers `false` or `None`.
+pub trait Planner {
+    fn check(file: &[u8]) -> bool;
+    fn read(file: &[u8], rows: &mut [u32], words: &mut [u32]) -> Option<(usize, usize)>;
+    fn write(rows: &[u32], words: &[u32], file: &mut [u8]) -> Option<usize>;
+    fn map(file: &[u8], number: u16, levels: &mut [u8]) -> Option<usize>;
+    fn list(file: &[u8], text: &mut [u8]) -> Option<usize>;
+    fn insert(session: &mut Session, position: usize, entry: &Entry) -> bool;
+    fn remove(session: &mut Session, position: usize) -> bool;
+    /// The completion time and the rounds of an entry that is on time.
+    fn time(session: &Session, first: usize, last: usize, i: usize) -> Option<(u32, u32)>;
+    fn map_session(session: &Session, levels: &mut [u8]) -> Option<usize>;
+}
+
+/// The proved library.
+pub struct Proved;
+
+impl Planner for Proved {
+    fn check(file: &[u8]) -> bool {
+        ffi::check(file).is_ok()
+    }
+
+    fn read(file: &[u8], rows: &mut [u32], words: &mut [u32]) -> Option<(usize, usize)> {
+        ffi::read(file, rows, words).ok()
+    }
+
+    fn write(rows: &[u32], words: &[u32], file: &mut [u8]) -> Option<usize> {
+        ffi::write(rows, words, file).ok()
+    }
+
+    fn map(file: &[u8], number: u16, levels: &mut [u8]) -> Option<usize> {
+        ffi::map(file, number, levels).ok()
+    }
+
+    fn list(file: &[u8], text: &mut [u8]) -> Option<usize> {
+        ffi::list(file, text).ok()
+    }
+
+    fn insert(session: &mut Session, position: usize, entry: &Entry) -> bool {
+        session.insert(position, entry).is_ok()
+    }
+
+    fn remove(session: &mut Session, position: usize) -> bool {
+        session.remove(position).is_ok()
+    }
+
+    fn time(session: &Session, first: usize, last: usize, i: usize) -> Option<(u32, u32)> {
+        on_time(session.time(first, last, i).ok()?)
+    }
+
+    fn map_session(session: &Session, levels: &mut [u8]) -> Option<usize> {
+        session.map(levels).ok()
+    }
+}
+
+/// Rust tuned by hand, with the decisions of the proved library.
+pub struct Tuned;
+
+impl Planner for Tuned {
+    fn check(file: &[u8]) -> bool {
+        tuned::check(file).is_ok()
+    }
+
+    fn read(file: &[u8], rows: &mut [u32], words: &mut [u32]) -> Option<(usize, usize)> {
+        tuned::read(file, rows, words).ok()
+    }
+
+    fn write(rows: &[u32], words: &[u32], file: &mut [u8]) -> Option<usize> {
+        tuned::write(rows, words, file).ok()
+    }
+
+    fn map(file: &[u8], number: u16, levels: &mut [u8]) -> Option<usize> {
+        tuned::map(file, number, levels).ok()
+    }
+
+    fn list(file: &[u8], text: &mut [u8]) -> Option<usize> {
+        tuned::list(file, text).ok()
+    }
+
+    fn insert(session: &mut Session, position: usize, entry: &Entry) -> bool {
+        tuned::session::insert(session, position, entry).is_ok()
+    }
+
+    fn remove(session: &mut Session, position: usize) -> bool {
+        tuned::session::remove(session, position).is_ok()
+    }
+
+    fn time(session: &Session, first: usize, last: usize, i: usize) -> Option<(u32, u32)> {
+        on_time(tuned::session::time(session, first, last, i).ok()?)
+    }
+
+    fn map_session(session: &Session, levels: &mut [u8]) -> Option<usize> {
+        tuned::session::map(session, levels).ok()
+    }
+}
+
+/// Plain Rust, which follows every round.
+pub struct Plain;
+
+impl Planner for Plain {
+    fn check(file: &[u8]) -> bool {
+        plain::check(file)
+    }
+
+    fn read(file: &[u8], rows: &mut [u32], words: &mut [u32]) -> Option<(usize, usize)> {
+        plain::read(file, rows, words)
+    }
+
+    fn write(rows: &[u32], words: &[u32], file: &mut [u8]) -> Option<usize> {
+        plain::write(rows, words, file)
+    }
+
+    fn map(file: &[u8], number: u16, levels: &mut [u8]) -> Option<usize> {
+        plain::map(file, number, levels)
+    }
+
+    fn list(file: &[u8], text: &mut [u8]) -> Option<usize> {
+        plain::list(file, text)
+    }
+
+    fn insert(session: &mut Session, position: usize, entry: &Entry) -> bool {
+        plain::session::insert(session, position, entry)
+    }
+
+    fn remove(session: &mut Session, position: usize) -> bool {
+        plain::session::remove(session, position)
+    }
+
+    fn time(session: &Session, first: usize, last: usize, i: usize) -> Option<(u32, u32)> {
+        plain::session::time(session, first, last, i)
+    }
+
+    fn map_session(session: &Session, levels: &mut [u8]) -> Option<usize> {
+        plain::session::map(session, levels)
+    }
+}
+
+fn on_time(timing: Timing) -> Option<(u32, u32)> {
+    match timing {
+        Timing::OnTime { time, rounds } => Some((time as u32, rounds as u32)),
+        Timing::Late { .. } => None,
+    }
+}

@@ -1,0 +1,39 @@
+//! Nodes and stations that are measured.
+
+use oracle::file::encode;
+use oracle::gen::entries;
+use oracle::model::{Entry, Node, Plan};
+use oracle::plain;
+use oracle::rng::Rng;
+
+/// So many entries that have a map with so many levels.
+pub fn mapped_entries(rng: &mut Rng, count: usize, levels: u8) -> Vec<Entry> {
+    loop {
+        let entries = entries::many(rng, count);
+        if plain::map(&one_node(&entries, levels), 7, &mut [0; 64]).is_some() {
+            return entries;
+        }
+    }
+}
+
+/// The file of a plan of one node, with the number 7.
+pub fn one_node(entries: &[Entry], levels: u8) -> Vec<u8> {
+    let node = Node {
+        number: 7,
+        levels,
+        entries: entries.to_vec(),
+    };
+    encode(&Plan { nodes: vec![node] }).expect("a good plan")
+}
+
+/// The file of a station of so many nodes with 16 levels each.
+pub fn station(nodes: u16, mut draw: impl FnMut() -> Vec<Entry>) -> Vec<u8> {
+    let nodes = (0..nodes)
+        .map(|number| Node {
+            number,
+            levels: 16,
+            entries: draw(),
+        })
+        .collect();
+    encode(&Plan { nodes }).expect("a good plan")
+}

@@ -1,0 +1,86 @@
+//! The listing of a plan file.
+
+use super::entry::{Bytes, Entry};
+use super::file::{Plan, Row};
+use super::map::Groups;
+use super::text::Text;
+use super::timing::{runs_of, Test};
+use crate::refusal::{Refusal, BUFFER};
+use crate::timing::Timing;
+
+/// Lists a file, or why it is refused, and gives the text's length. Where the
+/// text does not fit, the buffer is as it was.
+#[inline(never)]
+pub fn list(file: &[u8], out: &mut [u8]) -> Result<usize, Refusal> {
+    let plan = Plan::of(file);
+    if out.len() >= most_text(&plan) {
+        return put_listing(plan, out).ok_or(Refusal::plain(BUFFER));
+    }
+    let kept = out.to_vec();
+    put_listing(plan, out).ok_or_else(|| {
+        out.copy_from_slice(&kept);
+        Refusal::plain(BUFFER)
+    })
+}
+
+/// No listing of such a plan is longer.
+fn most_text(plan: &Result<Plan, Refusal>) -> usize {
+    match plan {
+        Ok(plan) => 9 + 29 * plan.node_count() + 56 * plan.entry_count(),
+        Err(_) => 64,
+    }
+}
+
+/// The text's length, if it fits.
+fn put_listing(plan: Result<Plan, Refusal>, out: &mut [u8]) -> Option<usize> {
+    let mut text = Text::new(out);
+    match plan {
+        Ok(plan) => {
+            text.put_field(b"plan ", plan.node_count() as u32)?;
+            text.put(b"\n")?;
+            for (row, entries) in plan.nodes() {
+                put_node(&mut text, row, entries)?;
+            }
+        }
+        Err(refusal) => {
+            text.put_field(b"refused ", u32::from(refusal.number))?;
+            text.put_field(b" row ", refusal.row as u32)?;
+            text.put_field(b" entry ", refusal.entry as u32)?;
+            text.put(b"\n")?;
+        }
+    }
+    Some(text.length())
+}
+
+fn put_node(text: &mut Text, row: Row, entries: &[Bytes]) -> Option<()> {
+    text.put_field(b"node ", u32::from(row.number))?;
+    let Some(groups) = Groups::of(entries, row.levels) else {
+        return text.put(b" no map\n");
+    };
+    text.put_field(b" levels ", groups.count as u32)?;
+    text.put_field(b" of ", u32::from(row.levels))?;
+    text.put(b"\n")?;
+    // Group by group: its first position, its end, and its level.
+    let ends = groups.starts().skip(1).chain([entries.len()]);
+    for ((first, end), level) in groups.starts().zip(ends).zip(1..) {
+        put_group(text, &entries[..end], first, level)?;
+    }
+    Some(())
+}
+
+/// The lines of the entries from `first` on.
+fn put_group(text: &mut Text, entries: &[Bytes], first: usize, level: u32) -> Option<()> {
+    let runs = runs_of(entries);
+    for (i, entry) in entries.iter().enumerate().skip(first) {
+        let timing = Test::new(entries, first, i, runs).completion();
+        let Timing::OnTime { time, rounds } = timing else {
+            unreachable!("no entry of a map is late");
+        };
+        text.put_field(b"entry ", entry.number())?;
+        text.put_field(b" level ", level)?;
+        text.put_field(b" time ", time as u32)?;
+        text.put_field(b" rounds ", rounds as u32)?;
+        text.put(b"\n")?;
+    }
+    Some(())
+}

@@ -1,0 +1,86 @@
+//! The map of a node.
+
+use super::entry::{Entry, MOST};
+use super::file::Plan;
+use super::timing::{runs_of, Test};
+use crate::refusal::{Refusal, BUFFER, NO_MAP, NO_NODE};
+
+/// The groups of a map.
+pub struct Groups {
+    /// Their first positions, from the least urgent group on.
+    starts: [u8; MOST],
+    /// How many there are.
+    pub count: usize,
+}
+
+impl Groups {
+    /// The groups of a node, if it has a map with so many levels.
+    pub fn of<E: Entry>(entries: &[E], levels: u8) -> Option<Groups> {
+        let mut groups = Groups {
+            starts: [0; MOST],
+            count: 0,
+        };
+        let mut rest = entries;
+        while !rest.is_empty() {
+            if groups.count >= usize::from(levels) {
+                return None;
+            }
+            let start = least_start(rest)?;
+            groups.starts[groups.count] = start as u8;
+            groups.count += 1;
+            rest = &rest[..start];
+        }
+        Some(groups)
+    }
+
+    /// The first positions, from the most urgent group on.
+    pub fn starts(&self) -> impl Iterator<Item = usize> + '_ {
+        self.starts[..self.count]
+            .iter()
+            .rev()
+            .map(|&start| usize::from(start))
+    }
+}
+
+/// The least start of a group that ends with the last entry and has none that
+/// is late.
+fn least_start<E: Entry>(entries: &[E]) -> Option<usize> {
+    let runs = runs_of(entries);
+    let late = |e: &E| u64::from(e.blocking()) + runs > u64::from(e.deadline());
+    let mut start = entries.iter().rposition(late).map_or(0, |i| i + 1);
+    'starts: while start < entries.len() {
+        for i in (start..entries.len()).rev() {
+            if !Test::new(entries, start, i, runs).is_on_time() {
+                // It is late in each group that starts later and has it.
+                start = i + 1;
+                continue 'starts;
+            }
+        }
+        return Some(start);
+    }
+    None
+}
+
+/// Maps the entries of a node, and gives the levels used.
+pub fn map_entries<E: Entry>(entries: &[E], levels: u8, out: &mut [u8]) -> Result<usize, Refusal> {
+    let out = out.get_mut(..entries.len()).ok_or(Refusal::plain(BUFFER))?;
+    let groups = Groups::of(entries, levels).ok_or(Refusal::plain(NO_MAP))?;
+    let mut end = entries.len();
+    for (rank, &start) in groups.starts[..groups.count].iter().enumerate() {
+        let start = usize::from(start);
+        out[start..end].fill((groups.count - rank) as u8);
+        end = start;
+    }
+    Ok(groups.count)
+}
+
+/// Maps the node with a number of a file, and gives the levels used.
+#[inline(never)]
+pub fn map(file: &[u8], number: u16, levels: &mut [u8]) -> Result<usize, Refusal> {
+    let plan = Plan::of(file)?;
+    let (row, entries) = plan
+        .nodes()
+        .find(|(row, _)| row.number == number)
+        .ok_or(Refusal::plain(NO_NODE))?;
+    map_entries(entries, row.levels, levels)
+}

@@ -1,0 +1,138 @@
+//! The completion time test of an entry, and whether it is on time without
+//! its rounds where less decides.
+
+use super::entry::Entry;
+use crate::timing::Timing;
+
+/// A load of 1; loads are in units of 2^-34.
+const ONE: u64 = 1 << 34;
+
+/// The runs of these entries, added up.
+pub fn runs_of(entries: &[impl Entry]) -> u64 {
+    entries.iter().map(|entry| u64::from(entry.wcet())).sum()
+}
+
+/// What an entry runs in `t` ticks after its first run. The first period
+/// needs no division.
+fn further(entry: &impl Entry, t: u32) -> u64 {
+    let period = entry.period();
+    if t <= period {
+        return 0;
+    }
+    u64::from(entry.wcet()) * u64::from((t - 1) / period)
+}
+
+/// The same beside an entry with so many calls. Past as many periods the
+/// count is at its limit, and no division is needed.
+fn further_beside(entry: &impl Entry, calls: u32, t: u32) -> u64 {
+    if u64::from(entry.period()) * u64::from(calls) < u64::from(t) {
+        return u64::from(entry.wcet()) * u64::from(calls);
+    }
+    further(entry, t)
+}
+
+/// An entry in its group, with what its demand counts.
+pub struct Test<'a, E> {
+    own: &'a E,
+    /// Where the test starts: its blocking, and one run of each entry.
+    start: u64,
+    /// Those on more urgent levels.
+    urgent: &'a [E],
+    /// The others on its level.
+    before: &'a [E],
+    behind: &'a [E],
+}
+
+impl<'a, E: Entry> Test<'a, E> {
+    /// The entry at `i`, in the group from `first` to the last of these
+    /// entries, whose runs add up to `runs`.
+    pub fn new(entries: &'a [E], first: usize, i: usize, runs: u64) -> Test<'a, E> {
+        let (earlier, later) = entries.split_at(i);
+        let (urgent, before) = earlier.split_at(first);
+        let (own, behind) = later.split_first().expect("the entry is in the list");
+        Test {
+            own,
+            start: u64::from(own.blocking()) + runs,
+            urgent,
+            before,
+            behind,
+        }
+    }
+
+    /// The test, with its rounds.
+    pub fn completion(&self) -> Timing {
+        let deadline = u64::from(self.own.deadline());
+        let mut t = self.start;
+        let mut rounds = 0;
+        while t <= deadline {
+            let next = self.demand(t as u32);
+            rounds += 1;
+            if next == t {
+                return Timing::OnTime { time: t, rounds };
+            }
+            t = next;
+        }
+        Timing::Late { rounds }
+    }
+
+    /// Whether the entry ends by its deadline: by the start, by the demand at
+    /// the deadline, or else by rounds from as late as the load allows.
+    pub fn is_on_time(&self) -> bool {
+        let deadline = self.own.deadline();
+        if self.start > u64::from(deadline) {
+            return false;
+        }
+        self.demand(deadline) <= u64::from(deadline) || self.is_met_from(self.earliest())
+    }
+
+    /// What has to run by `t`: all that runs once, which the start counts, and
+    /// what runs again. On its own level nothing does without remote calls.
+    fn demand(&self, t: u32) -> u64 {
+        let calls = self.own.calls();
+        let mut sum = self.start;
+        for entry in self.urgent {
+            sum += further(entry, t);
+        }
+        if calls > 0 {
+            for entry in self.before {
+                sum += further_beside(entry, calls, t);
+            }
+            for entry in self.behind {
+                sum += further_beside(entry, calls, t);
+            }
+        }
+        sum
+    }
+
+    /// A time before which the demand is not met: the start, or later by the
+    /// load of the more urgent entries whose periods are below the deadline.
+    fn earliest(&self) -> u64 {
+        let deadline = self.own.deadline();
+        let (mut load, mut runs) = (0, 0);
+        for entry in self.urgent {
+            if entry.period() < deadline {
+                load += ONE * u64::from(entry.wcet()) / u64::from(entry.period());
+                runs += u64::from(entry.wcet());
+            }
+        }
+        if load >= ONE {
+            return u64::from(deadline) + 1;
+        }
+        let by_load = (ONE * (self.start - runs)).div_ceil(ONE - load);
+        by_load.max(self.start)
+    }
+
+    /// Whether the demand is met by the deadline, by rounds from a time before
+    /// which it is not.
+    fn is_met_from(&self, mut t: u64) -> bool {
+        let deadline = u64::from(self.own.deadline());
+        while t <= deadline {
+            let next = self.demand(t as u32);
+            if next <= t {
+                return true;
+            }
+            t = next;
+        }
+        false
+    }
+}

@@ -1,0 +1,237 @@
+//! The tuned Rust of the benchmarks against the second implementation: a rival
+//! that answers wrongly is worth nothing. Answers, refusals with their places,
+//! and what is left in every lent buffer.
+
+use oracle::file::{self, encode};
+use oracle::gen::budget;
+use oracle::gen::buffers::known;
+use oracle::gen::damage::{damage, truncations, AIMS};
+use oracle::gen::listings::long_listing;
+use oracle::gen::ops::row;
+use oracle::gen::plans;
+use oracle::lent;
+use oracle::listing;
+use oracle::map::map_node;
+use oracle::model::{Entry, Plan, Row};
+use oracle::options::{rng, times};
+use oracle::refusal::{Refusal, BUFFER};
+use oracle::rng::Rng;
+use oracle::session::{Op, Reply};
+use oracle::tally::Tally;
+use oracle::tuned::{self, session::Session};
+use oracle::words::{self, entry_words, ENTRY_WORDS};
+
+/// Room for a result of `needed`: none, one too short, exact, and too long.
+fn rooms(needed: usize) -> [usize; 4] {
+    [0, needed.saturating_sub(1), needed, needed + 9]
+}
+
+/// Every call that takes a file. A node whose tests would take the second
+/// implementation long is not mapped, nor its plan listed.
+fn compare_file(tally: &mut Tally, bytes: &[u8]) {
+    assert_eq!(tuned::check(bytes), tally.note(file::check(bytes)));
+    let plan = file::decode(bytes).unwrap_or_default();
+    let (rows, entries) = (plan.rows(), plan.entries());
+    for row_room in rooms(rows.len()) {
+        for word_room in rooms(entries.len() * ENTRY_WORDS) {
+            compare_read(bytes, row_room, word_room);
+        }
+    }
+    let numbers = plan.nodes.iter().map(|node| node.number);
+    for number in numbers.chain([7]) {
+        let node = plan.nodes.iter().find(|node| node.number == number);
+        if node.is_none_or(|node| budget::fits(&node.entries)) {
+            let count = node.map_or(3, |node| node.entries.len());
+            let room = rooms(count)[usize::from(number % 4)];
+            compare_map(tally, bytes, number, room);
+            compare_map(tally, bytes, number, 64);
+        }
+    }
+    if budget::plan_fits(&plan) {
+        compare_list(bytes);
+    }
+}
+
+fn compare_read(bytes: &[u8], row_room: usize, word_room: usize) {
+    let mut due_rows = vec![Row::default(); row_room];
+    let mut due_entries = vec![Entry::default(); word_room / ENTRY_WORDS];
+    let due = file::read(bytes, &mut due_rows, &mut due_entries);
+    let (mut rows, mut entries) = (words::known(row_room), words::known(word_room));
+    assert_eq!(tuned::read(bytes, &mut rows, &mut entries), due);
+    let (row_count, entry_count) = due.unwrap_or((0, 0));
+    let due_rows = words::of_rows(&due_rows[..row_count]);
+    assert_eq!(rows, begun(due_rows, words::known(row_room)));
+    let due_entries = words::of_entries(&due_entries[..entry_count]);
+    assert_eq!(entries, begun(due_entries, words::known(word_room)));
+}
+
+fn compare_map(tally: &mut Tally, bytes: &[u8], number: u16, room: usize) {
+    let (mut buffer, mut due_buffer) = (known(room), known(room));
+    let due = tally.note(map_node(bytes, u64::from(number), &mut due_buffer));
+    tally.map(due.unwrap_or(0));
+    let answer = tuned::map(bytes, number, &mut buffer);
+    assert_eq!(answer, due.map(usize::from), "node {number}: {bytes:?}");
+    assert_eq!(buffer, due_buffer, "node {number}: {bytes:?}");
+}
+
+fn compare_list(bytes: &[u8]) {
+    let text = listing::list(bytes).into_bytes();
+    for room in rooms(text.len()).into_iter().chain([115_625]) {
+        let mut buffer = known(room);
+        let answer = tuned::list(bytes, &mut buffer);
+        if text.len() <= room {
+            assert_eq!(answer, Ok(text.len()), "{bytes:?}");
+            assert_eq!(buffer, begun(text.clone(), known(room)), "{bytes:?}");
+        } else {
+            assert_eq!(answer, Err(Refusal::plain(BUFFER)), "{bytes:?}");
+            assert_eq!(buffer, known(room), "{bytes:?}");
+        }
+    }
+}
+
+fn compare_write(rows: &[Row], entries: &[Entry], room: usize) {
+    let (mut buffer, mut due_buffer) = (known(room), known(room));
+    let due = file::write(rows, entries, &mut due_buffer);
+    let (row_words, words) = (words::of_rows(rows), words::of_entries(entries));
+    let answer = tuned::write(&row_words, &words, &mut buffer);
+    assert_eq!(answer, due, "{rows:?} {entries:?}");
+    assert_eq!(buffer, due_buffer, "{rows:?} {entries:?}");
+}
+
+/// What is written from the start, and what was there beyond.
+fn begun<T: Clone>(written: Vec<T>, before: Vec<T>) -> Vec<T> {
+    let beyond = before[written.len()..].to_vec();
+    [written, beyond].concat()
+}
+
+#[test]
+fn plans_of_every_kind() {
+    let (mut rng, mut tally) = (rng(340), Tally::default());
+    let draws: [(fn(&mut Rng) -> Plan, u64); 9] = [
+        (plans::small, 600),
+        (plans::wide, 200),
+        (plans::tight, 300),
+        (plans::station, 20),
+        (plans::full_node, 30),
+        (plans::many_entries, 30),
+        (plans::at_limits, 300),
+        (plans::long_periods, 50),
+        (plans::near_one, 300),
+    ];
+    for (draw, count) in draws {
+        for _ in 0..times(count) {
+            let plan = draw(&mut rng);
+            let file = encode(&plan).expect("generators give good plans");
+            compare_file(&mut tally, &file);
+            for room in rooms(file.len()) {
+                compare_write(&plan.rows(), &plan.entries(), room);
+            }
+        }
+    }
+    tally.assert_maps(times(1_500), times(1_000));
+}
+
+#[test]
+fn refused_files() {
+    let (mut rng, mut tally) = (rng(341), Tally::default());
+    for _ in 0..times(300) {
+        let plan = plans::filled(&mut rng);
+        for aim in AIMS {
+            let second = rng.pick(&AIMS);
+            compare_file(&mut tally, &damage(&mut rng, &plan, &[aim]).file);
+            compare_file(&mut tally, &damage(&mut rng, &plan, &[aim, second]).file);
+        }
+    }
+    for number in 1..=8 {
+        assert!(tally.met(number) > times(100), "{number}: {tally}");
+    }
+    let file = encode(&plans::small(&mut rng)).expect("a good plan");
+    for cut in truncations(&file) {
+        compare_file(&mut tally, cut);
+    }
+    compare_file(&mut tally, &[0; 70_000]);
+}
+
+#[test]
+fn refused_plans() {
+    let mut rng = rng(342);
+    for _ in 0..times(500) {
+        let plan = plans::filled(&mut rng);
+        let (mut rows, mut entries) = (plan.rows(), plan.entries());
+        let (row, entry) = (rng.index(rows.len()), rng.index(entries.len()));
+        match rng.below(8) {
+            0 => rows.clear(),
+            1 => rows.resize(33, rows[0]),
+            2 => rows[row].levels = rng.pick(&[0, 65, 255]),
+            3 => rows[row].entries = rng.pick(&[0, 1, 64, 65, 255]),
+            4 => rows[row].number = rng.pick(&[0, 7, u16::MAX]),
+            5 => entries.truncate(entry),
+            6 => entries[entry].kind = rng.pick(&[0, 2, 3, 255]),
+            _ => entries[entry].c = rng.pick(&[0, entries[entry].d + 1]),
+        }
+        if rng.chance(1, 2) {
+            let entry = rng.index(entries.len().max(1));
+            if let Some(entry) = entries.get_mut(entry) {
+                entry.b = rng.pick(&[1_000_000_000, 1_000_000_001]);
+            }
+        }
+        compare_write(&rows, &entries, 1_000);
+    }
+}
+
+#[test]
+fn long_texts() {
+    for nodes in [1, 32] {
+        compare_list(&encode(&long_listing(nodes)).expect("a good plan"));
+    }
+}
+
+#[test]
+fn sessions() {
+    let (mut rng, mut tally) = (rng(343), Tally::default());
+    for _ in 0..times(400) {
+        let row = row(&mut rng, &mut tally);
+        let (mut session, mut due) = (Session::of(&row.start), row.start);
+        for op in row.ops.iter().map(callable) {
+            let room = rng.pick(&[3, 64, 64]);
+            let (mut buffer, mut due_buffer) = (known(room), known(room));
+            let before = session.memory();
+            let answer = tally.note(apply(&mut session, &op, &mut buffer));
+            let lent = || format!("{op:?} on {before:?}");
+            assert_eq!(
+                answer,
+                lent::apply(&mut due, &op, &mut due_buffer),
+                "{}",
+                lent()
+            );
+            assert_eq!(session.memory(), due, "{}", lent());
+            assert_eq!(buffer, due_buffer, "{}", lent());
+        }
+    }
+    for number in [4, 7, 8, 10, 11, 12, 13] {
+        assert!(tally.met(number) > times(10), "{number}: {tally}");
+    }
+}
+
+/// A level count is a byte.
+fn callable(op: &Op) -> Op {
+    match *op {
+        Op::Open(levels) => Op::Open(levels.min(255)),
+        Op::SetLevels(levels) => Op::SetLevels(levels.min(255)),
+        other => other,
+    }
+}
+
+fn apply(session: &mut Session, op: &Op, buffer: &mut [u8]) -> Result<Reply, Refusal> {
+    use tuned::session::{insert, map, open, remove, replace, set_levels, time};
+    match *op {
+        Op::Open(levels) => open(session, levels as u8)?,
+        Op::SetLevels(levels) => set_levels(session, levels as u8)?,
+        Op::Insert(position, entry) => insert(session, position, &entry_words(&entry))?,
+        Op::Remove(position) => remove(session, position)?,
+        Op::Replace(position, entry) => replace(session, position, &entry_words(&entry))?,
+        Op::Time(first, last, i) => return time(session, first, last, i).map(Reply::Timed),
+        Op::Map => return map(session, buffer).map(|used| Reply::Mapped(used as u8)),
+    }
+    Ok(Reply::Changed)
+}
