@@ -1,9 +1,9 @@
-use mathlib.Core.Path.{_∙_, sym, ap}
-use Rattle.task_model.specs.Refusals.{outcome}
-use Rattle.session.proofs.Checking.{follows-refused, follows-accepted, levels-ready}
 use borrow.Author.Needs.{needs}
 use Rattle.session.proofs.with_levels.Statement.{statement}
 use Rattle.session.proofs.with_levels.Tie as tie
+
+cast-count : tie.Need-cast-count
+cast-count c = search needs
 
 check-set-levels-requires : tie.Need-check-set-levels-requires
 check-set-levels-requires c κs = search needs
@@ -15,25 +15,26 @@ enum-told-2 : tie.Need-enum-told-2
 enum-told-2 c = search needs
 
 returns : tie.Need-returns
-returns c = follows-refused _ _ _ _ (c .before .before .check-set-levels .ensures) (ap outcome (c .enum-told2 .given .1))
+returns c = search needs
 
-set-count-of-levels-requires : tie.Need-set-count-of-levels-requires
-set-count-of-levels-requires c κs =
-    let a = c .before .before .before .args in
-    levels-ready (a .s) (a .levels) (sym (c .before .before .check-set-levels .ensures) ∙ ap outcome (c .enum-told .given .1))
+slice-aggregate-keep-list : tie.Need-slice-aggregate-keep-list
+slice-aggregate-keep-list c = search needs
+
+keep-list-requires : tie.Need-keep-list-requires
+keep-list-requires c κs = search needs
 
 returns-2 : tie.Need-returns-2
-returns-2 c =
-    let d = c .before in
-    follows-accepted _ _ _ _ (d .before .before .check-set-levels .ensures) (ap outcome (d .enum-told .given .1)) (c .set-count-of-levels .ensures)
+returns-2 c = search needs
 
 pub with-levels-spec : {M : Type 1} → statement M
 with-levels-spec =
     tie.close
     (tie.spec
+    cast-count
     check-set-levels-requires
     enum-told
     enum-told-2
     returns
-    set-count-of-levels-requires
+    slice-aggregate-keep-list
+    keep-list-requires
     returns-2)
