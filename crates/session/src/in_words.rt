@@ -36,12 +36,12 @@ pub fn set_levels(words: &mut [u32], levels: u8) -> Checked
     requires { ⌜ length (now words) ≡ sessionSize ⌝ }
     ensures { λ a. ⌜ FollowsIn (changing (settingLevels levels)) (now (words .entry)) a (now (words .exit)) ⌝ }
 {
-    let count = words[1] as usize;
-    let answer = check_set_levels(words[0], count, &words[2..], levels);
+    let count = words[1];
+    let answer = check_set_levels(words[0], count as usize, &words[2..], levels);
     let Checked::Accepted = answer else {
         return answer;
     };
-    keep_list(&mut words[2..], count);
+    keep_list(&mut words[2..], count as usize);
     words[0] = levels as u32;
     answer
 }
@@ -51,13 +51,13 @@ pub fn insert(words: &mut [u32], position: usize, e: Entry) -> Checked
     requires { ⌜ length (now words) ≡ sessionSize ⌝ }
     ensures { λ a. ⌜ FollowsIn (changing (inserting position e)) (now (words .entry)) a (now (words .exit)) ⌝ }
 {
-    let count = words[1] as usize;
-    let answer = check_insert(words[0], count, &words[2..], position, e);
+    let count = words[1];
+    let answer = check_insert(words[0], count as usize, &words[2..], position, e);
     let Checked::Accepted = answer else {
         return answer;
     };
-    insert_at(&mut words[2..], count, position, e);
-    words[1] += 1;
+    insert_at(&mut words[2..], count as usize, position, e);
+    words[1] = count + 1;
     answer
 }
 
@@ -66,13 +66,13 @@ pub fn remove(words: &mut [u32], position: usize) -> Checked
     requires { ⌜ length (now words) ≡ sessionSize ⌝ }
     ensures { λ a. ⌜ FollowsIn (changing (removing position)) (now (words .entry)) a (now (words .exit)) ⌝ }
 {
-    let count = words[1] as usize;
-    let answer = check_remove(words[0], count, &words[2..], position);
+    let count = words[1];
+    let answer = check_remove(words[0], count as usize, &words[2..], position);
     let Checked::Accepted = answer else {
         return answer;
     };
-    remove_at(&mut words[2..], count, position);
-    words[1] -= 1;
+    remove_at(&mut words[2..], count as usize, position);
+    words[1] = count - 1;
     answer
 }
 
@@ -81,11 +81,11 @@ pub fn replace(words: &mut [u32], position: usize, e: Entry) -> Checked
     requires { ⌜ length (now words) ≡ sessionSize ⌝ }
     ensures { λ a. ⌜ FollowsIn (changing (replacing position e)) (now (words .entry)) a (now (words .exit)) ⌝ }
 {
-    let count = words[1] as usize;
-    let answer = check_replace(words[0], count, &words[2..], position, e);
+    let count = words[1];
+    let answer = check_replace(words[0], count as usize, &words[2..], position, e);
     let Checked::Accepted = answer else {
         return answer;
     };
-    replace_at(&mut words[2..], count, position, e);
+    replace_at(&mut words[2..], count as usize, position, e);
     answer
 }
