@@ -3,11 +3,10 @@ use super::give;
 use super::refuse;
 use completion::Timing;
 use level_map::MappedNode;
-use session::Changed;
 use session::SessionWords;
 use session::TimeAnswer;
 use session::from_words;
-use session::to_words;
+use session::in_words;
 use task_model::Checked;
 use task_model::EntryWords;
 ghost use mathlib.Core.Path.{_≡_};
@@ -22,22 +21,16 @@ ghost use Rattle.session.specs.State.{nodeIn};
 ghost use Rattle.session.specs.Operations.{changing, opening, inserting, removing, replacing, settingLevels};
 ghost use Rattle.session.specs.Timing.{timeAnswer};
 ghost use Rattle.session.specs.Mapping.{mapAnswer};
-ghost use Rattle.session.specs.InWords.{sessionIn, wordsLeft};
+ghost use Rattle.session.specs.InWords.{sessionIn};
 ghost use Rattle.planner_c.specs.Returned.{returned, checked, sized, givenTime, timed};
 ghost use Rattle.planner_c.specs.Changes.{Changes};
 
-// Ends a change: an accepted one stores its session, a refused one leaves the words alone.
-fn keep(c: Changed, words: &mut SessionWords, values: &mut [usize; 2]) -> u32
-    ensures { λ a. ⌜ returned a (now (values .exit)) ≡ checked (outcome (c .answer)) ⌝ }
-    ensures { λ a. ⌜ now (words .exit) ≡ wordsLeft (outcome (c .answer)) (c .session) (now (words .entry)) ⌝ }
+// Returns what a change answered; it gives nothing.
+fn give_answer(answer: Checked, values: &mut [usize; 2]) -> u32
+    ensures { λ a. ⌜ returned a (now (values .exit)) ≡ checked (outcome answer) ⌝ }
 {
-    let answer = c.answer;
-    let made = c.session;
     match answer {
-        Checked::Accepted => {
-            *words = to_words(made);
-            give(0, 0, values)
-        }
+        Checked::Accepted => give(0, 0, values),
         Checked::Refused(r) => refuse(r, values),
     }
 }
@@ -52,9 +45,8 @@ pub extern "C" fn maiplur_session_open(
     ensures { λ a.
         ⌜ Changes (opening levels) (now (words .entry)) (returned a (now (values .exit))) (now (words .exit)) ⌝ }
 {
-    let s = from_words(*words);
-    let c = session::opened(s, levels);
-    keep(c, words, values)
+    let answer = in_words::open(words, levels);
+    give_answer(answer, values)
 }
 
 // Sets the level count.
@@ -67,9 +59,8 @@ pub extern "C" fn maiplur_session_set_levels(
     ensures { λ a.
         ⌜ Changes (changing (settingLevels levels)) (now (words .entry)) (returned a (now (values .exit))) (now (words .exit)) ⌝ }
 {
-    let s = from_words(*words);
-    let c = session::with_levels(s, levels);
-    keep(c, words, values)
+    let answer = in_words::set_levels(words, levels);
+    give_answer(answer, values)
 }
 
 // Inserts an entry before a position; just after the last entry it appends.
@@ -84,10 +75,9 @@ pub extern "C" fn maiplur_session_insert(
         ⌜ Changes (changing (inserting position (entryFrom (now (entry .entry)) 0))) (now (words .entry))
         (returned a (now (values .exit))) (now (words .exit)) ⌝ }
 {
-    let s = from_words(*words);
     let e = task_model::entry_of(entry, 0);
-    let c = session::inserted(s, position, e);
-    keep(c, words, values)
+    let answer = in_words::insert(words, position, e);
+    give_answer(answer, values)
 }
 
 // Removes the entry at a position.
@@ -100,9 +90,8 @@ pub extern "C" fn maiplur_session_remove(
     ensures { λ a.
         ⌜ Changes (changing (removing position)) (now (words .entry)) (returned a (now (values .exit))) (now (words .exit)) ⌝ }
 {
-    let s = from_words(*words);
-    let c = session::removed(s, position);
-    keep(c, words, values)
+    let answer = in_words::remove(words, position);
+    give_answer(answer, values)
 }
 
 // Replaces the entry at a position.
@@ -117,10 +106,9 @@ pub extern "C" fn maiplur_session_replace(
         ⌜ Changes (changing (replacing position (entryFrom (now (entry .entry)) 0))) (now (words .entry))
         (returned a (now (values .exit))) (now (words .exit)) ⌝ }
 {
-    let s = from_words(*words);
     let e = task_model::entry_of(entry, 0);
-    let c = session::replaced(s, position, e);
-    keep(c, words, values)
+    let answer = in_words::replace(words, position, e);
+    give_answer(answer, values)
 }
 
 // Gives a completion time, or 0 where the entry is late, and the rounds.

@@ -2,6 +2,7 @@
 use Prim.Native.Nat.{ℕ, _≤_, _<_}
 use mathlib.Core.Path.{_≡_, _∙_, sym}
 use mathlib.Core.Bool.{true, _&&_}
+use mathlib.Core.List.{List}
 use native.Mathlib.Omega.{arith}
 use lib.ListN.{length}
 use lib.Dec.{leb, ltb}
@@ -11,6 +12,7 @@ use Rattle.task_model.specs.declared.Checked.{Checked}
 use Rattle.task_model.specs.Refusals.{Numbered, at, accepted, refused, outcome, _andThen_}
 use Rattle.task_model.specs.Limits.{mostLevels, mostEntries, Node, AllHold}
 use Rattle.task_model.specs.Checks.{entryCheck, nodeCheck}
+use Rattle.task_model.specs.Words.{nodeOf}
 use Rattle.task_model.proofs.Laws.{and-true, decided, length-entries}
 use Rattle.task_model.proofs.Theorems.{node-accepted}
 use Rattle.completion.specs.Group.{groupLevel}
@@ -164,39 +166,42 @@ module _ (n : Node) (first last i : ℕ) where
   time-given p = rw p
 
 -- what an accepted operation may go by
-module _ (s : Session) where
-  sized : length (nodeIn s .entries) ≡ s .count
-  sized = length-entries (s .words) 0 (s .count)
+module _ (ws : List ℕ) (count levels : ℕ) where
+  abbrev n : Node
+  n = nodeOf ws count levels
 
-  few : nodeCheck 0 (nodeIn s) ≡ accepted → s .count ≤ mostEntries
-  few p = omega (arith, node-accepted 0 (nodeIn s) .0 p .fewEntries, sized)
+  sized : length (n .entries) ≡ count
+  sized = length-entries ws 0 count
+
+  few : nodeCheck 0 n ≡ accepted → count ≤ mostEntries
+  few p = omega (arith, node-accepted 0 n .0 p .fewEntries, sized)
 
   module _ (p : ℕ) where
-    pub insert-ready : (e : Entry) → stepCheck (changing (inserting p e)) (nodeIn s) ≡ accepted → (p ≤ s .count) × (s .count < mostEntries)
+    pub insert-ready : (e : Entry) → stepCheck (changing (inserting p e)) n ≡ accepted → (p ≤ count) × (count < mostEntries)
     insert-ready e a =
-        let q = insert-accepted (nodeIn s) p e (step-accepted (changing (inserting p e)) (nodeIn s) a .1) in
+        let q = insert-accepted n p e (step-accepted (changing (inserting p e)) n a .1) in
         (omega (arith, sized), omega (arith, sized))
 
-    pub remove-ready : stepCheck (changing (removing p)) (nodeIn s) ≡ accepted → (p < s .count) × (s .count ≤ mostEntries)
+    pub remove-ready : stepCheck (changing (removing p)) n ≡ accepted → (p < count) × (count ≤ mostEntries)
     unfolding lentCheck
     remove-ready a =
-        let q = step-accepted (changing (removing p)) (nodeIn s) a in
-        (omega (arith, sized, remove-accepted (nodeIn s) p (q .1)), few (q .0))
+        let q = step-accepted (changing (removing p)) n a in
+        (omega (arith, sized, remove-accepted n p (q .1)), few (q .0))
 
-    pub replace-ready : (e : Entry) → stepCheck (changing (replacing p e)) (nodeIn s) ≡ accepted → (p < s .count) × (s .count ≤ mostEntries)
+    pub replace-ready : (e : Entry) → stepCheck (changing (replacing p e)) n ≡ accepted → (p < count) × (count ≤ mostEntries)
     unfolding lentCheck
     replace-ready e a =
-        let q = step-accepted (changing (replacing p e)) (nodeIn s) a in
-        (omega (arith, sized, replace-accepted (nodeIn s) p e (q .1) .0), few (q .0))
+        let q = step-accepted (changing (replacing p e)) n a in
+        (omega (arith, sized, replace-accepted n p e (q .1) .0), few (q .0))
 
-  pub levels-ready : (levels : ℕ) → stepCheck (changing (settingLevels levels)) (nodeIn s) ≡ accepted → s .count ≤ mostEntries
+  pub levels-ready : (l : ℕ) → stepCheck (changing (settingLevels l)) n ≡ accepted → count ≤ mostEntries
   unfolding lentCheck
-  levels-ready levels a = few (step-accepted (changing (settingLevels levels)) (nodeIn s) a .0)
+  levels-ready l a = few (step-accepted (changing (settingLevels l)) n a .0)
 
-  pub time-ready : (first last i : ℕ) → stepCheck (asking (timing first last i)) (nodeIn s) ≡ accepted
-      → AllHold (nodeIn s .entries) × ((first ≤ i) × (i ≤ last) × (last < s .count) × (s .count ≤ mostEntries))
+  pub time-ready : (first last i : ℕ) → stepCheck (asking (timing first last i)) n ≡ accepted
+      → AllHold (n .entries) × ((first ≤ i) × (i ≤ last) × (last < count) × (count ≤ mostEntries))
   unfolding lentCheck
   time-ready first last i a =
-      let q = step-accepted (asking (timing first last i)) (nodeIn s) a in
-      let t = time-accepted (nodeIn s) first last i (q .1) in
-      (node-accepted 0 (nodeIn s) .0 (q .0) .each, (t .0, t .1, omega (arith, sized), few (q .0)))
+      let q = step-accepted (asking (timing first last i)) n a in
+      let t = time-accepted n first last i (q .1) in
+      (node-accepted 0 n .0 (q .0) .each, (t .0, t .1, omega (arith, sized), few (q .0)))

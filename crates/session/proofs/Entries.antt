@@ -1,11 +1,27 @@
--- What holds of each entry of a list, and of the lists made of it.
-use Prim.Native.Nat.{ℕ, zero, suc, _<_}
+-- The lists that the changes make of a list: how long they are, and what holds of each of their entries.
+use Prim.Native.Nat.{ℕ, zero, suc, _+_, _-_, _≤_, _<_}
+use mathlib.Core.Path.{_≡_, _∙_}
 use mathlib.Core.List.{List, [], _∷_, _++_}
 use native.Mathlib.Omega.{arith}
-use lib.ListN.{length, take, drop}
+use lib.ListN.{length, take, drop, length-append, length-drop}
+use lib.Seq.{length-take-le}
 use Rattle.task_model.specs.declared.Entry.{Entry}
 use Rattle.task_model.specs.Limits.{entryAt}
 use Rattle.session.specs.Operations.{insertAt, removeAt, replaceAt}
+
+-- the sizes of changed lists
+module _ (es : List Entry) (e : Entry) (p : ℕ) where
+  pub size-inserted : p ≤ length es → length (insertAt p e es) ≡ length es + 1
+  size-inserted h =
+      length-append (take p es) (e ∷ drop p es) ∙ omega (arith, length-take-le p es h, length-drop p es)
+
+  pub size-replaced : p < length es → length (replaceAt p e es) ≡ length es
+  size-replaced h =
+      length-append (take p es) (e ∷ drop (suc p) es) ∙ omega (arith, length-take-le p es (omega arith), length-drop (suc p) es)
+
+pub size-removed : (es : List Entry) (p : ℕ) → p < length es → length (removeAt p es) ≡ length es - 1
+size-removed es p h =
+    length-append (take p es) (drop (suc p) es) ∙ omega (arith, length-take-le p es (omega arith), length-drop (suc p) es)
 
 module _ (P : Entry → Type 0) where
   abbrev pub Each : List Entry → Type 0

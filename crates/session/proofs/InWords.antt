@@ -1,19 +1,23 @@
 -- Laws of a session that is lent as words.
-use Prim.Native.Nat.{ℕ}
+use Prim.Native.Nat.{ℕ, _+_, _-_}
 use mathlib.Core.Path.{_≡_, _∙_, refl, sym, ap}
 use mathlib.Core.Logic.{⊎-elim}
-use mathlib.Core.List.{List, [], _∷_}
+use mathlib.Core.List.{List, [], _∷_, _++_, append-nil}
 use native.Mathlib.Omega.{arith}
-use lib.ListN.{length}
+use lib.ListN.{length, take, drop, getD, set, drop-of-length-le, length-drop}
+use lib.Seq.{take-all}
+use borrow.Rule.Slice.PartMut.{putMid}
 use Rattle.task_model.specs.declared.Checked.{Checked}
 use Rattle.task_model.specs.Refusals.{Numbered, accepted, refused, outcome}
+use Rattle.task_model.specs.Limits.{Node}
+use Rattle.task_model.specs.Words.{nodeSize, wordsOf, nodeOf}
 use Rattle.task_model.proofs.Theorems.{either}
 use Rattle.session.specs.declared.Session.{Session}
-use Rattle.session.specs.State.{nodeIn}
-use Rattle.session.specs.Operations.{Operation, stepCheck}
-use Rattle.session.specs.Steps.{sessionAfter, sessionAfterAll, Follows}
-use Rattle.session.specs.InWords.{sessionSize, sessionIn, wordsIn, wordsLeft, wordsAfter, wordsAfterAll}
-use Rattle.session.proofs.Checking.{after-refused}
+use Rattle.session.specs.State.{nodeIn, zeros, filled, sessionOf}
+use Rattle.session.specs.Operations.{Change, Operation, changing, emptyNode, changed, stepCheck}
+use Rattle.session.specs.Steps.{sessionMade, sessionAfter, sessionAfterAll}
+use Rattle.session.specs.InWords.{sessionSize, sessionIn, wordsIn, wordsLeft, wordsAfter, wordsAfterAll, FollowsIn}
+use Rattle.session.proofs.Checking.{after-refused, after-accepted}
 
 pub words-back : (w : List ℕ) → length w ≡ sessionSize → wordsIn (sessionIn w) ≡ w
 words-back [] h = absurd (omega arith)
@@ -36,14 +40,70 @@ module _ (o : Operation) (w : List ℕ) where
       (λ p. ap sessionIn (words-refused (p .0) (p .1)) ∙ sym (after-refused o (sessionIn w) (p .0) (p .1)))
       (either (stepCheck o (nodeIn (sessionIn w))))
 
-  -- what a function by value leaves of a session that was read from the words
-  module _ (s : Session) (read : s ≡ sessionIn w) (a : Checked) (t : Session) (h : Follows o s a t) where
-    pub words-outcome : outcome a ≡ stepCheck o (nodeIn (sessionIn w))
-    words-outcome = h .answer ∙ ap (λ x. stepCheck o (nodeIn x)) read
+  -- what a change in place leaves
+  module _ (a : Checked) (p : outcome a ≡ stepCheck o (nodeIn (sessionIn w))) where
+    pub in-refused : (r : Numbered) → outcome a ≡ refused r → FollowsIn o w a w
+    in-refused r q = record { answer = p; words = sym (words-refused r (sym p ∙ q)) }
 
-    pub words-made : wordsLeft (outcome a) t w ≡ wordsAfter o w
-    unfolding wordsAfter
-    words-made = rw (words-outcome, h .session, read)
+    pub in-accepted : outcome a ≡ accepted → (t : Session) → t ≡ sessionMade o (sessionIn w) → (after : List ℕ) → after ≡ wordsIn t
+        → FollowsIn o w a after
+    in-accepted q t made after e =
+        let s = sym p ∙ q in
+        record { answer = p; words = e ∙ ap wordsIn (made ∙ sym (after-accepted o (sessionIn w) s)) ∙ sym (words-accepted s) }
+
+-- opening clears every word but the first
+pub opened-words : (w : List ℕ) (levels : ℕ) → length w ≡ sessionSize → (cleared : List ℕ) → cleared ≡ take 1 w ++ zeros (length w - 1)
+    → set cleared 0 levels ≡ wordsIn (sessionOf (emptyNode levels))
+unfolding sessionOf filled wordsOf
+opened-words [] levels h cleared p = absurd (omega arith)
+opened-words (x ∷ xs) levels h cleared p =
+    let e : length (x ∷ xs) - 1 ≡ 1 + nodeSize = omega arith in
+    ap (λ l. set l 0 levels) p ∙ ap (λ n. levels ∷ zeros n) e
+
+back : (w ws : List ℕ) → length w ≡ sessionSize → putMid 2 (length w - 2) w ws ≡ getD w 0 0 ∷ getD w 1 0 ∷ ws
+back [] ws h = absurd (omega arith)
+back (levels ∷ []) ws h = absurd (omega arith)
+back (levels ∷ count ∷ rest) ws h =
+    rw (drop-of-length-le rest {i = length (levels ∷ count ∷ rest) - 2} (omega arith), append-nil ws)
+
+-- the words from the third on, as they are lent, and the node in them
+abbrev pub part : List ℕ → List ℕ
+part w = take (length w - 2) (drop 2 w)
+
+abbrev partNode : List ℕ → Node
+partNode w = nodeOf (part w) (getD w 1 0) (getD w 0 0)
+
+module _ (w : List ℕ) (size : length w ≡ sessionSize) where
+  part-all : part w ≡ drop 2 w
+  part-all = take-all (length w - 2) (drop 2 w) (omega (arith, length-drop 2 w))
+
+  pub part-size : length (part w) ≡ nodeSize
+  part-size = ap length part-all ∙ omega (arith, length-drop 2 w)
+
+  -- they come back as ws
+  module _ (ws : List ℕ) where
+    pub put-back : putMid 2 (length w - 2) w ws ≡ getD w 0 0 ∷ getD w 1 0 ∷ ws
+    put-back = back w ws size
+
+    pub put-count : (n : ℕ) → set (putMid 2 (length w - 2) w ws) 1 n ≡ getD w 0 0 ∷ n ∷ ws
+    put-count n = ap (λ l. set l 1 n) put-back
+
+    pub put-levels : (n : ℕ) → set (putMid 2 (length w - 2) w ws) 0 n ≡ n ∷ getD w 1 0 ∷ ws
+    put-levels n = ap (λ l. set l 0 n) put-back
+
+  -- a change, from the checks of the part and from what it leaves there
+  module _ (x : Change) (a : Checked) (p : outcome a ≡ stepCheck (changing x) (partNode w)) where
+    checks : outcome a ≡ stepCheck (changing x) (nodeIn (sessionIn w))
+    checks = p ∙ ap (λ l. stepCheck (changing x) (nodeOf l (getD w 1 0) (getD w 0 0))) part-all
+
+    pub part-refused : (r : Numbered) → outcome a ≡ refused r → FollowsIn (changing x) w a w
+    part-refused = in-refused (changing x) w a checks
+
+    pub part-accepted : outcome a ≡ accepted → (t : Session) → t ≡ sessionOf (changed x (partNode w)) → (after : List ℕ) → after ≡ wordsIn t
+        → FollowsIn (changing x) w a after
+    part-accepted q t made =
+        in-accepted (changing x) w a checks q t
+        (made ∙ ap (λ l. sessionOf (changed x (nodeOf l (getD w 1 0) (getD w 0 0)))) part-all)
 
 pub rows-words : (os : List Operation) (w : List ℕ) → sessionIn (wordsAfterAll os w) ≡ sessionAfterAll os (sessionIn w)
 unfolding wordsAfterAll sessionAfterAll

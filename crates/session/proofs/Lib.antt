@@ -1,10 +1,9 @@
 -- Laws that the functions' proofs cite, and the theorems of the session.
 pub mod Held
 pub mod Copying
-pub mod Filling
-pub mod Building
-pub mod Checking
 pub mod Entries
+pub mod Changing
+pub mod Checking
 pub mod Reading
 pub mod Rows
 pub mod InWords

@@ -12,8 +12,7 @@ use Rattle.task_model.proofs.Theorems.{either, entry-accepted, node-accepted}
 use Rattle.session.specs.State.{nodeIn, sessionOf}
 use Rattle.session.specs.Operations.{Change, Operation, opening, changing, asking, inserting, removing, replacing, settingLevels, CallableChange, Callable, AllCallable, changeCheck, operationCheck, emptyNode, changed, made, nodeAfter, nodeAfterAll, answersAll, lentCheck, stepCheck}
 use Rattle.session.specs.Steps.{sessionMade, sessionAfter, sessionAfterAll, answersOf}
-use Rattle.session.proofs.Entries.{Each, each-of, of-each, each-inserted, each-removed, each-replaced}
-use Rattle.session.proofs.Building.{size-inserted, size-removed, size-replaced}
+use Rattle.session.proofs.Entries.{size-inserted, size-removed, size-replaced, Each, each-of, of-each, each-inserted, each-removed, each-replaced}
 use Rattle.session.proofs.Reading.{Kept, read-back}
 use Rattle.session.proofs.Checking.{lent-goes-on, levels-accepted, insert-accepted, remove-accepted, replace-accepted, after-refused, after-accepted}
 

@@ -123,7 +123,7 @@ pub time-right : (s : Session) (first last i : ℕ) (o : Completion) → timeAns
 time-right s first last i o p =
     ⊎-elim
     (λ a.
-    let q = time-ready s first last i a in
+    let q = time-ready (s .words) (s .count) (s .levels) first last i a in
     let t = time-given (nodeIn s) first last i a in
     timing-right _ (nodeIn s .entries) (q .0) (groupLevel first last) i (omega (arith, length-entries (s .words) 0 (s .count))) o (cc))
     (λ a. let t = time-refused (nodeIn s) first last i (a .0) (a .1) in absurd (let z : _≡_ {A = ℕ} 0 1 = cc in omega arith))

@@ -1,8 +1,10 @@
 -- A session that is lent as an array of words: the level count, the entry count, and the words of a node.
 use Prim.Native.Nat.{ℕ, _+_}
 use mathlib.Core.List.{List, [], _∷_}
+use mathlib.Core.Path.{_≡_}
 use lib.ListN.{getD, drop}
-use Rattle.task_model.specs.Refusals.{Outcome, accepted, refused}
+use Rattle.task_model.specs.declared.Checked.{Checked}
+use Rattle.task_model.specs.Refusals.{Outcome, accepted, refused, outcome}
 use Rattle.task_model.specs.Words.{nodeSize}
 use Rattle.session.specs.declared.Session.{Session}
 use Rattle.session.specs.State.{nodeIn}
@@ -32,3 +34,8 @@ wordsAfter o w = wordsLeft (stepCheck o (nodeIn (sessionIn w))) (sessionAfter o 
 unfoldable pub wordsAfterAll : List Operation → List ℕ → List ℕ
 wordsAfterAll [] w = w
 wordsAfterAll (o ∷ os) w = wordsAfterAll os (wordsAfter o w)
+
+-- An operation on a session of words w answers a and leaves the words `after`.
+pub record FollowsIn (o : Operation) (w : List ℕ) (a : Checked) (after : List ℕ) : Type 0 where
+  pub answer : outcome a ≡ stepCheck o (nodeIn (sessionIn w))
+  pub words : after ≡ wordsAfter o w

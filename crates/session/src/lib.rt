@@ -1,12 +1,12 @@
 // The session: one node, changed entry by entry until it maps.
 mod checks;
+pub mod in_words;
 mod list;
 
 use checks::check_insert;
 use checks::check_levels;
 use checks::check_remove;
 use checks::check_replace;
-use checks::check_session;
 use checks::check_set_levels;
 use checks::check_time;
 use completion::Timing;
@@ -14,14 +14,15 @@ use completion::completion_test;
 use level_map::MappedNode;
 use level_map::map_held;
 use list::insert_at;
+use list::keep_list;
 use list::remove_at;
 use list::replace_at;
-use list::set_count_of_levels;
 use task_model::Checked;
 use task_model::Entry;
 use task_model::NODE_WORDS;
 use task_model::NodeWords;
 use task_model::Refusal;
+use task_model::check_words;
 ghost use mathlib.Core.Path.{_≡_};
 ghost use Rattle.session.specs.State.{nodeIn, blankSession};
 ghost use Rattle.session.specs.Operations.{changing, opening, inserting, removing, replacing, settingLevels};
@@ -70,30 +71,34 @@ pub fn blank() -> Session
 pub fn opened(s: Session, levels: u8) -> Changed
     ensures { λ c. ⌜ Follows (opening levels) s (c .answer) (c .session) ⌝ }
 {
-    let empty = Session {
-        levels: levels as u32,
-        count: 0,
-        words: [0u32; NODE_WORDS],
-    };
     let answer = check_levels(levels);
     let Checked::Accepted = answer else {
         return Changed { answer, session: s };
     };
-    Changed {
-        answer,
-        session: empty,
-    }
+    let session = Session {
+        levels: levels as u32,
+        count: 0,
+        words: [0u32; NODE_WORDS],
+    };
+    Changed { answer, session }
 }
 
 // Inserts an entry before a position; just after the last entry it appends.
 pub fn inserted(s: Session, position: usize, e: Entry) -> Changed
     ensures { λ c. ⌜ Follows (changing (inserting position e)) s (c .answer) (c .session) ⌝ }
 {
-    let answer = check_insert(s, position, e);
+    let count = s.count as usize;
+    let answer = check_insert(s.levels, count, &s.words, position, e);
     let Checked::Accepted = answer else {
         return Changed { answer, session: s };
     };
-    let session = insert_at(s, position, e);
+    let mut words = s.words;
+    insert_at(&mut words, count, position, e);
+    let session = Session {
+        levels: s.levels,
+        count: s.count + 1,
+        words,
+    };
     Changed { answer, session }
 }
 
@@ -101,11 +106,18 @@ pub fn inserted(s: Session, position: usize, e: Entry) -> Changed
 pub fn removed(s: Session, position: usize) -> Changed
     ensures { λ c. ⌜ Follows (changing (removing position)) s (c .answer) (c .session) ⌝ }
 {
-    let answer = check_remove(s, position);
+    let count = s.count as usize;
+    let answer = check_remove(s.levels, count, &s.words, position);
     let Checked::Accepted = answer else {
         return Changed { answer, session: s };
     };
-    let session = remove_at(s, position);
+    let mut words = s.words;
+    remove_at(&mut words, count, position);
+    let session = Session {
+        levels: s.levels,
+        count: s.count - 1,
+        words,
+    };
     Changed { answer, session }
 }
 
@@ -113,11 +125,18 @@ pub fn removed(s: Session, position: usize) -> Changed
 pub fn replaced(s: Session, position: usize, e: Entry) -> Changed
     ensures { λ c. ⌜ Follows (changing (replacing position e)) s (c .answer) (c .session) ⌝ }
 {
-    let answer = check_replace(s, position, e);
+    let count = s.count as usize;
+    let answer = check_replace(s.levels, count, &s.words, position, e);
     let Checked::Accepted = answer else {
         return Changed { answer, session: s };
     };
-    let session = replace_at(s, position, e);
+    let mut words = s.words;
+    replace_at(&mut words, count, position, e);
+    let session = Session {
+        levels: s.levels,
+        count: s.count,
+        words,
+    };
     Changed { answer, session }
 }
 
@@ -125,11 +144,18 @@ pub fn replaced(s: Session, position: usize, e: Entry) -> Changed
 pub fn with_levels(s: Session, levels: u8) -> Changed
     ensures { λ c. ⌜ Follows (changing (settingLevels levels)) s (c .answer) (c .session) ⌝ }
 {
-    let answer = check_set_levels(s, levels);
+    let count = s.count as usize;
+    let answer = check_set_levels(s.levels, count, &s.words, levels);
     let Checked::Accepted = answer else {
         return Changed { answer, session: s };
     };
-    let session = set_count_of_levels(s, levels);
+    let mut words = s.words;
+    keep_list(&mut words, count);
+    let session = Session {
+        levels: levels as u32,
+        count: s.count,
+        words,
+    };
     Changed { answer, session }
 }
 
@@ -137,24 +163,24 @@ pub fn with_levels(s: Session, levels: u8) -> Changed
 pub fn timed(s: Session, first: usize, last: usize, i: usize) -> TimeAnswer
     ensures { λ a. ⌜ timeGives a ≡ timeAnswer (nodeIn s) first last i ⌝ }
 {
-    let found = check_time(s, first, last, i);
+    let count = s.count as usize;
+    let found = check_time(s.levels, count, &s.words, first, last, i);
     if let Checked::Refused(r) = found {
         return TimeAnswer::Refused(r);
     }
-    let words = s.words;
-    TimeAnswer::Answered(completion_test(&words, s.count as usize, first, last, i))
+    TimeAnswer::Answered(completion_test(&s.words, count, first, last, i))
 }
 
 // Maps the node: one byte an entry from the start of `out`, which a refusal leaves untouched.
 pub fn mapped(s: Session, out: &mut [u8]) -> MappedNode
     ensures { λ a. ⌜ Maps (nodeIn s) (now (out .entry)) a (now (out .exit)) ⌝ }
 {
-    let found = check_session(s);
+    let count = s.count as usize;
+    let found = check_words(0, &s.words, count, s.levels);
     if let Checked::Refused(r) = found {
         return MappedNode::Refused(r);
     }
-    let words = s.words;
-    map_held(&words, s.count as usize, s.levels as u8, out)
+    map_held(&s.words, count, s.levels as u8, out)
 }
 
 // Opens the session that is lent, whatever it held: an empty node with the given level count (4).

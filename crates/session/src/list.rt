@@ -1,112 +1,91 @@
-// The list of entries: what a change makes of a session, whatever is checked of it. The words are built anew from zeros, so
-// that every slot beyond the entries is zero.
-use super::Session;
+// The list of entries in the words of a node: what a change makes of them in place, whatever is checked of it. Every word
+// beyond the last entry is zero after it.
 use task_model::ENTRY_WORDS;
 use task_model::Entry;
-use task_model::NODE_WORDS;
-use task_model::NodeWords;
 use task_model::store_entry;
 ghost use mathlib.Core.Path.{_≡_};
-ghost use Prim.Native.Nat.{_+_, _≤_, _<_};
-ghost use Rattle.task_model.specs.Limits.{mostEntries};
-ghost use Rattle.task_model.specs.Words.{nodeSize};
-ghost use lib.ListN.{length, drop};
+ghost use mathlib.Core.List.{_++_};
+ghost use Prim.Native.Nat.{_+_, _-_, _≤_, _<_};
+ghost use lib.ListN.{length, take, drop};
 ghost use lib.Seq.{paste};
-ghost use Rattle.session.specs.State.{nodeIn, sessionOf};
-ghost use Rattle.session.specs.Operations.{inserting, removing, replacing, settingLevels, changed};
+ghost use Rattle.task_model.specs.Limits.{mostEntries};
+ghost use Rattle.task_model.specs.Words.{entrySize, nodeSize, wordsOf, entriesOf};
+ghost use Rattle.session.specs.State.{zeros, filled};
+ghost use Rattle.session.specs.Operations.{insertAt, removeAt, replaceAt};
 
-// Copies `n` words of a list, from word `start` on, to place `at` of another.
-fn copy_words(from: &NodeWords, start: usize, n: usize, into: &mut NodeWords, at: usize)
-    requires { ⌜ (start + n ≤ length (now from)) × (length (now from) ≡ nodeSize) × (at + n ≤ length (now into)) × (length (now into) ≡ nodeSize) ⌝ }
-    ensures { λ _. ⌜ now (into .exit) ≡ paste (now (into .entry)) at (drop start (now (from .entry))) n ⌝ }
+// Moves `n` words up by one entry, from word `at` on, the last of them first.
+fn move_up(words: &mut [u32], at: usize, n: usize)
+    requires { ⌜ at + entrySize + n ≤ length (now words) ⌝ }
+    ensures { λ _. ⌜ now (words .exit) ≡ paste (now (words .entry)) (at + entrySize) (drop at (now (words .entry))) n ⌝ }
+{
+    let mut j = n;
+    while 0 < j {
+        j -= 1;
+        words[at + ENTRY_WORDS + j] = words[at + j];
+    }
+}
+
+// Moves `n` words down by one entry to word `at`, the first of them first.
+fn move_down(words: &mut [u32], at: usize, n: usize)
+    requires { ⌜ at + entrySize + n ≤ length (now words) ⌝ }
+    ensures { λ _. ⌜ now (words .exit) ≡ paste (now (words .entry)) at (drop (at + entrySize) (now (words .entry))) n ⌝ }
 {
     for j in 0..n {
-        into[at + j] = from[start + j];
+        words[at + j] = words[at + ENTRY_WORDS + j];
     }
 }
 
-// The session with an entry more, before a position.
-pub fn insert_at(s: Session, position: usize, e: Entry) -> Session
-    requires { ⌜ (position ≤ s .count) × (s .count < mostEntries) ⌝ }
-    ensures { λ t. ⌜ t ≡ sessionOf (changed (inserting position e) (nodeIn s)) ⌝ }
+// Sets every word to zero, from word `at` on.
+pub fn clear_from(words: &mut [u32], at: usize)
+    requires { ⌜ at ≤ length (now words) ⌝ }
+    ensures { λ _. ⌜ now (words .exit) ≡ take at (now (words .entry)) ++ zeros (length (now (words .entry)) - at) ⌝ }
 {
-    let old = s.words;
-    let count = s.count as usize;
-    let mut words = [0u32; NODE_WORDS];
-    copy_words(&old, 0, position * ENTRY_WORDS, &mut words, 0);
-    store_entry(&mut words, position * ENTRY_WORDS, e);
-    copy_words(
-        &old,
+    let n = words.len() - at;
+    for j in 0..n {
+        words[at + j] = 0;
+    }
+}
+
+// Keeps a list of `count` entries, and nothing beyond it.
+pub fn keep_list(words: &mut [u32], count: usize)
+    requires { ⌜ (length (now words) ≡ nodeSize) × (count ≤ mostEntries) ⌝ }
+    ensures { λ _. ⌜ now (words .exit) ≡ filled (wordsOf (entriesOf (now (words .entry)) count)) ⌝ }
+{
+    clear_from(words, count * ENTRY_WORDS);
+}
+
+// Inserts an entry before a position of a list of `count` entries.
+pub fn insert_at(words: &mut [u32], count: usize, position: usize, e: Entry)
+    requires { ⌜ (length (now words) ≡ nodeSize) × (position ≤ count) × (count < mostEntries) ⌝ }
+    ensures { λ _. ⌜ now (words .exit) ≡ filled (wordsOf (insertAt position e (entriesOf (now (words .entry)) count))) ⌝ }
+{
+    move_up(
+        words,
         position * ENTRY_WORDS,
         (count - position) * ENTRY_WORDS,
-        &mut words,
-        position * ENTRY_WORDS + ENTRY_WORDS,
     );
-    Session {
-        levels: s.levels,
-        count: s.count + 1,
-        words,
-    }
+    store_entry(words, position * ENTRY_WORDS, e);
+    clear_from(words, (count + 1) * ENTRY_WORDS);
 }
 
-// The session without the entry at a position.
-pub fn remove_at(s: Session, at: usize) -> Session
-    requires { ⌜ (at < s .count) × (s .count ≤ mostEntries) ⌝ }
-    ensures { λ t. ⌜ t ≡ sessionOf (changed (removing at) (nodeIn s)) ⌝ }
+// Removes the entry at a position of a list of `count` entries.
+pub fn remove_at(words: &mut [u32], count: usize, position: usize)
+    requires { ⌜ (length (now words) ≡ nodeSize) × (position < count) × (count ≤ mostEntries) ⌝ }
+    ensures { λ _. ⌜ now (words .exit) ≡ filled (wordsOf (removeAt position (entriesOf (now (words .entry)) count))) ⌝ }
 {
-    let old = s.words;
-    let count = s.count as usize;
-    let mut words = [0u32; NODE_WORDS];
-    copy_words(&old, 0, at * ENTRY_WORDS, &mut words, 0);
-    copy_words(
-        &old,
-        at * ENTRY_WORDS + ENTRY_WORDS,
-        (count - at - 1) * ENTRY_WORDS,
-        &mut words,
-        at * ENTRY_WORDS,
-    );
-    Session {
-        levels: s.levels,
-        count: s.count - 1,
+    move_down(
         words,
-    }
+        position * ENTRY_WORDS,
+        (count - position - 1) * ENTRY_WORDS,
+    );
+    clear_from(words, (count - 1) * ENTRY_WORDS);
 }
 
-// The session with another entry at a position.
-pub fn replace_at(s: Session, at: usize, e: Entry) -> Session
-    requires { ⌜ (at < s .count) × (s .count ≤ mostEntries) ⌝ }
-    ensures { λ t. ⌜ t ≡ sessionOf (changed (replacing at e) (nodeIn s)) ⌝ }
+// Replaces the entry at a position of a list of `count` entries.
+pub fn replace_at(words: &mut [u32], count: usize, position: usize, e: Entry)
+    requires { ⌜ (length (now words) ≡ nodeSize) × (position < count) × (count ≤ mostEntries) ⌝ }
+    ensures { λ _. ⌜ now (words .exit) ≡ filled (wordsOf (replaceAt position e (entriesOf (now (words .entry)) count))) ⌝ }
 {
-    let old = s.words;
-    let count = s.count as usize;
-    let mut words = [0u32; NODE_WORDS];
-    copy_words(&old, 0, at * ENTRY_WORDS, &mut words, 0);
-    store_entry(&mut words, at * ENTRY_WORDS, e);
-    copy_words(
-        &old,
-        at * ENTRY_WORDS + ENTRY_WORDS,
-        (count - at - 1) * ENTRY_WORDS,
-        &mut words,
-        at * ENTRY_WORDS + ENTRY_WORDS,
-    );
-    Session {
-        levels: s.levels,
-        count: s.count,
-        words,
-    }
-}
-
-// The session with another level count.
-pub fn set_count_of_levels(s: Session, levels: u8) -> Session
-    requires { ⌜ s .count ≤ mostEntries ⌝ }
-    ensures { λ t. ⌜ t ≡ sessionOf (changed (settingLevels levels) (nodeIn s)) ⌝ }
-{
-    let old = s.words;
-    let mut words = [0u32; NODE_WORDS];
-    copy_words(&old, 0, s.count as usize * ENTRY_WORDS, &mut words, 0);
-    Session {
-        levels: levels as u32,
-        count: s.count,
-        words,
-    }
+    store_entry(words, position * ENTRY_WORDS, e);
+    clear_from(words, count * ENTRY_WORDS);
 }

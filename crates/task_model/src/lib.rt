@@ -191,9 +191,9 @@ pub fn entry_at(words: &NodeWords, position: usize) -> Entry
     entry_of(words, position * ENTRY_WORDS)
 }
 
-// Stores an entry's words in those of a node, from word `k` on.
-pub fn store_entry(words: &mut NodeWords, k: usize, e: Entry)
-    requires { ⌜ (k + entrySize ≤ length (now words)) × (length (now words) ≡ nodeSize) ⌝ }
+// Stores an entry's words in a slice, from word `k` on.
+pub fn store_entry(words: &mut [u32], k: usize, e: Entry)
+    requires { ⌜ k + entrySize ≤ length (now words) ⌝ }
     ensures { λ _. ⌜ now (words .exit) ≡ sets (now (words .entry)) k (entryWords e) ⌝ }
 {
     words[k] = e.number as u32 + e.kind as u32 * 65536 + e.calls as u32 * 16777216;
@@ -225,10 +225,18 @@ pub fn check_entries(row: usize, words: &[u32], first: usize, count: usize) -> C
 pub fn check_node(row: usize, words: &NodeWords, count: usize, levels: u8) -> Checked
     ensures { λ a. ⌜ outcome a ≡ nodeCheck row (nodeOf (now (words .entry)) count levels) ⌝ }
 {
+    check_words(row, words, count, levels as u32)
+}
+
+// The same for a node whose words lie in a slice, and a level count of 32 bits.
+pub fn check_words(row: usize, words: &[u32], count: usize, levels: u32) -> Checked
+    requires { ⌜ nodeSize ≤ length (now words) ⌝ }
+    ensures { λ a. ⌜ outcome a ≡ nodeCheck row (nodeOf (now (words .entry)) count levels) ⌝ }
+{
     if levels < 1 {
         return Checked::Refused(Refusal::Row { row });
     }
-    if MOST_LEVELS < levels {
+    if (MOST_LEVELS as u32) < levels {
         return Checked::Refused(Refusal::Row { row });
     }
     if MOST_ENTRIES < count {

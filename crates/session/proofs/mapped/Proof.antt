@@ -13,36 +13,36 @@ use Rattle.session.proofs.mapped.Tie as tie
 -- the session is one that may be lent
 module _ (c : tie.After-enum-told) where
   abbrev at-start : tie.Start
-  at-start = c .before .before .before .before
+  at-start = c .before .before .before .before .before .before .before
 
-  lent : nodeCheck 0 (nodeIn (at-start .args .s)) ≡ accepted
-  lent = sym (c .before .before .check-session .ensures) ∙ ap outcome (c .enum-told .given .1)
+  lent : nodeCheck 0 (nodeIn (at-start .args .t1)) ≡ accepted
+  lent = sym (c .before .before .check-words .ensures) ∙ ap outcome (c .enum-told .given .1)
 
-  within : NodeHolds (nodeIn (at-start .args .s))
+  within : NodeHolds (nodeIn (at-start .args .t1))
   within = node-accepted 0 _ .0 lent
 
-check-session-requires : tie.Need-check-session-requires
-check-session-requires c κs = search needs
+cast-count : tie.Need-cast-count
+cast-count c = search needs
+
+check-words-requires : tie.Need-check-words-requires
+check-words-requires c κs = search needs
 
 enum-known-found : tie.Need-enum-known-found
 enum-known-found c = search needs
 
 returns : tie.Need-returns
 returns c =
-    let p = sym (c .before .before .before .check-session .ensures) ∙ ap outcome (c .before .found .given .1) in
+    let p = sym (c .before .before .before .check-words .ensures) ∙ ap outcome (c .before .found .given .1) in
     maps-forged _ _ p _
 
 enum-told : tie.Need-enum-told
 enum-told c = search needs
 
 cast-map-held : tie.Need-cast-map-held
-cast-map-held c = search needs
-
-cast-map-held-2 : tie.Need-cast-map-held-2
-cast-map-held-2 c = omega (arith, within (c .before .before .before .before) .fewLevels)
+cast-map-held c = omega (arith, within (c .before .before) .fewLevels)
 
 map-held-requires : tie.Need-map-held-requires
-map-held-requires c κs = within (c .before .before .before .before .before)
+map-held-requires c κs = within (c .before .before .before)
 
 same-length : tie.Need-same-length
 same-length c = search needs
@@ -50,19 +50,19 @@ same-length c = search needs
 returns-2 : tie.Need-returns-2
 returns-2 c =
     let m = c .before .before in
-    let p = lent (m .before .before .before .before .before .before) in
+    let p = lent (m .before .before .before .before) in
     maps-held _ p _ _ _ (m .map-held .ensures)
 
 pub mapped-spec : {M : Type 1} → statement M
 mapped-spec =
     tie.close
     (tie.spec
-    check-session-requires
+    cast-count
+    check-words-requires
     enum-known-found
     returns
     enum-told
     cast-map-held
-    cast-map-held-2
     map-held-requires
     same-length
     returns-2)

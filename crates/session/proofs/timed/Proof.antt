@@ -6,6 +6,9 @@ use borrow.Author.Needs.{needs}
 use Rattle.session.proofs.timed.Statement.{statement}
 use Rattle.session.proofs.timed.Tie as tie
 
+cast-count : tie.Need-cast-count
+cast-count c = search needs
+
 check-time-requires : tie.Need-check-time-requires
 check-time-requires c κs = search needs
 
@@ -18,18 +21,15 @@ returns c = sym (time-refused _ _ _ _ _ (sym (c .before .before .before .check-t
 enum-told : tie.Need-enum-told
 enum-told c = search needs
 
-cast-completion-test : tie.Need-cast-completion-test
-cast-completion-test c = search needs
-
 completion-test-requires : tie.Need-completion-test-requires
 completion-test-requires c κs =
-    let d = c .before .before .before in
-    let a = d .before .before .before .args in
-    time-ready (a .s) (a .first) (a .last) (a .i) (sym (d .before .before .check-time .ensures) ∙ ap outcome (d .enum-told .given .1))
+    let d = c .before .before in
+    let a = d .before .before .before .before .before .before .args in
+    time-ready (a .t1 .words) (a .t1 .count) (a .t1 .levels) (a .first) (a .last) (a .i) (sym (d .before .before .check-time .ensures) ∙ ap outcome (d .enum-told .given .1))
 
 returns-2 : tie.Need-returns-2
 returns-2 c =
-    let d = c .before .before .before .before in
+    let d = c .before .before .before in
     ap gives (c .completion-test .ensures .0)
     ∙ sym (time-given _ _ _ _ (sym (d .before .before .check-time .ensures) ∙ ap outcome (d .enum-told .given .1)))
 
@@ -37,10 +37,10 @@ pub timed-spec : {M : Type 1} → statement M
 timed-spec =
     tie.close
     (tie.spec
+    cast-count
     check-time-requires
     enum-known-found
     returns
     enum-told
-    cast-completion-test
     completion-test-requires
     returns-2)

@@ -8,7 +8,7 @@ use borrow.Author.Needs.{needs}
 use Rattle.task_model.specs.Words.{nodeSize}
 use Rattle.session.specs.declared.Session.{Session}
 use Rattle.session.specs.State.{zeros}
-use Rattle.session.proofs.Held.{held}
+use Rattle.session.proofs.Held.{held-size}
 use Rattle.session.proofs.Copying.{copy-next, copy-all}
 use Rattle.session.proofs.to_words.Statement.{statement}
 use Rattle.session.proofs.to_words.Tie as tie
@@ -30,7 +30,7 @@ array-write-w-2 : tie.Need-array-write-w-2 Inv-loop μ-loop
 array-write-w-2 c = search needs
 
 loop-holds : tie.Need-loop-holds Inv-loop μ-loop
-loop-holds c = (omega arith, held (c .before .args .s) (c .before .good .0) .size, paste-zero _ 2 (c .before .args .s .words))
+loop-holds c = (omega arith, held-size (c .before .args .s) (c .before .good .0), paste-zero _ 2 (c .before .args .s .words))
 
 mul-w : tie.Need-mul-w Inv-loop μ-loop
 mul-w c = search needs

@@ -1,3 +1,5 @@
+use native.Mathlib.Omega.{arith}
+use lib.ListN.{length-set}
 use Rattle.task_model.proofs.Words.{stored-five}
 use borrow.Author.Needs.{needs}
 use Rattle.task_model.proofs.store_entry.Statement.{statement}
@@ -27,8 +29,8 @@ add-words-2 c = search needs
 mul-words-3 : tie.Need-mul-words-3
 mul-words-3 c = search needs
 
-element-write-words : tie.Need-element-write-words
-element-write-words c = search needs
+slice-write-words : tie.Need-slice-write-words
+slice-write-words c = search needs
 
 add-words-3 : tie.Need-add-words-3
 add-words-3 c = search needs
@@ -36,8 +38,8 @@ add-words-3 c = search needs
 mul-words-4 : tie.Need-mul-words-4
 mul-words-4 c = search needs
 
-element-write-words-2 : tie.Need-element-write-words-2
-element-write-words-2 c = search needs
+slice-write-words-2 : tie.Need-slice-write-words-2
+slice-write-words-2 c = simp length-set (omega arith)
 
 add-words-4 : tie.Need-add-words-4
 add-words-4 c = search needs
@@ -45,8 +47,8 @@ add-words-4 c = search needs
 mul-words-5 : tie.Need-mul-words-5
 mul-words-5 c = search needs
 
-element-write-words-3 : tie.Need-element-write-words-3
-element-write-words-3 c = search needs
+slice-write-words-3 : tie.Need-slice-write-words-3
+slice-write-words-3 c = simp length-set (omega arith)
 
 add-words-5 : tie.Need-add-words-5
 add-words-5 c = search needs
@@ -54,8 +56,8 @@ add-words-5 c = search needs
 mul-words-6 : tie.Need-mul-words-6
 mul-words-6 c = search needs
 
-element-write-words-4 : tie.Need-element-write-words-4
-element-write-words-4 c = search needs
+slice-write-words-4 : tie.Need-slice-write-words-4
+slice-write-words-4 c = simp length-set (omega arith)
 
 add-words-6 : tie.Need-add-words-6
 add-words-6 c = search needs
@@ -63,8 +65,11 @@ add-words-6 c = search needs
 mul-words-7 : tie.Need-mul-words-7
 mul-words-7 c = search needs
 
-element-write-words-5 : tie.Need-element-write-words-5
-element-write-words-5 c = search needs
+slice-write-words-5 : tie.Need-slice-write-words-5
+slice-write-words-5 c = simp length-set (omega arith)
+
+same-length : tie.Need-same-length
+same-length c = simp length-set
 
 returns : tie.Need-returns
 returns c = stored-five _ _ _
@@ -81,17 +86,18 @@ store-entry-spec =
     mul-words-2
     add-words-2
     mul-words-3
-    element-write-words
+    slice-write-words
     add-words-3
     mul-words-4
-    element-write-words-2
+    slice-write-words-2
     add-words-4
     mul-words-5
-    element-write-words-3
+    slice-write-words-3
     add-words-5
     mul-words-6
-    element-write-words-4
+    slice-write-words-4
     add-words-6
     mul-words-7
-    element-write-words-5
+    slice-write-words-5
+    same-length
     returns)

@@ -3,7 +3,7 @@ use native.Mathlib.Omega.{arith}
 use Rattle.task_model.specs.Refusals.{outcome, accepted}
 use Rattle.task_model.specs.Checks.{nodeCheck}
 use Rattle.task_model.proofs.Laws.{length-entries}
-use Rattle.session.specs.State.{nodeIn}
+use Rattle.task_model.specs.Words.{nodeOf}
 use Rattle.session.specs.Operations.{changing, inserting, lentCheck}
 use Rattle.session.proofs.Checking.{lent-stops, lent-goes-on, insert-outside, insert-full, insert-entry}
 use borrow.Author.Needs.{needs}
@@ -11,11 +11,12 @@ use Rattle.session.proofs.checks.check_insert.Statement.{statement}
 use Rattle.session.proofs.checks.check_insert.Tie as tie
 
 -- the session is one that may be lent
-sound : (c : tie.After-enum-told) → nodeCheck 0 (nodeIn (c .before .before .before .args .s)) ≡ accepted
-sound c = sym (c .before .before .check-session .ensures) ∙ ap outcome (c .enum-told .given .1)
+sound : (c : tie.After-enum-told)
+    → let a = c .before .before .before .before .args in nodeCheck 0 (nodeOf (a .words .now) (a .count) (a .levels)) ≡ accepted
+sound c = sym (c .before .before .check-words .ensures) ∙ ap outcome (c .enum-told .given .1)
 
-check-session-requires : tie.Need-check-session-requires
-check-session-requires c κs = search needs
+check-words-requires : tie.Need-check-words-requires
+check-words-requires c κs = search needs
 
 enum-told : tie.Need-enum-told
 enum-told c = search needs
@@ -26,27 +27,24 @@ enum-told-2 c = search needs
 returns : tie.Need-returns
 unfolding lentCheck
 returns c = ap outcome (c .enum-told2 .given .1)
-    ∙ sym (lent-stops (changing (inserting _ _)) _ _ (sym (c .before .before .check-session .ensures) ∙ ap outcome (c .enum-told2 .given .1)))
-
-cast-count : tie.Need-cast-count
-cast-count c = search needs
+    ∙ sym (lent-stops (changing (inserting _ _)) _ _ (sym (c .before .before .check-words .ensures) ∙ ap outcome (c .enum-told2 .given .1)))
 
 returns-2 : tie.Need-returns-2
 unfolding lentCheck
 returns-2 c =
     let a = c .before .before .before .before .before .args in
     sym
-    (lent-goes-on (changing (inserting (a .position) (a .e))) _ (sound (c .before .before))
-    ∙ insert-outside (nodeIn (a .s)) (a .position) (a .e) (omega (arith, length-entries (a .s .words) 0 (a .s .count))))
+    (lent-goes-on (changing (inserting (a .position) (a .e))) _ (sound (c .before))
+    ∙ insert-outside (nodeOf (a .words .now) (a .count) (a .levels)) (a .position) (a .e) (omega (arith, length-entries (a .words .now) 0 (a .count))))
 
 returns-3 : tie.Need-returns-3
 unfolding lentCheck
 returns-3 c =
     let a = c .before .before .before .before .before .before .args in
     sym
-    (lent-goes-on (changing (inserting (a .position) (a .e))) _ (sound (c .before .before .before))
-    ∙ insert-full (nodeIn (a .s)) (a .position) (a .e) (omega (arith, length-entries (a .s .words) 0 (a .s .count)))
-    (omega (arith, length-entries (a .s .words) 0 (a .s .count))))
+    (lent-goes-on (changing (inserting (a .position) (a .e))) _ (sound (c .before .before))
+    ∙ insert-full (nodeOf (a .words .now) (a .count) (a .levels)) (a .position) (a .e) (omega (arith, length-entries (a .words .now) 0 (a .count)))
+    (omega (arith, length-entries (a .words .now) 0 (a .count))))
 
 check-entry-requires : tie.Need-check-entry-requires
 check-entry-requires c κs = search needs
@@ -57,19 +55,18 @@ returns-4 c =
     let a = c .before .before .before .before .before .before .before .args in
     c .check-entry .ensures
     ∙ sym
-    (lent-goes-on (changing (inserting (a .position) (a .e))) _ (sound (c .before .before .before .before))
-    ∙ insert-entry (nodeIn (a .s)) (a .position) (a .e) (omega (arith, length-entries (a .s .words) 0 (a .s .count)))
-    (omega (arith, length-entries (a .s .words) 0 (a .s .count))))
+    (lent-goes-on (changing (inserting (a .position) (a .e))) _ (sound (c .before .before .before))
+    ∙ insert-entry (nodeOf (a .words .now) (a .count) (a .levels)) (a .position) (a .e) (omega (arith, length-entries (a .words .now) 0 (a .count)))
+    (omega (arith, length-entries (a .words .now) 0 (a .count))))
 
 pub check-insert-spec : {M : Type 1} → statement M
 check-insert-spec =
     tie.close
     (tie.spec
-    check-session-requires
+    check-words-requires
     enum-told
     enum-told-2
     returns
-    cast-count
     returns-2
     returns-3
     check-entry-requires

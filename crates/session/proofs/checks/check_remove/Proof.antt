@@ -3,7 +3,7 @@ use native.Mathlib.Omega.{arith}
 use Rattle.task_model.specs.Refusals.{outcome, accepted}
 use Rattle.task_model.specs.Checks.{nodeCheck}
 use Rattle.task_model.proofs.Laws.{length-entries}
-use Rattle.session.specs.State.{nodeIn}
+use Rattle.task_model.specs.Words.{nodeOf}
 use Rattle.session.specs.Operations.{changing, removing, lentCheck}
 use Rattle.session.proofs.Checking.{lent-stops, lent-goes-on, remove-outside, remove-inside}
 use borrow.Author.Needs.{needs}
@@ -11,11 +11,12 @@ use Rattle.session.proofs.checks.check_remove.Statement.{statement}
 use Rattle.session.proofs.checks.check_remove.Tie as tie
 
 -- the session is one that may be lent
-sound : (c : tie.After-enum-told) → nodeCheck 0 (nodeIn (c .before .before .before .args .s)) ≡ accepted
-sound c = sym (c .before .before .check-session .ensures) ∙ ap outcome (c .enum-told .given .1)
+sound : (c : tie.After-enum-told)
+    → let a = c .before .before .before .before .args in nodeCheck 0 (nodeOf (a .words .now) (a .count) (a .levels)) ≡ accepted
+sound c = sym (c .before .before .check-words .ensures) ∙ ap outcome (c .enum-told .given .1)
 
-check-session-requires : tie.Need-check-session-requires
-check-session-requires c κs = search needs
+check-words-requires : tie.Need-check-words-requires
+check-words-requires c κs = search needs
 
 enum-told : tie.Need-enum-told
 enum-told c = search needs
@@ -26,28 +27,25 @@ enum-told-2 c = search needs
 returns : tie.Need-returns
 unfolding lentCheck
 returns c = ap outcome (c .enum-told2 .given .1)
-    ∙ sym (lent-stops (changing (removing _)) _ _ (sym (c .before .before .check-session .ensures) ∙ ap outcome (c .enum-told2 .given .1)))
-
-cast-if1 : tie.Need-cast-if1
-cast-if1 c = search needs
+    ∙ sym (lent-stops (changing (removing _)) _ _ (sym (c .before .before .check-words .ensures) ∙ ap outcome (c .enum-told2 .given .1)))
 
 returns-2 : tie.Need-returns-2
 unfolding lentCheck
 returns-2 c =
     let a = c .before .before .before .before .before .args in
     sym
-    (lent-goes-on (changing (removing (a .position))) _ (sound (c .before .before))
-    ∙ remove-outside (nodeIn (a .s)) (a .position) (omega (arith, length-entries (a .s .words) 0 (a .s .count))))
+    (lent-goes-on (changing (removing (a .position))) _ (sound (c .before))
+    ∙ remove-outside (nodeOf (a .words .now) (a .count) (a .levels)) (a .position) (omega (arith, length-entries (a .words .now) 0 (a .count))))
 
 returns-3 : tie.Need-returns-3
 unfolding lentCheck
 returns-3 c =
     let a = c .before .before .before .before .before .args in
     sym
-    (lent-goes-on (changing (removing (a .position))) _ (sound (c .before .before))
-    ∙ remove-inside (nodeIn (a .s)) (a .position) (omega (arith, length-entries (a .s .words) 0 (a .s .count))))
+    (lent-goes-on (changing (removing (a .position))) _ (sound (c .before))
+    ∙ remove-inside (nodeOf (a .words .now) (a .count) (a .levels)) (a .position) (omega (arith, length-entries (a .words .now) 0 (a .count))))
 
 pub check-remove-spec : {M : Type 1} → statement M
 check-remove-spec =
     tie.close
-    (tie.spec check-session-requires enum-told enum-told-2 returns cast-if1 returns-2 returns-3)
+    (tie.spec check-words-requires enum-told enum-told-2 returns returns-2 returns-3)

@@ -1,7 +1,7 @@
 use mathlib.Core.Path.{_≡_, _∙_, sym, ap}
 use Rattle.task_model.specs.Refusals.{outcome, accepted}
 use Rattle.task_model.specs.Checks.{nodeCheck}
-use Rattle.session.specs.State.{nodeIn}
+use Rattle.task_model.specs.Words.{nodeOf}
 use Rattle.session.specs.Operations.{changing, settingLevels, changeCheck, operationCheck, lentCheck}
 use Rattle.session.proofs.Checking.{lent-stops, lent-goes-on}
 use borrow.Author.Needs.{needs}
@@ -9,11 +9,12 @@ use Rattle.session.proofs.checks.check_set_levels.Statement.{statement}
 use Rattle.session.proofs.checks.check_set_levels.Tie as tie
 
 -- the session is one that may be lent
-sound : (c : tie.After-enum-told) → nodeCheck 0 (nodeIn (c .before .before .before .args .s)) ≡ accepted
-sound c = sym (c .before .before .check-session .ensures) ∙ ap outcome (c .enum-told .given .1)
+sound : (c : tie.After-enum-told)
+    → let a = c .before .before .before .before .args in nodeCheck 0 (nodeOf (a .words .now) (a .count) (a .open-levels)) ≡ accepted
+sound c = sym (c .before .before .check-words .ensures) ∙ ap outcome (c .enum-told .given .1)
 
-check-session-requires : tie.Need-check-session-requires
-check-session-requires c κs = search needs
+check-words-requires : tie.Need-check-words-requires
+check-words-requires c κs = search needs
 
 enum-told : tie.Need-enum-told
 enum-told c = search needs
@@ -24,7 +25,7 @@ enum-told-2 c = search needs
 returns : tie.Need-returns
 unfolding lentCheck
 returns c = ap outcome (c .enum-told2 .given .1)
-    ∙ sym (lent-stops (changing (settingLevels _)) _ _ (sym (c .before .before .check-session .ensures) ∙ ap outcome (c .enum-told2 .given .1)))
+    ∙ sym (lent-stops (changing (settingLevels _)) _ _ (sym (c .before .before .check-words .ensures) ∙ ap outcome (c .enum-told2 .given .1)))
 
 check-levels-requires : tie.Need-check-levels-requires
 check-levels-requires c κs = search needs
@@ -37,4 +38,4 @@ returns-2 c = c .check-levels .ensures
 pub check-set-levels-spec : {M : Type 1} → statement M
 check-set-levels-spec =
     tie.close
-    (tie.spec check-session-requires enum-told enum-told-2 returns check-levels-requires returns-2)
+    (tie.spec check-words-requires enum-told enum-told-2 returns check-levels-requires returns-2)

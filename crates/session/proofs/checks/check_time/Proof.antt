@@ -3,7 +3,7 @@ use native.Mathlib.Omega.{arith}
 use Rattle.task_model.specs.Refusals.{outcome, accepted}
 use Rattle.task_model.specs.Checks.{nodeCheck}
 use Rattle.task_model.proofs.Laws.{length-entries}
-use Rattle.session.specs.State.{nodeIn}
+use Rattle.task_model.specs.Words.{nodeOf}
 use Rattle.session.specs.Operations.{asking, timing, lentCheck}
 use Rattle.session.proofs.Checking.{lent-stops, lent-goes-on, time-before, time-after, time-outside, time-inside}
 use borrow.Author.Needs.{needs}
@@ -11,11 +11,12 @@ use Rattle.session.proofs.checks.check_time.Statement.{statement}
 use Rattle.session.proofs.checks.check_time.Tie as tie
 
 -- the session is one that may be lent
-sound : (c : tie.After-enum-told) → nodeCheck 0 (nodeIn (c .before .before .before .args .s)) ≡ accepted
-sound c = sym (c .before .before .check-session .ensures) ∙ ap outcome (c .enum-told .given .1)
+sound : (c : tie.After-enum-told)
+    → let a = c .before .before .before .before .args in nodeCheck 0 (nodeOf (a .words .now) (a .count) (a .levels)) ≡ accepted
+sound c = sym (c .before .before .check-words .ensures) ∙ ap outcome (c .enum-told .given .1)
 
-check-session-requires : tie.Need-check-session-requires
-check-session-requires c κs = search needs
+check-words-requires : tie.Need-check-words-requires
+check-words-requires c κs = search needs
 
 enum-told : tie.Need-enum-told
 enum-told c = search needs
@@ -26,57 +27,53 @@ enum-told-2 c = search needs
 returns : tie.Need-returns
 unfolding lentCheck
 returns c = ap outcome (c .enum-told2 .given .1)
-    ∙ sym (lent-stops (asking (timing _ _ _)) _ _ (sym (c .before .before .check-session .ensures) ∙ ap outcome (c .enum-told2 .given .1)))
+    ∙ sym (lent-stops (asking (timing _ _ _)) _ _ (sym (c .before .before .check-words .ensures) ∙ ap outcome (c .enum-told2 .given .1)))
 
 returns-2 : tie.Need-returns-2
 unfolding lentCheck
 returns-2 c =
-    let a = c .before .before .before .before .args in
-    let n = length-entries (a .s .words) 0 (a .s .count) in
+    let a = c .before .before .before .before .before .args in
+    let n = length-entries (a .words .now) 0 (a .count) in
     sym
     (lent-goes-on (asking (timing (a .first) (a .last) (a .i))) _ (sound (c .before))
-    ∙ time-before (nodeIn (a .s)) (a .first) (a .last) (a .i) (omega arith))
+    ∙ time-before (nodeOf (a .words .now) (a .count) (a .levels)) (a .first) (a .last) (a .i) (omega arith))
 
 returns-3 : tie.Need-returns-3
 unfolding lentCheck
 returns-3 c =
-    let a = c .before .before .before .before .before .args in
-    let n = length-entries (a .s .words) 0 (a .s .count) in
+    let a = c .before .before .before .before .before .before .args in
+    let n = length-entries (a .words .now) 0 (a .count) in
     sym
     (lent-goes-on (asking (timing (a .first) (a .last) (a .i))) _ (sound (c .before .before))
-    ∙ time-after (nodeIn (a .s)) (a .first) (a .last) (a .i) (omega arith) (omega arith))
-
-cast-if3 : tie.Need-cast-if3
-cast-if3 c = search needs
+    ∙ time-after (nodeOf (a .words .now) (a .count) (a .levels)) (a .first) (a .last) (a .i) (omega arith) (omega arith))
 
 returns-4 : tie.Need-returns-4
 unfolding lentCheck
 returns-4 c =
     let a = c .before .before .before .before .before .before .before .args in
-    let n = length-entries (a .s .words) 0 (a .s .count) in
+    let n = length-entries (a .words .now) 0 (a .count) in
     sym
-    (lent-goes-on (asking (timing (a .first) (a .last) (a .i))) _ (sound (c .before .before .before .before))
-    ∙ time-outside (nodeIn (a .s)) (a .first) (a .last) (a .i) (omega arith) (omega arith) (omega arith))
+    (lent-goes-on (asking (timing (a .first) (a .last) (a .i))) _ (sound (c .before .before .before))
+    ∙ time-outside (nodeOf (a .words .now) (a .count) (a .levels)) (a .first) (a .last) (a .i) (omega arith) (omega arith) (omega arith))
 
 returns-5 : tie.Need-returns-5
 unfolding lentCheck
 returns-5 c =
     let a = c .before .before .before .before .before .before .before .args in
-    let n = length-entries (a .s .words) 0 (a .s .count) in
+    let n = length-entries (a .words .now) 0 (a .count) in
     sym
-    (lent-goes-on (asking (timing (a .first) (a .last) (a .i))) _ (sound (c .before .before .before .before))
-    ∙ time-inside (nodeIn (a .s)) (a .first) (a .last) (a .i) (omega arith) (omega arith) (omega arith))
+    (lent-goes-on (asking (timing (a .first) (a .last) (a .i))) _ (sound (c .before .before .before))
+    ∙ time-inside (nodeOf (a .words .now) (a .count) (a .levels)) (a .first) (a .last) (a .i) (omega arith) (omega arith) (omega arith))
 
 pub check-time-spec : {M : Type 1} → statement M
 check-time-spec =
     tie.close
     (tie.spec
-    check-session-requires
+    check-words-requires
     enum-told
     enum-told-2
     returns
     returns-2
     returns-3
-    cast-if3
     returns-4
     returns-5)

@@ -1,80 +1,53 @@
-use mathlib.Core.Path.{_≡_}
 use native.Mathlib.Omega.{arith}
-use lib.ListN.{length}
+use Rattle.session.proofs.Changing.{list-removed}
 use borrow.Author.Needs.{needs}
-use Rattle.task_model.specs.Words.{nodeSize}
-use Rattle.session.proofs.Held.{Held, held}
-use Rattle.session.proofs.Building.{head-size, remove-built}
 use Rattle.session.proofs.list.remove_at.Statement.{statement}
 use Rattle.session.proofs.list.remove_at.Tie as tie
 
-cast-count : tie.Need-cast-count
-cast-count c = search needs
+mul-move-down : tie.Need-mul-move-down
+mul-move-down c = search needs
 
-mul-copy-words : tie.Need-mul-copy-words
-mul-copy-words c = search needs
+sub-move-down : tie.Need-sub-move-down
+sub-move-down c = search needs
 
-copy-words-requires : tie.Need-copy-words-requires
-copy-words-requires c κs =
-    let b = c .before .before .before .before in
-    let h = held (b .args .s) (b .good .0) in
-    omega arith
+sub-move-down-2 : tie.Need-sub-move-down-2
+sub-move-down-2 c = search needs
 
--- the words after the first copy
-module _ (c : tie.After-copy-words) where
-  abbrev at-start : tie.Start
-  at-start = c .before .before .before .before .before
+mul-move-down-2 : tie.Need-mul-move-down-2
+mul-move-down-2 c = search needs
 
-  kept : Held (at-start .args .s)
-  kept = held (at-start .args .s) (at-start .good .0)
+move-down-requires : tie.Need-move-down-requires
+move-down-requires c κs = search needs
 
-  head-sized : length (c .copy-words .last .1 .1 .1 .0) ≡ nodeSize
-  head-sized =
-      head-size (at-start .args .s) kept (omega arith) (at-start .args .at) (omega arith) _ (c .copy-words .ensures)
+sub-clear-from : tie.Need-sub-clear-from
+sub-clear-from c = search needs
 
-mul-copy-words-2 : tie.Need-mul-copy-words-2
-mul-copy-words-2 c = search needs
+mul-clear-from : tie.Need-mul-clear-from
+mul-clear-from c = search needs
 
-add-copy-words : tie.Need-add-copy-words
-add-copy-words c = search needs
+clear-from-requires : tie.Need-clear-from-requires
+clear-from-requires c κs = search needs
 
-sub-copy-words : tie.Need-sub-copy-words
-sub-copy-words c = search needs
-
-sub-copy-words-2 : tie.Need-sub-copy-words-2
-sub-copy-words-2 c = search needs
-
-mul-copy-words-3 : tie.Need-mul-copy-words-3
-mul-copy-words-3 c = search needs
-
-mul-copy-words-4 : tie.Need-mul-copy-words-4
-mul-copy-words-4 c = search needs
-
-copy-words-requires-2 : tie.Need-copy-words-requires-2
-copy-words-requires-2 c κs = omega (arith, head-sized (c .before .before), kept (c .before .before))
-
-sub-t17 : tie.Need-sub-t17
-sub-t17 c = search needs
+same-length : tie.Need-same-length
+same-length c = search needs
 
 returns : tie.Need-returns
 returns c =
-    let h = c .before .before .before .before in
-    let a = at-start h .args in
-    remove-built (a .s) (kept h) (omega arith) (a .at) _ (h .copy-words .ensures) (omega arith) _ (c .before .copy-words2 .ensures)
+    let a = c .before .before .before .before .before .before .before .before .before .args in
+    list-removed (a .words .now) (λ i. c .before .before .before .before .before .before .before .before .slice-known .given i .fits) (omega arith) (a .count) (omega arith) _ (a .position) _
+    (omega arith) (c .before .before .before .before .before .before .move-down .ensures) (c .before .before .clear-from .ensures)
 
 pub remove-at-spec : {M : Type 1} → statement M
 remove-at-spec =
     tie.close
     (tie.spec
-    cast-count
-    mul-copy-words
-    copy-words-requires
-    mul-copy-words-2
-    add-copy-words
-    sub-copy-words
-    sub-copy-words-2
-    mul-copy-words-3
-    mul-copy-words-4
-    copy-words-requires-2
-    sub-t17
+    mul-move-down
+    sub-move-down
+    sub-move-down-2
+    mul-move-down-2
+    move-down-requires
+    sub-clear-from
+    mul-clear-from
+    clear-from-requires
+    same-length
     returns)
