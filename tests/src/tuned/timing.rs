@@ -12,24 +12,23 @@ pub fn runs_of(entries: &[impl Entry]) -> u64 {
     entries.iter().map(|entry| u64::from(entry.wcet())).sum()
 }
 
-/// What an entry on a more urgent level runs in `t` ticks. The first period
+/// What an entry runs in `t` ticks after its first run. The first period
 /// needs no division.
-fn urgent_share(entry: &impl Entry, t: u32) -> u64 {
-    let (wcet, period) = (u64::from(entry.wcet()), entry.period());
+fn further(entry: &impl Entry, t: u32) -> u64 {
+    let period = entry.period();
     if t <= period {
-        return wcet;
+        return 0;
     }
-    wcet * u64::from((t + (period - 1)) / period)
+    u64::from(entry.wcet()) * u64::from((t - 1) / period)
 }
 
-/// What another entry on the level of one with so many calls runs in `t`
-/// ticks. Past as many periods the count is at its limit, and no division is
-/// needed.
-fn beside_share(entry: &impl Entry, calls: u32, t: u32) -> u64 {
+/// The same beside an entry with so many calls. Past as many periods the
+/// count is at its limit, and no division is needed.
+fn further_beside(entry: &impl Entry, calls: u32, t: u32) -> u64 {
     if u64::from(entry.period()) * u64::from(calls) < u64::from(t) {
-        return u64::from(entry.wcet()) * u64::from(calls + 1);
+        return u64::from(entry.wcet()) * u64::from(calls);
     }
-    urgent_share(entry, t)
+    further(entry, t)
 }
 
 /// An entry in its group, with what its demand counts.
@@ -86,18 +85,21 @@ impl<'a, E: Entry> Test<'a, E> {
         self.demand(deadline) <= u64::from(deadline) || self.is_met_from(self.earliest())
     }
 
-    /// What has to run by `t`.
+    /// What has to run by `t`: all that runs once, which the start counts, and
+    /// what runs again. On its own level nothing does without remote calls.
     fn demand(&self, t: u32) -> u64 {
         let calls = self.own.calls();
-        let mut sum = u64::from(self.own.wcet()) + u64::from(self.own.blocking());
+        let mut sum = self.start;
         for entry in self.urgent {
-            sum += urgent_share(entry, t);
+            sum += further(entry, t);
         }
-        for entry in self.before {
-            sum += beside_share(entry, calls, t);
-        }
-        for entry in self.behind {
-            sum += beside_share(entry, calls, t);
+        if calls > 0 {
+            for entry in self.before {
+                sum += further_beside(entry, calls, t);
+            }
+            for entry in self.behind {
+                sum += further_beside(entry, calls, t);
+            }
         }
         sum
     }
