@@ -21,9 +21,10 @@ list:
 test:
 	@bash .ci/run
 
-# Times of the proved library and of plain Rust that does the same work (docs/BENCHMARKS.md).
+# Times of the proved library, of Rust tuned by hand and of plain Rust that do the same work (docs/BENCHMARKS.md).
+# `make bench ONLY='list insert'` measures the rows with one of these words in their name.
 bench:
-	@cargo run --release --offline --quiet --manifest-path tests/Cargo.toml --bin bench
+	@cargo run --release --offline --quiet --manifest-path tests/Cargo.toml --bin bench -- $(ONLY)
 
 # Random files and rows of session operations against the second implementation, for MAIPLUR_SECONDS seconds (10); what it
 # finds goes to tests/corpus.

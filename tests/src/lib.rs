@@ -12,8 +12,8 @@
 //!   [`options`] for the seed and the size of a run.
 //! - [`ffi`] calls the proved library, with [`words`] as it takes plans, and
 //!   [`compare`] holds its answers against those of this one, [`fuzz`] on
-//!   random files and rows of operations. [`plain`] is what its speed is
-//!   measured against.
+//!   random files and rows of operations. [`tuned`] and [`plain`] are what its
+//!   speed is measured against.
 
 #![deny(unsafe_code)]
 #![warn(missing_docs)]

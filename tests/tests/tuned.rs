@@ -21,6 +21,8 @@ use oracle::tally::Tally;
 use oracle::tuned::{self, session::Session};
 use oracle::words::{self, entry_words, ENTRY_WORDS};
 
+type Draw = fn(&mut Rng) -> Plan;
+
 /// Room for a result of `needed`: none, one too short, exact, and too long.
 fn rooms(needed: usize) -> [usize; 4] {
     [0, needed.saturating_sub(1), needed, needed + 9]
@@ -107,7 +109,7 @@ fn begun<T: Clone>(written: Vec<T>, before: Vec<T>) -> Vec<T> {
 #[test]
 fn plans_of_every_kind() {
     let (mut rng, mut tally) = (rng(340), Tally::default());
-    let draws: [(fn(&mut Rng) -> Plan, u64); 9] = [
+    let draws: [(Draw, u64); 9] = [
         (plans::small, 600),
         (plans::wide, 200),
         (plans::tight, 300),

@@ -3,7 +3,6 @@
 //! alike.
 
 use crate::planner::{Plain, Planner, Proved, Tuned};
-use std::fmt::Debug;
 use std::time::Instant;
 
 /// What one run of a measure takes at least, in seconds.
@@ -12,7 +11,7 @@ const LONG: f64 = 0.004;
 /// What is measured.
 pub trait Row {
     /// The buffers that are lent to the calls, and what these answer.
-    type Lent: Debug + PartialEq;
+    type Lent: PartialEq;
 
     /// What the line says.
     fn name(&self) -> String;
@@ -77,13 +76,12 @@ impl<'a> Table<'a> {
         assert!(lent[2] == lent[0], "{name}: the plain one differs");
         // Each in as many calls as it takes for a run: one may be far slower.
         let mut calls = [1; 3];
-        let mut best = [f64::MAX; 3];
         for who in 0..3 {
-            let mut seconds = |calls| all[who](row, &mut lent[who], calls);
-            while seconds(calls[who]) < LONG {
+            while all[who](row, &mut lent[who], calls[who]) < LONG {
                 calls[who] *= 2;
             }
         }
+        let mut best = [f64::MAX; 3];
         for _ in 0..self.turns {
             for who in 0..3 {
                 let seconds = all[who](row, &mut lent[who], calls[who]);

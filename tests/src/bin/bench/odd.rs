@@ -75,6 +75,12 @@ pub fn child(who: &str, family: &str) {
             assert!(plain::list_and_tell(&file, &mut text, tell).is_some());
         }),
     };
+    let lines = (1..=32).map(|number| format!("node {number} no map\n"));
+    let due = "plan 32\n".to_string() + &lines.collect::<String>();
+    assert!(
+        text.starts_with(due.as_bytes()),
+        "{who} lists something else"
+    );
     println!("{best}");
 }
 
