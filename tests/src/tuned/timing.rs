@@ -12,23 +12,24 @@ pub fn runs_of(entries: &[impl Entry]) -> u64 {
     entries.iter().map(|entry| u64::from(entry.wcet())).sum()
 }
 
-/// What an entry runs in `t` ticks after its first run. The first period
+/// What an entry on a more urgent level runs in `t` ticks. The first period
 /// needs no division.
-fn further(entry: &impl Entry, t: u32) -> u64 {
-    let period = entry.period();
+fn urgent_share(entry: &impl Entry, t: u32) -> u64 {
+    let (wcet, period) = (u64::from(entry.wcet()), entry.period());
     if t <= period {
-        return 0;
+        return wcet;
     }
-    u64::from(entry.wcet()) * u64::from((t - 1) / period)
+    wcet * u64::from((t + (period - 1)) / period)
 }
 
-/// The same beside an entry with so many calls. Past as many periods the
-/// count is at its limit, and no division is needed.
-fn further_beside(entry: &impl Entry, calls: u32, t: u32) -> u64 {
+/// What another entry on the level of one with so many calls runs in `t`
+/// ticks. Past as many periods the count is at its limit, and no division is
+/// needed.
+fn beside_share(entry: &impl Entry, calls: u32, t: u32) -> u64 {
     if u64::from(entry.period()) * u64::from(calls) < u64::from(t) {
-        return u64::from(entry.wcet()) * u64::from(calls);
+        return u64::from(entry.wcet()) * u64::from(calls + 1);
     }
-    further(entry, t)
+    urgent_share(entry, t)
 }
 
 /// An entry in its group, with what its demand counts.
@@ -85,21 +86,18 @@ impl<'a, E: Entry> Test<'a, E> {
         self.demand(deadline) <= u64::from(deadline) || self.is_met_from(self.earliest())
     }
 
-    /// What has to run by `t`: all that runs once, which the start counts, and
-    /// what runs again. On its own level nothing does without remote calls.
+    /// What has to run by `t`.
     fn demand(&self, t: u32) -> u64 {
         let calls = self.own.calls();
-        let mut sum = self.start;
+        let mut sum = u64::from(self.own.wcet()) + u64::from(self.own.blocking());
         for entry in self.urgent {
-            sum += further(entry, t);
+            sum += urgent_share(entry, t);
         }
-        if calls > 0 {
-            for entry in self.before {
-                sum += further_beside(entry, calls, t);
-            }
-            for entry in self.behind {
-                sum += further_beside(entry, calls, t);
-            }
+        for entry in self.before {
+            sum += beside_share(entry, calls, t);
+        }
+        for entry in self.behind {
+            sum += beside_share(entry, calls, t);
         }
         sum
     }
