@@ -1,17 +1,17 @@
 -- What the program answers and writes, against the map of the node.
-use Prim.Native.Nat.{ℕ, _-_, _≤_, _<_}
+use Prim.Native.Nat.{ℕ, _≤_, _<_}
 use mathlib.Core.Path.{_≡_, refl, sym, _∙_, ap}
 use mathlib.Core.Option.{none}
 use mathlib.Core.List.{List, _++_}
 use native.Mathlib.Omega.{arith}
-use lib.ListN.{length, take, drop, length-map}
-use lib.Seq.{length-take-le}
+use lib.ListN.{length, drop}
 use Rattle.task_model.specs.Limits.{Node, NodeHolds}
 use Rattle.task_model.specs.Refusals.{at}
 use Rattle.task_model.specs.Answers.{Answer, gives, refuses, left}
 use Rattle.level_map.specs.Map.{theMap}
 use Rattle.level_map.specs.Answer.{heldAnswer, mapOf, NodeDemand3}
-use Rattle.level_map.specs.Groups.{levelsByRank, RanksMap}
+use Rattle.level_map.specs.Cuts.{levelsOfCuts, CutsOf}
+use Rattle.level_map.proofs.Cutting.{length-levels}
 use Rattle.level_map.proofs.Theorems.{held-short, held-map, held-none, demand-three}
 
 -- The answer `a`, with the buffer `before` the call and `after` it, is right: by the definition, and so by promise 3.
@@ -32,12 +32,10 @@ module _ (n : Node) (holds : NodeHolds n) (before : List ℕ) where
       → Right n (refuses (at 11 0 0)) before before
   right-none h p = right _ before (sym (held-none n (length before) h p)) refl
 
-  -- a map by its ranks: the count of groups, and a level for each entry
-  pub right-map : (count groups : ℕ) (ranks after : List ℕ) → length (n .entries) ≡ count → count ≤ length before
-      → RanksMap (theMap (n .entries) (n .levels)) count (n .levels) groups ranks
-      → after ≡ levelsByRank groups (take count ranks) ++ drop count before → Right n (gives groups) before after
-  right-map count groups ranks after e fits r q =
-      let m = levelsByRank groups (take count ranks) in
-      let h = held-map n (length before) (omega arith) m (r .found) in
-      let long : length m ≡ count = length-map (take count ranks) (λ x. groups - x) ∙ length-take-le count ranks (r .each) in
-      right (gives groups) after (sym (h .0 ∙ ap gives (r .counted))) (rw (h .1, long) q)
+  -- a map by its cuts: the count of groups, and a level for each entry
+  pub right-map : (count : ℕ) (s after : List ℕ) → length (n .entries) ≡ count → count ≤ length before
+      → CutsOf (theMap (n .entries) (n .levels)) count (n .levels) s
+      → after ≡ levelsOfCuts s count ++ drop count before → Right n (gives (length s)) before after
+  right-map count s after e fits r q =
+      let h = held-map n (length before) (omega arith) (levelsOfCuts s count) (r .levels) in
+      right (gives (length s)) after (sym (h .0 ∙ ap gives (r .counted))) (rw (h .1, length-levels s count (r .falling)) q)

@@ -7,17 +7,17 @@ use mathlib.Core.Option.{none, some, Option·map, Option·none-ne-some}
 use mathlib.Core.List.{List}
 use mathlib.Core.Logic.{_⊎_, inl, inr, ⊎-elim, _↔_}
 use native.Mathlib.Omega.{arith}
-use lib.ListN.{length}
-use Rattle.level_map.specs.Assignments.{Assignment, levelsUsed}
+use Rattle.level_map.specs.Assignments.{Assignment}
 use Rattle.level_map.specs.Map.{Chosen, maps, firstOf}
+use Rattle.level_map.specs.Cuts.{levelsOfCuts, CutsOf}
 use Rattle.level_map.proofs.Tests.{by-test}
 use Rattle.level_map.proofs.Levels.{rising-wider, assignment-rising, rising-assignment}
 use Rattle.level_map.proofs.Maps.{map-full}
 use Rattle.level_map.proofs.Search.{greedy}
-use Rattle.level_map.proofs.Optimal.{InTime, cutLevels, Best, search-best, unique}
+use Rattle.level_map.proofs.Optimal.{InTime, Best, search-best, unique}
 use Rattle.level_map.proofs.Choice.{choice-none, choice-first}
 
-wider : {c n : ℕ} {a : List ℕ} (most : ℕ) → c ≤ most → Assignment n c a → Assignment n most a
+pub wider : {c n : ℕ} {a : List ℕ} (most : ℕ) → c ≤ most → Assignment n c a → Assignment n most a
 wider {c} {n} {a} most h s = rising-assignment n most a (s .each) (rising-wider 1 c 1 most a (omega arith) h (assignment-rising s))
 
 chosen-same : {P Q : List ℕ → Type 0} {most n : ℕ} {g : List ℕ} → ((a : List ℕ) → P a ↔ Q a) → Chosen P most n g → Chosen Q most n g
@@ -45,8 +45,8 @@ pub record GroupTest (n : ℕ) : Type 1 where
 
 module _ {n : ℕ} (t : GroupTest n) (most : ℕ) where
   -- The search finds cuts whose levels are the first map that passes, and the best; or no map and no assignment passes.
-  pub exact-cases : ((s : List ℕ) × (greedy (t .ok) most n ≡ some s) × (firstOf (t .test) (maps most n) ≡ some (cutLevels s n))
-      × (levelsUsed (cutLevels s n) ≡ length s) × Best (t .Passes) most n (cutLevels s n))
+  pub exact-cases : ((s : List ℕ) × (greedy (t .ok) most n ≡ some s) × CutsOf (firstOf (t .test) (maps most n)) n most s
+      × Best (t .Passes) most n (levelsOfCuts s n))
       ⊎ ((greedy (t .ok) most n ≡ none) × (firstOf (t .test) (maps most n) ≡ none)
       × ((a : List ℕ) → Assignment n most a → t .Passes a → ⊥))
   exact-cases =
@@ -54,9 +54,14 @@ module _ {n : ℕ} (t : GroupTest n) (most : ℕ) where
         | inl r ↦ inl (
           r .0,
           r .1,
-          choice-first (t .test) n most (cutLevels (r .0) n) (chosen-same (λ a. (t .tested a .1, t .tested a .0)) (r .3 .chosen)),
-          r .2,
-          r .3,
+          record {
+            levels =
+                choice-first (t .test) n most (levelsOfCuts (r .0) n) (chosen-same (λ a. (t .tested a .1, t .tested a .0)) (r .5 .chosen));
+            counted = r .4;
+            within = r .3;
+            falling = r .2;
+          },
+          r .5,
         )
         | inr r ↦ inr (
           r .0,
@@ -69,20 +74,20 @@ module _ {n : ℕ} (t : GroupTest n) (most : ℕ) where
         )
       ]
 
-  pub exact : firstOf (t .test) (maps most n) ≡ Option·map (λ s. cutLevels s n) (greedy (t .ok) most n)
-  exact = ⊎-elim (λ r. rw (r .1, r .2)) (λ r. rw (r .0, r .1)) exact-cases
+  pub exact : firstOf (t .test) (maps most n) ≡ Option·map (λ s. levelsOfCuts s n) (greedy (t .ok) most n)
+  exact = ⊎-elim (λ r. rw (r .1, r .2 .levels)) (λ r. rw (r .0, r .1)) exact-cases
 
   pub exact-best : (m : List ℕ) → firstOf (t .test) (maps most n) ≡ some m → Best (t .Passes) most n m
   exact-best m p =
       ⊎-elim
-      (λ r. let e : cutLevels (r .0) n ≡ m = cc (r .2) in rw e at (r .4))
+      (λ r. let e : levelsOfCuts (r .0) n ≡ m = cc (r .2 .levels) in rw e at (r .3))
       (λ r. absurd (Option·none-ne-some m (sym (r .1) ∙ p)))
       exact-cases
 
   pub exact-none : firstOf (t .test) (maps most n) ≡ none ↔ ((a : List ℕ) → Assignment n most a → t .Passes a → ⊥)
   exact-none = (
-    λ p. ⊎-elim (λ r. absurd (Option·none-ne-some _ (sym p ∙ r .2))) (λ r. r .2) exact-cases,
-    λ f. ⊎-elim (λ r. absurd (f _ (r .4 .assignment) (r .4 .chosen .passes))) (λ r. r .1) exact-cases,
+    λ p. ⊎-elim (λ r. absurd (Option·none-ne-some _ (sym p ∙ r .2 .levels))) (λ r. r .2) exact-cases,
+    λ f. ⊎-elim (λ r. absurd (f _ (r .3 .assignment) (r .3 .chosen .passes))) (λ r. r .1) exact-cases,
   )
 
   pub exact-chosen : (m : List ℕ) → firstOf (t .test) (maps most n) ≡ some m ↔ Chosen (t .Passes) most n m
@@ -90,7 +95,7 @@ module _ {n : ℕ} (t : GroupTest n) (most : ℕ) where
     λ p. exact-best m p .chosen,
     λ x.
         ⊎-elim
-        (λ r. r .2 ∙ ap some (unique (t .Passes) most n m (cutLevels (r .0) n) x (r .4 .chosen)))
+        (λ r. r .2 .levels ∙ ap some (unique (t .Passes) most n m (levelsOfCuts (r .0) n) x (r .3 .chosen)))
         (λ r. absurd (r .2 m (wider most (x .within) (map-full (x .isMap) .assignment)) (x .passes)))
         exact-cases,
   )

@@ -17,6 +17,7 @@ use Rattle.completion.proofs.Groups.{named-group}
 use Rattle.completion.proofs.Theorems.{alike, same-group, shrink}
 use Rattle.level_map.specs.Assignments.{levelOf, Assignment, NoneLate}
 use Rattle.level_map.specs.Groups.{onTimeIn}
+use Rattle.level_map.specs.Cuts.{Falling, levelsOfCuts}
 use Rattle.level_map.proofs.Levels.{
   before,
   before-length,
@@ -27,6 +28,7 @@ use Rattle.level_map.proofs.Levels.{
   own-level,
   assignment-rising,
 }
+use Rattle.level_map.proofs.Cutting.{rising-levels, full-cuts}
 use Rattle.level_map.proofs.Optimal.{InTime}
 
 -- Under an assignment, the group of an entry has the entries of its level: they stand after those of the levels below.
@@ -83,6 +85,19 @@ module _ (es : List Entry) where
   pub loses-end : AllHold es → (i a e e′ : ℕ) → a ≤ i → i < e′ → e′ ≤ e → e ≤ length es
       → onTimeIn es 0 i a e ≡ true → onTimeIn es 0 i a e′ ≡ true
   loses-end hold i a e e′ lo up le k t = shrink _ es hold a (e - 1) (e′ - 1) i lo (omega arith) (omega arith) (omega arith) t
+
+-- Under the levels of cuts, an entry of a group has the group's level and is timed in it.
+module _ (es : List Entry) (s : List ℕ) (f : Falling s (length es)) (l i : ℕ)
+    (lo : before l (levelsOfCuts s (length es)) ≤ i) (hi : i < before (suc l) (levelsOfCuts s (length es))) where
+  pub cut-level : levelOf (levelsOfCuts s (length es)) i ≡ l
+  cut-level = own-level 1 (length s) l (levelsOfCuts s (length es)) i (rising-levels s (length es)) lo hi
+
+  pub cut-timed : completionTest es (levelOf (levelsOfCuts s (length es))) i
+      ≡ completionTest es (groupLevel (before l (levelsOfCuts s (length es))) (before (suc l) (levelsOfCuts s (length es)) - 1)) i
+  cut-timed =
+      let a = full-cuts s (length es) f .assignment in
+      let h : i < length es = omega (arith, a .each, before-length (suc l) (levelsOfCuts s (length es))) in
+      rw cut-level at (group-test es a i h)
 
 -- Levels that do not fall along the n entries.
 abbrev Monotone : (ℕ → ℕ) → ℕ → Type 0

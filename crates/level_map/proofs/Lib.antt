@@ -6,12 +6,12 @@ pub mod Maps
 pub mod LastGroup
 pub mod Listing
 pub mod Choice
+pub mod Cutting
 pub mod Search
 pub mod Optimal
 pub mod Exact
 pub mod Grouping
 pub mod Theorems
-pub mod Ranking
 pub mod Loop
 pub mod Answers
 pub mod Cases

@@ -1,26 +1,23 @@
 -- The search's answer is the choice of 'The map', over any test of an entry in its group.
 use Prim.Native.Nat.{ℕ, zero, suc, _+_, _-_, _≤_, _<_, zero-le}
-use mathlib.Core.Path.{_≡_, refl, sym, _∙_, ap}
+use mathlib.Core.Path.{_≡_, sym, _∙_, ap}
 use mathlib.Core.Bool.{Bool, true}
 use mathlib.Core.Option.{none, some, Option·none-ne-some}
-use mathlib.Core.List.{List, [], _∷_, _++_}
+use mathlib.Core.List.{List, [], _∷_}
 use mathlib.Core.Logic.{_⊎_, inl, inr, by-cases, _↔_}
 use native.Mathlib.Omega.{arith}
 use native.Mathlib.Decide.{decLt, decLe, ℕ-discrete}
-use lib.ListN.{length, getD, replicate, length-append, length-replicate}
+use lib.ListN.{length, getD}
 use lib.Dec.{ltb}
 use borrow.Author.Tests.{ltb-true, ltb-false}
 use Rattle.level_map.specs.Assignments.{levelOf, Assignment, sizeOf, levelsUsed}
 use Rattle.level_map.specs.Map.{IsMap, Longer, Chosen}
+use Rattle.level_map.specs.Cuts.{Falling, levelsOfCuts}
 use Rattle.level_map.proofs.Tests.{by-test}
 use Rattle.level_map.proofs.Search.{groupOk, greedy, group-each, group-of, Cuts, greedy-cases, greedy-more, Leads, leads}
-use Rattle.level_map.proofs.Levels.{before, above, Rising, before-suc, above-before, before-zero, before-length, before-append, before-same, rising-wider, rising-append, rising-same, before-none, before-all, own-low, own-high, own-level, same-before, used-levels, used-le, starts, length-starts, starts-map, assignment-rising, rising-assignment}
+use Rattle.level_map.proofs.Levels.{before, above, Rising, before-suc, above-before, before-zero, before-length, rising-wider, before-none, before-all, own-low, own-high, own-level, same-before, used-levels, used-le, starts, length-starts, starts-map, assignment-rising, rising-assignment}
 use Rattle.level_map.proofs.Maps.{Full, full-used, full-map, map-full}
-
--- The levels of a list of group starts, least urgent group first, that ends before `e`.
-abbrev pub cutLevels : List ℕ → ℕ → List ℕ
-cutLevels [] e = []
-cutLevels (a ∷ s) e = cutLevels s a ++ replicate (e - a) (suc (length s))
+use Rattle.level_map.proofs.Cutting.{rising-levels, before-low, before-top, before-levels, full-cuts}
 
 -- How many entries the k least urgent groups of a map hold together.
 abbrev pub leastUrgent : ℕ → List ℕ → ℕ
@@ -69,37 +66,12 @@ module _ (ok : ℕ → ℕ → ℕ → Bool) where
       let e : before (suc hi) a ≡ n = before-all 1 hi (suc hi) a r (omega arith) ∙ s .each in
       rw e at (starts-cuts hi a r (groups-of hi n a (s .each) r t) hi)
 
-  -- the levels of cuts
-  length-levels : (s : List ℕ) (e : ℕ) → Cuts ok s e → length (cutLevels s e) ≡ e
-  length-levels [] e c = sym c
-  length-levels (a ∷ s) e c =
-      omega (
-        arith,
-        length-append (cutLevels s a) (replicate (e - a) (suc (length s))),
-        length-levels s a (c .2),
-        length-replicate (e - a) (suc (length s)),
-      )
+  falling : (s : List ℕ) (e : ℕ) → Cuts ok s e → Falling s e
+  falling [] e c = c
+  falling (a ∷ s) e c = (c .0, falling s a (c .2))
 
-  rising-levels : (s : List ℕ) (e : ℕ) → Rising 1 (length s) (cutLevels s e)
-  rising-levels [] e = tt
-  rising-levels (a ∷ s) e =
-      rising-append 1 (suc (length s)) (cutLevels s a) (replicate (e - a) (suc (length s))) (omega arith)
-      (rising-wider 1 (length s) 1 (suc (length s)) (cutLevels s a) (omega arith) (omega arith) (rising-levels s a))
-      (rising-same (suc (length s)) (e - a))
-
-  -- the entries before a level: those of the first groups, all before the last level, and all
-  before-low : (a e : ℕ) (s : List ℕ) (l : ℕ) → l ≤ suc (length s) → before l (cutLevels (a ∷ s) e) ≡ before l (cutLevels s a)
-  before-low a e s l h =
-      omega (
-        arith,
-        before-append l (cutLevels s a) (replicate (e - a) (suc (length s))),
-        before-same l (suc (length s)) (e - a) h,
-      )
-
-  before-top : (s : List ℕ) (e l : ℕ) → Cuts ok s e → length s < l → before l (cutLevels s e) ≡ e
-  before-top s e l c h = omega (arith, before-all 1 (length s) l (cutLevels s e) (rising-levels s e) h, length-levels s e c)
-
-  groups-levels : (s : List ℕ) (e : ℕ) → Cuts ok s e → Groups (cutLevels s e)
+  -- the groups of cuts
+  groups-levels : (s : List ℕ) (e : ℕ) → Cuts ok s e → Groups (levelsOfCuts s e)
   groups-levels [] e c l = group-empty 0 0 (omega arith)
   groups-levels (a ∷ s) e c l =
       by-cases (decLe l (length s))
@@ -107,43 +79,12 @@ module _ (ok : ℕ → ℕ → ℕ → Bool) where
       (λ z. by-cases (ℕ-discrete l (suc (length s)))
       (λ y.
       group-at
-      (before-low a e s l (omega arith) ∙ before-top s a l (c .2) (omega arith))
-      (before-top (a ∷ s) e (suc l) c (omega arith))
+      (before-low a e s l (omega arith) ∙ before-top s a l (falling s a (c .2)) (omega arith))
+      (before-top (a ∷ s) e (suc l) (falling (a ∷ s) e c) (omega arith))
       (c .1))
       (λ z′.
       group-empty _ _
-      (omega (arith, before-top (a ∷ s) e (suc l) c (omega arith), before-top (a ∷ s) e l c (omega arith)))))
-
-  full-levels : (s : List ℕ) (e : ℕ) → Cuts ok s e → (l : ℕ) → 1 ≤ l → l ≤ length s → 1 ≤ sizeOf l (cutLevels s e)
-  full-levels [] e c l h k = absurd (omega arith)
-  full-levels (a ∷ s) e c l h k =
-      by-cases (decLe l (length s))
-      (λ y.
-      omega (
-        arith,
-        before-suc l (cutLevels (a ∷ s) e),
-        before-suc l (cutLevels s a),
-        before-low a e s l (omega arith),
-        before-low a e s (suc l) (omega arith),
-        full-levels s a (c .2) l h y,
-      ))
-      (λ z.
-      omega (
-        arith,
-        before-suc l (cutLevels (a ∷ s) e),
-        before-low a e s l (omega arith),
-        before-top s a l (c .2) (omega arith),
-        before-top (a ∷ s) e (suc l) c (omega arith),
-      ))
-
-  before-levels : (s : List ℕ) (e : ℕ) → Cuts ok s e → (j : ℕ) → before (length s - j) (cutLevels s e) ≡ getD s j 0
-  before-levels [] e c j = refl
-  before-levels (a ∷ s) e c zero =
-      let e′ : suc (length s) - 0 ≡ suc (length s) = omega arith in
-      rw e′ (before-low a e s (suc (length s)) (omega arith) ∙ before-top s a (suc (length s)) (c .2) (omega arith))
-  before-levels (a ∷ s) e c (suc j) =
-      let e′ : suc (length s) - suc j ≡ length s - j = omega arith in
-      rw e′ (before-low a e s (length s - j) (omega arith) ∙ before-levels s a (c .2) j)
+      (omega (arith, before-top (a ∷ s) e (suc l) (falling (a ∷ s) e c) (omega arith), before-top (a ∷ s) e l (falling (a ∷ s) e c) (omega arith)))))
 
 -- where two lists of levels first differ, from the least urgent level upward
 differ : (g m : List ℕ) → ((l : ℕ) → before l g ≤ before l m)
@@ -190,16 +131,19 @@ module _ (ok : ℕ → ℕ → ℕ → Bool) (n : ℕ)
 
   module _ (L : ℕ) (s : List ℕ) (q : greedy ok L n ≡ some s) (c : Cuts ok s n) (h : length s ≤ L) where
     abbrev g : List ℕ
-    g = cutLevels s n
+    g = levelsOfCuts s n
+
+    g-falls : Falling s n
+    g-falls = falling ok s n c
 
     g-rising : Rising 1 (length s) g
-    g-rising = rising-levels ok s n
-
-    g-long : length g ≡ n
-    g-long = length-levels ok s n c
+    g-rising = rising-levels s n
 
     g-map : Full (length s) n g
-    g-map = record { assignment = rising-assignment n (length s) g g-long g-rising; full = full-levels ok s n c }
+    g-map = full-cuts s n g-falls
+
+    g-long : length g ≡ n
+    g-long = g-map .assignment .each
 
     g-used : levelsUsed g ≡ length s
     g-used = full-used g-map
@@ -217,7 +161,7 @@ module _ (ok : ℕ → ℕ → ℕ → Bool) (n : ℕ)
 
     lead : (k : ℕ) (m : List ℕ) → Full k n m → Passes m → (j : ℕ) → before (length s - j) g ≤ before (k - j) m
     lead k m i t j =
-        omega (arith, before-levels ok s n c j, few k m (i .assignment) t .1 j, starts-map k m (i .full) k (omega arith) j)
+        omega (arith, before-levels s n g-falls j, few k m (i .assignment) t .1 j, starts-map k m (i .full) k (omega arith) j)
 
     lead-all : (m : List ℕ) → Full (length s) n m → Passes m → (l : ℕ) → before l g ≤ before l m
     lead-all m i t l =
@@ -228,7 +172,7 @@ module _ (ok : ℕ → ℕ → ℕ → Bool) (n : ℕ)
         (λ z.
         omega (
           arith,
-          before-top ok s n l c (omega arith),
+          before-top s n l g-falls (omega arith),
           before-all 1 (length s) l m (assignment-rising (i .assignment)) (omega arith),
           i .assignment .each,
         ))
@@ -238,7 +182,7 @@ module _ (ok : ℕ → ℕ → ℕ → Bool) (n : ℕ)
         let r = assignment-rising (i .assignment) in
         let e = i .assignment .each in
         elim (differ g m (lead-all m i t) (suc (length s))
-        (λ j y. before-top ok s n j c y ∙ sym (before-all 1 (length s) j m r y ∙ e))) [
+        (λ j y. before-top s n j g-falls y ∙ sym (before-all 1 (length s) j m r y ∙ e))) [
           | inl f ↦ inl (sym (same-before (length s) (length s) g m g-rising r (g-long ∙ sym e) f))
           | inr r ↦ inr (
             r .0,
@@ -287,11 +231,19 @@ module _ (ok : ℕ → ℕ → ℕ → Bool) (n : ℕ)
   -- The search's answer: the levels of the cuts that it finds are the best map, and where it finds none, no assignment
   -- passes.
   pub search-best : (L : ℕ)
-      → ((s : List ℕ) × (greedy ok L n ≡ some s) × (levelsUsed (cutLevels s n) ≡ length s) × Best Passes L n (cutLevels s n))
+      → ((s : List ℕ) × (greedy ok L n ≡ some s) × Falling s n × (length s ≤ L) × (levelsUsed (levelsOfCuts s n) ≡ length s)
+      × Best Passes L n (levelsOfCuts s n))
       ⊎ ((greedy ok L n ≡ none) × ((a : List ℕ) → Assignment n L a → Passes a → ⊥))
   search-best L =
       elim (greedy-cases ok L n) [
-        | inl r ↦ inl (r .0, r .1, g-used L (r .0) (r .1) (r .2) (r .3), best L (r .0) (r .1) (r .2) (r .3))
+        | inl r ↦ inl (
+          r .0,
+          r .1,
+          falling ok (r .0) n (r .2),
+          r .3,
+          g-used L (r .0) (r .1) (r .2) (r .3),
+          best L (r .0) (r .1) (r .2) (r .3),
+        )
         | inr r ↦ inr (r, none-passes L r)
       ]
 

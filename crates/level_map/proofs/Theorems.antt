@@ -1,7 +1,7 @@
 -- The theorems of the map of a node.
 use Prim.Native.Nat.{ℕ, zero, suc, _≤_, _<_}
 use mathlib.Core.Path.{_≡_, refl}
-use mathlib.Core.Bool.{true, false, false≢true}
+use mathlib.Core.Bool.{Bool, true, false, false≢true}
 use mathlib.Core.Option.{none, some}
 use mathlib.Core.List.{List, [], _++_}
 use mathlib.Core.Logic.{_⊎_, inl, inr, by-cases, ⊎-elim, _↔_}
@@ -18,12 +18,13 @@ use Rattle.completion.specs.Test.{completionTest, isOnTime}
 use Rattle.level_map.specs.Assignments.{levelOf, Assignment, NoneLate, Passing, levelsUsed}
 use Rattle.level_map.specs.Map.{IsMap, Chosen, maps, mapsWith, firstOf, noneLateTo, passTest, theMap}
 use Rattle.level_map.specs.Answer.{mapOf, heldCheck, heldAnswer, Mapping, NodeDemand3}
-use Rattle.level_map.specs.Groups.{onTimeIn}
+use Rattle.level_map.specs.Groups.{added, onTimeIn}
+use Rattle.level_map.specs.Cuts.{levelsOfCuts, CutsOf}
 use Rattle.level_map.proofs.Tests.{by-test}
 use Rattle.level_map.proofs.Search.{greedy}
-use Rattle.level_map.proofs.Optimal.{cutLevels, leastUrgent, Best}
+use Rattle.level_map.proofs.Optimal.{leastUrgent, Best}
 use Rattle.level_map.proofs.Choice.{first-left}
-use Rattle.level_map.proofs.Exact.{GroupTest, exact-cases, exact-best, exact-none, exact-chosen}
+use Rattle.level_map.proofs.Exact.{GroupTest, wider, exact-cases, exact-best, exact-none, exact-chosen}
 use Rattle.level_map.proofs.Grouping.{grouped, loses-end}
 
 late-to : (es : List Entry) (a : List ℕ) (n : ℕ) → noneLateTo es a n ≡ true
@@ -48,11 +49,15 @@ pub pass-none-late : (es : List Entry) (a : List ℕ) → passTest es a ≡ true
 unfolding passTest
 pass-none-late es a = (late-to es a (length es), late-of es a (length es))
 
+-- What the search asks of the entry at i, in the group from `first` up to `end`.
+abbrev pub asked : List Entry → ℕ → ℕ → ℕ → Bool
+asked es i first end = onTimeIn es (added end) i first end
+
 -- The test of a node's maps.
 abbrev pub nodeTest : (es : List Entry) → AllHold es → (n : ℕ) → length es ≡ n → GroupTest n
 nodeTest es hold n e =
     record {
-      ok = onTimeIn es 0;
+      ok = asked es;
       shrink = λ i a k k′ lo up h fits t. loses-end es hold i a k k′ lo up h (omega arith) t;
       Passes = NoneLate es;
       grouped = rw (← e) (grouped es);
@@ -70,9 +75,9 @@ not-both p = let z : _≡_ {A = ℕ} 0 1 = cc in omega arith
 
 module _ (es : List Entry) (hold : AllHold es) (most : ℕ) where
   -- The search finds cuts whose levels are the map, and the best; or there is no map, and no assignment passes.
-  pub map-cases : ((s : List ℕ) × (greedy (onTimeIn es 0) most (length es) ≡ some s) × (theMap es most ≡ some (cutLevels s (length es)))
-      × (levelsUsed (cutLevels s (length es)) ≡ length s) × Best (NoneLate es) most (length es) (cutLevels s (length es)))
-      ⊎ ((greedy (onTimeIn es 0) most (length es) ≡ none) × (theMap es most ≡ none)
+  pub map-cases : ((s : List ℕ) × (greedy (asked es) most (length es) ≡ some s) × CutsOf (theMap es most) (length es) most s
+      × Best (NoneLate es) most (length es) (levelsOfCuts s (length es)))
+      ⊎ ((greedy (asked es) most (length es) ≡ none) × (theMap es most ≡ none)
       × ((a : List ℕ) → Assignment (length es) most a → NoneLate es a → ⊥))
   unfolding theMap
   map-cases =
@@ -112,6 +117,46 @@ module _ (es : List Entry) (hold : AllHold es) (most : ℕ) where
         fewest = λ a x. b .fewest a (x .assignment) (x .inTime);
       }
 
+-- With fewer levels a node keeps its map, if that uses few enough, and has none otherwise.
+module _ (es : List Entry) (hold : AllHold es) (most fewer : ℕ) (h : fewer ≤ most) where
+  pub map-fewer : (m : List ℕ) → theMap es most ≡ some m → levelsUsed m ≤ fewer → theMap es fewer ≡ some m
+  map-fewer m p few =
+      let x = map-chosen es hold most m .0 p in
+      map-chosen es hold fewer m .1
+      (record {
+        isMap = x .isMap;
+        passes = x .passes;
+        within = few;
+        fewest = λ a i t l. x .fewest a i t (omega arith);
+        longest = x .longest;
+      })
+
+  pub map-too-few : (m : List ℕ) → theMap es most ≡ some m → fewer < levelsUsed m → theMap es fewer ≡ none
+  map-too-few m p many =
+      let x = map-chosen es hold most m .0 p in
+      ⊎-elim
+      (λ r.
+      let c = r .3 .chosen in
+      absurd (omega (arith, c .within, x .fewest (levelsOfCuts (r .0) (length es)) (c .isMap) (c .passes) (omega (arith, c .within)))))
+      (λ r. r .1)
+      (map-cases es hold fewer)
+
+  pub none-fewer : theMap es most ≡ none → theMap es fewer ≡ none
+  none-fewer p =
+      map-none es hold fewer .1
+      (λ a x. map-none es hold most .0 p a (record { assignment = wider most h (x .assignment); inTime = x .inTime }))
+
+  -- So the search for fewer levels finds the same cuts, if they are few enough.
+  pub cuts-fewer : (s : List ℕ) → CutsOf (theMap es most) (length es) most s → length s ≤ fewer
+      → CutsOf (theMap es fewer) (length es) fewer s
+  cuts-fewer s x few =
+      record {
+        levels = map-fewer _ (x .levels) (omega (arith, x .counted));
+        counted = x .counted;
+        within = few;
+        falling = x .falling;
+      }
+
 -- What a node at hand is answered: 10, or by its map.
 module _ (n : Node) (room : ℕ) where
   pub held-short : room < length (n .entries) → heldAnswer n room ≡ refuses (at 10 0 0)
@@ -133,9 +178,9 @@ pub demand-three : (n : Node) → AllHold (n .entries) → (buffer : List ℕ)
 demand-three n hold buffer fits =
     ⊎-elim
     (λ r.
-    let m = cutLevels (r .0) (length (n .entries)) in
-    let h = held-map n (length buffer) fits m (r .2) in
-    let d = mapping (n .entries) hold (n .levels) m (r .2) in
+    let m = levelsOfCuts (r .0) (length (n .entries)) in
+    let h = held-map n (length buffer) fits m (r .2 .levels) in
+    let d = mapping (n .entries) hold (n .levels) m (r .2 .levels) in
     let front : take (length (n .entries)) (m ++ drop (length m) buffer) ≡ m =
     take-at m (drop (length m) buffer) (length (n .entries)) (d .passing .assignment .each) in
     rw (h .0, h .1, front)

@@ -1,14 +1,15 @@
 // The map of a node: each entry's level, on as few levels as the deadlines allow.
 ghost use mathlib.Core.Path.{_≡_};
-ghost use mathlib.Core.List.{_++_};
-ghost use Prim.Native.Nat.{ℕ, _-_, _≤_, _<_};
+ghost use mathlib.Core.List.{_∷_, _++_};
+ghost use Prim.Native.Nat.{_-_, _≤_};
 ghost use lib.ListN.{length, getD, take, drop, replicate};
 ghost use Rattle.task_model.specs.Limits.{mostTicks, mostEntries, AllHold, NodeHolds};
 ghost use Rattle.task_model.specs.Answers.{left};
 ghost use Rattle.task_model.specs.Words.{entriesOf, nodeOf};
 ghost use Rattle.level_map.specs.Map.{theMap};
 ghost use Rattle.level_map.specs.Answer.{answer, heldAnswer, mapOf, NodeDemand3};
-ghost use Rattle.level_map.specs.Groups.{GroupPasses, LeastStart, levelsByRank, Ranked};
+ghost use Rattle.level_map.specs.Groups.{GroupPasses, LeastStart};
+ghost use Rattle.level_map.specs.Cuts.{Falling, levelsOfCuts, CutAnswer};
 use completion::Ending;
 use completion::behind_late;
 use completion::ends_on_time;
@@ -24,9 +25,9 @@ pub enum MappedNode {
     Refused(Refusal),
 }
 
-// How many groups the search made, or that no map passes.
-enum Mapped {
-    Levels(u8),
+// Into how many groups a node's map cuts it, or that no map passes.
+pub enum Cut {
+    Groups(u8),
     NoMap,
 }
 
@@ -63,50 +64,68 @@ fn least_start(words: &NodeWords, count: usize, end: usize, added: u32) -> Start
     Start::Nowhere
 }
 
-// Gives the entries from `start` up to `end` the rank of their group.
-fn set_rank(ranks: &mut [u8; MOST_ENTRIES], start: usize, end: usize, rank: u8)
-    requires { ⌜ (start ≤ end) × (end ≤ mostEntries) × (length (now ranks) ≡ mostEntries) ⌝ }
-    ensures { λ a. ⌜ now (ranks .exit) ≡ take start (now (ranks .entry)) ++ (replicate (end - start) rank ++ drop end (now (ranks .entry))) ⌝ }
-{
-    for j in start..end {
-        ranks[j] = rank;
-    }
-}
-
-// Groups the entries from the least urgent end, each group as long as it can be, on at most `levels` levels; ranks are
-// counted from 0 at that end.
-fn rank_groups(
-    words: &NodeWords,
-    count: usize,
-    levels: u8,
-    ranks: &mut [u8; MOST_ENTRIES],
-) -> Mapped
-    requires { ⌜ AllHold (entriesOf (now words) count) ⌝ ∗ ⌜ (count ≤ mostEntries) × (length (now ranks) ≡ mostEntries) ⌝ }
-    ensures { λ a. ⌜ Ranked (theMap (entriesOf (now (words .entry)) count) levels) count levels a (now (ranks .exit)) ⌝ }
+// Cuts a node into the groups of its map, on at most `most` levels: from the least urgent end, each group as long as it can
+// be. Leaves where each group starts at the front of `cuts`, the least urgent first, so that the last start is 0; with fewer
+// levels the cuts are the same, or too many.
+pub fn find_cuts(words: &NodeWords, count: usize, most: u8, cuts: &mut [u8; MOST_ENTRIES]) -> Cut
+    requires { ⌜ AllHold (entriesOf (now words) count) ⌝ ∗ ⌜ (count ≤ mostEntries) × (length (now cuts) ≡ mostEntries) ⌝ }
+    ensures { λ a. ⌜ CutAnswer (theMap (entriesOf (now (words .entry)) count) most) count most a (now (cuts .exit)) ⌝ }
 {
     let mut end = count;
     let mut groups: u8 = 0;
     while 0 < end {
-        if levels <= groups {
-            return Mapped::NoMap;
+        if most <= groups {
+            return Cut::NoMap;
         }
+        // Blocking times are given: the end of a group adds nothing to them.
         let Start::At(start) = least_start(words, count, end, 0) else {
-            return Mapped::NoMap;
+            return Cut::NoMap;
         };
-        set_rank(ranks, start, end, groups);
+        cuts[groups as usize] = start as u8;
         groups += 1;
         end = start;
     }
-    Mapped::Levels(groups)
+    Cut::Groups(groups)
 }
 
-// Writes each entry's level; the bytes beyond are kept.
-fn write_levels(ranks: &[u8; MOST_ENTRIES], count: usize, groups: u8, out: &mut [u8])
-    requires { ⌜ (count ≤ length (now ranks)) × (count ≤ mostEntries) × (count ≤ length (now out)) ⌝ ∗ ⌜ ((j : ℕ) → j < count → getD (now ranks) j 0 ≤ groups) ⌝ }
-    ensures { λ a. ⌜ now (out .exit) ≡ levelsByRank groups (take count (now (ranks .entry))) ++ drop count (now (out .entry)) ⌝ }
+// A position that an array of cuts holds.
+fn position(cut: u8) -> usize
+    ensures { λ p. ⌜ p ≡ cut ⌝ }
 {
-    for j in 0..count {
-        out[j] = groups - ranks[j];
+    cut as usize
+}
+
+// Where the group that starts at `cuts[g]` ends: where the next less urgent one starts, or behind the last entry.
+pub fn group_end(cuts: &[u8; MOST_ENTRIES], g: u8, count: usize) -> usize
+    requires { ⌜ g ≤ mostEntries ⌝ }
+    ensures { λ e. ⌜ e ≡ getD (count ∷ now (cuts .entry)) g 0 ⌝ }
+{
+    if g == 0 {
+        return count;
+    }
+    position(cuts[g as usize - 1])
+}
+
+// Writes the level of a group at its entries, those from `start` up to `end`.
+fn fill_level(out: &mut [u8], start: usize, end: usize, level: u8)
+    requires { ⌜ (start ≤ end) × (end ≤ length (now out)) ⌝ }
+    ensures { λ a. ⌜ now (out .exit) ≡ take start (now (out .entry)) ++ (replicate (end - start) level ++ drop end (now (out .entry))) ⌝ }
+{
+    for j in start..end {
+        out[j] = level;
+    }
+}
+
+// Writes each entry's level, group by group; the bytes beyond are kept.
+fn write_levels(cuts: &[u8; MOST_ENTRIES], groups: u8, count: usize, out: &mut [u8])
+    requires { ⌜ (groups ≤ length (now cuts)) × (count ≤ mostEntries) × (count ≤ length (now out)) ⌝ ∗ ⌜ Falling (take groups (now cuts)) count ⌝ }
+    ensures { λ a. ⌜ now (out .exit) ≡ levelsOfCuts (take groups (now (cuts .entry))) count ++ drop count (now (out .entry)) ⌝ }
+{
+    let mut end = count;
+    for g in 0..groups {
+        let start = cuts[g as usize] as usize;
+        fill_level(out, start, end, groups - g);
+        end = start;
     }
 }
 
@@ -121,10 +140,10 @@ pub fn map_held(words: &NodeWords, count: usize, levels: u8, out: &mut [u8]) -> 
     if out.len() < count {
         return MappedNode::Refused(Refusal::ShortBuffer);
     }
-    let mut ranks = [0u8; MOST_ENTRIES];
-    let Mapped::Levels(groups) = rank_groups(words, count, levels, &mut ranks) else {
+    let mut cuts = [0u8; MOST_ENTRIES];
+    let Cut::Groups(groups) = find_cuts(words, count, levels, &mut cuts) else {
         return MappedNode::Refused(Refusal::NoMap);
     };
-    write_levels(&ranks, count, groups, out);
+    write_levels(&cuts, groups, count, out);
     MappedNode::Levels(groups)
 }

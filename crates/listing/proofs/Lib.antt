@@ -1,7 +1,7 @@
 -- Laws of the listing.
 pub mod Lines
 pub mod Texts
-pub mod Mapped
+pub mod Grouped
 pub mod Cases
 pub mod Long
 pub mod Inside

@@ -4,10 +4,10 @@ mod aside;
 
 pub use aside::list_plan;
 ghost use mathlib.Core.Path.{_≡_};
-ghost use Prim.Native.Nat.{_+_, _*_, _≤_, _<_};
-ghost use lib.ListN.{length};
+ghost use Prim.Native.Nat.{_+_, _-_, _*_, _≤_, _<_};
+ghost use lib.ListN.{length, take};
 ghost use Rattle.task_model.specs.Refusals.{numbered, accepted};
-ghost use Rattle.task_model.specs.Limits.{mostEntries, AllHold};
+ghost use Rattle.task_model.specs.Limits.{mostEntries, entryAt, AllHold};
 ghost use Rattle.task_model.specs.Words.{entriesOf};
 ghost use mathlib.Core.List.{_++_};
 ghost use Rattle.text.specs.Text.{Wrote, Upto};
@@ -15,12 +15,17 @@ ghost use Rattle.text.specs.Decimal.{decimal};
 ghost use Rattle.plan_file.specs.Check.{fileCheck};
 ghost use Rattle.plan_file.specs.Decoding.{planIn, nodeCount};
 ghost use Rattle.plan_file.specs.Find.{rowIn, nodeOfRow};
-ghost use Rattle.level_timing.specs.Levels.{NeverFalls};
+ghost use Rattle.completion.specs.Group.{groupLevel, InGroup};
+ghost use Rattle.completion.specs.Test.{completionTest};
+ghost use Rattle.level_map.specs.Cuts.{Falling, levelsOfCuts};
+ghost use Rattle.listing.specs.Groups.{timedLine, groupText};
 ghost use Rattle.listing.specs.Lines.{planLine, nodeLine, noMapLine, entryLine, refusedLine};
-ghost use Rattle.listing.specs.Room.{planMost};
-ghost use Rattle.listing.specs.Listing.{entryText, entriesText, nodeText, nodesText, listing};
+ghost use Rattle.listing.specs.Room.{nodeMost, planMost};
+ghost use Rattle.listing.specs.Listing.{entriesText, nodeText, nodesText, listing};
 use completion::Timing;
-use level_map::MappedNode;
+use completion::completion_test;
+use level_map::Cut;
+use level_map::group_end;
 use task_model::MOST_ENTRIES;
 use task_model::NODE_WORDS;
 use task_model::NodeWords;
@@ -140,75 +145,106 @@ fn put_refused_line(out: &mut [u8], at: usize, r: Refusal) -> usize
     put_bytes(out, next, b"\n")
 }
 
-// The line of the entry at `i` under the levels of a map.
+// The line of the entry at `i`, in the group from `first` to `last` on a level.
 fn put_entry(
     words: &NodeWords,
     count: usize,
-    levels: &[u8; MOST_ENTRIES],
+    first: usize,
+    last: usize,
     i: usize,
+    level: u8,
     out: &mut [u8],
     at: usize,
 ) -> usize
-    requires { ⌜ AllHold (entriesOf (now words) count) ⌝ ∗ ⌜ (i < count) × (count ≤ mostEntries) ⌝ ∗ ⌜ NeverFalls count (now levels) ⌝
-        ∗ ⌜ at + 56 ≤ length (now out) ⌝ }
+    requires { ⌜ AllHold (entriesOf (now words) count) ⌝ ∗ ⌜ InGroup count first last i ⌝ ∗ ⌜ at + 56 ≤ length (now out) ⌝ }
     ensures { λ end.
-        ⌜ Upto (now (out .entry)) at 56 (entryText (entriesOf (now (words .entry)) count) (now (levels .entry)) i)
+        ⌜ Upto (now (out .entry)) at 56
+        (timedLine (entryAt (entriesOf (now (words .entry)) count) i) level
+        (completionTest (entriesOf (now (words .entry)) count) (groupLevel first last) i))
         (now (out .exit)) end ⌝ }
 {
-    let Timing::OnTime { time, rounds } = level_timing::time_under(words, count, levels, i) else {
+    let Timing::OnTime { time, rounds } = completion_test(words, count, first, last, i) else {
         return at;
     };
     let e = task_model::entry_at(words, i);
-    put_entry_line(out, at, e.number, levels[i], time, rounds)
+    put_entry_line(out, at, e.number, level, time, rounds)
 }
 
-// The lines of a node's entries, in listed order.
-fn put_entries(
+// The lines of a group: the entries from `first` up to `end`, on a level.
+fn put_group(
     words: &NodeWords,
     count: usize,
-    levels: &[u8; MOST_ENTRIES],
+    first: usize,
+    end: usize,
+    level: u8,
     out: &mut [u8],
     at: usize,
 ) -> usize
-    requires { ⌜ AllHold (entriesOf (now words) count) ⌝ ∗ ⌜ count ≤ mostEntries ⌝ ∗ ⌜ NeverFalls count (now levels) ⌝
-        ∗ ⌜ at + 56 * count ≤ length (now out) ⌝ }
-    ensures { λ end.
-        ⌜ Upto (now (out .entry)) at (56 * count)
-        (entriesText (entriesOf (now (words .entry)) count) (now (levels .entry)) count) (now (out .exit)) end ⌝ }
+    requires { ⌜ AllHold (entriesOf (now words) count) ⌝ ∗ ⌜ (first ≤ end) × (end ≤ count) × (count ≤ mostEntries) ⌝
+        ∗ ⌜ at + 56 * (end - first) ≤ length (now out) ⌝ }
+    ensures { λ next.
+        ⌜ Upto (now (out .entry)) at (56 * (end - first))
+        (groupText (entriesOf (now (words .entry)) count) first (end - 1) level (end - first)) (now (out .exit)) next ⌝ }
 {
     let mut next = at;
-    for i in 0..count {
-        next = put_entry(words, count, levels, i, out, next);
+    for i in first..end {
+        next = put_entry(words, count, first, end - 1, i, level, out, next);
+    }
+    next
+}
+
+// The lines of a node's entries in listed order, group by group from where its map is cut; the most urgent group is the last
+// one in `cuts`.
+fn put_entries(
+    words: &NodeWords,
+    count: usize,
+    cuts: &[u8; MOST_ENTRIES],
+    groups: u8,
+    out: &mut [u8],
+    at: usize,
+) -> usize
+    requires { ⌜ AllHold (entriesOf (now words) count) ⌝ ∗ ⌜ (count ≤ mostEntries) × (groups ≤ length (now cuts)) ⌝
+        ∗ ⌜ Falling (take groups (now cuts)) count ⌝ ∗ ⌜ at + 56 * count ≤ length (now out) ⌝ }
+    ensures { λ end.
+        ⌜ Upto (now (out .entry)) at (56 * count)
+        (entriesText (entriesOf (now (words .entry)) count) (levelsOfCuts (take groups (now (cuts .entry))) count) count)
+        (now (out .exit)) end ⌝ }
+{
+    let mut next = at;
+    let mut first = 0;
+    for level in 0..groups {
+        let end = group_end(cuts, groups - 1 - level, count);
+        next = put_group(words, count, first, end, level + 1, out, next);
+        first = end;
     }
     next
 }
 
 // A node: its line and those of its entries, or that it has no map.
 fn put_node(file: &[u8], row: usize, out: &mut [u8], at: usize) -> usize
-    requires { ⌜ (fileCheck (now file) ≡ accepted) × (row < nodeCount (now file)) ⌝ ∗ ⌜ at + 3613 ≤ length (now out) ⌝ }
+    requires { ⌜ (fileCheck (now file) ≡ accepted) × (row < nodeCount (now file)) ⌝ ∗ ⌜ at + nodeMost ≤ length (now out) ⌝ }
     ensures { λ end.
-        ⌜ Upto (now (out .entry)) at 3613
+        ⌜ Upto (now (out .entry)) at nodeMost
         (nodeText (rowIn (planIn (now (file .entry)) .rows) row .number) (nodeOfRow (planIn (now (file .entry))) row))
         (now (out .exit)) end ⌝ }
 {
     let mut words = [0u32; NODE_WORDS];
-    let mut levels = [0u8; MOST_ENTRIES];
+    let mut cuts = [0u8; MOST_ENTRIES];
     let r = plan_file::load_node(file, row, &mut words);
     let count = r.count as usize;
-    let mapped = level_map::map_held(&words, count, r.levels, &mut levels);
-    let MappedNode::Levels(used) = mapped else {
+    let Cut::Groups(groups) = level_map::find_cuts(&words, count, r.levels, &mut cuts) else {
         return put_no_map_line(out, at, r.number);
     };
-    let next = put_node_line(out, at, r.number, used, r.levels);
-    put_entries(&words, count, &levels, out, next)
+    let next = put_node_line(out, at, r.number, groups, r.levels);
+    put_entries(&words, count, &cuts, groups, out, next)
 }
 
 // The first `nodes` nodes, in contents order.
 fn put_nodes(file: &[u8], nodes: usize, out: &mut [u8], at: usize) -> usize
     requires { ⌜ (fileCheck (now file) ≡ accepted) × (nodes ≤ nodeCount (now file)) ⌝
-        ∗ ⌜ at + 3613 * nodes ≤ length (now out) ⌝ }
+        ∗ ⌜ at + nodeMost * nodes ≤ length (now out) ⌝ }
     ensures { λ end.
-        ⌜ Upto (now (out .entry)) at (3613 * nodes) (nodesText (planIn (now (file .entry))) nodes) (now (out .exit)) end ⌝ }
+        ⌜ Upto (now (out .entry)) at (nodeMost * nodes) (nodesText (planIn (now (file .entry))) nodes) (now (out .exit)) end ⌝ }
 {
     let mut next = at;
     for row in 0..nodes {

@@ -3,13 +3,14 @@ use mathlib.Core.Path.{_≡_, refl}
 use native.Mathlib.Omega.{arith}
 use borrow.Author.Needs.{needs}
 use lib.ListN.{length}
-use Rattle.task_model.specs.Limits.{Node}
+use lib.Seq.{length-take-le}
+use Rattle.task_model.specs.Limits.{mostEntries, Node}
 use Rattle.task_model.specs.Words.{nodeOf}
 use Rattle.task_model.proofs.Laws.{length-entries}
-use Rattle.level_map.specs.declared.Mapped.{Mapped}
-use Rattle.level_map.specs.declared.Mapped.the-variants.{Levels, NoMap}
+use Rattle.level_map.specs.declared.Cut.{Cut}
+use Rattle.level_map.specs.declared.Cut.the-variants.{Groups, NoMap}
 use Rattle.level_map.specs.Map.{theMap}
-use Rattle.level_map.specs.Groups.{Ranked}
+use Rattle.level_map.specs.Cuts.{CutAnswer}
 use Rattle.level_map.proofs.Answers.{right-short, right-none, right-map}
 use Rattle.level_map.proofs.map_held.Statement.{statement}
 use Rattle.level_map.proofs.map_held.Tie as tie
@@ -22,22 +23,22 @@ module _ (c : tie.Start) where
   sized : length (n .entries) ≡ c .args .count
   sized = length-entries (c .args .words .now) 0 (c .args .count)
 
-  few : c .args .count ≤ 64
+  few : c .args .count ≤ mostEntries
   few = omega (arith, c .pre .fewEntries, sized)
 
--- what the ranks say, by the answer that came with them
-ranked : (c : tie.After-rank-groups) (o : Mapped) → c .rank-groups .result ≡ o
-    → Ranked (theMap (n (c .before .before .before .before) .entries) (n (c .before .before .before .before) .levels))
-    (c .before .before .before .before .args .count) (c .before .before .before .before .args .levels) o (c .rank-groups .last .1 .1 .1 .0)
-ranked c o p = rw p at (c .rank-groups .ensures)
+-- what the cuts say, by the answer that came with them
+cut : (c : tie.After-find-cuts) (o : Cut) → c .find-cuts .result ≡ o
+    → CutAnswer (theMap (n (c .before .before .before .before) .entries) (n (c .before .before .before .before) .levels))
+    (c .before .before .before .before .args .count) (c .before .before .before .before .args .levels) o (c .find-cuts .last .1 .1 .1 .0)
+cut c o p = rw p at (c .find-cuts .ensures)
 
 returns : tie.Need-returns
 returns c =
     let s = c .before .before in
     right-short (n s) (s .pre) (s .args .out .now) (omega (arith, sized s))
 
-rank-groups-requires : tie.Need-rank-groups-requires
-rank-groups-requires c κs = let s = c .before .before .before in (s .pre .each, (few s, refl))
+find-cuts-requires : tie.Need-find-cuts-requires
+find-cuts-requires c κs = let s = c .before .before .before in (s .pre .each, (few s, refl))
 
 enum-known-groups : tie.Need-enum-known-groups
 enum-known-groups c = search needs
@@ -48,14 +49,14 @@ enum-told c = search needs
 returns-2 : tie.Need-returns-2
 returns-2 c =
     let s = c .before .before .before .before .before .before in
-    right-none (n s) (s .pre) (s .args .out .now) (omega (arith, sized s)) (ranked (c .before .before) NoMap (c .enum-told .given .1))
+    right-none (n s) (s .pre) (s .args .out .now) (omega (arith, sized s)) (cut (c .before .before) NoMap (c .enum-told .given .1))
 
 write-levels-requires : tie.Need-write-levels-requires
 write-levels-requires c κs =
     let g = c .before .before .before in
     let s = g .before .before .before .before .before .before in
-    let r = ranked (g .before .before) (Levels (g .groups .given .0 .0)) (g .groups .given .1) in
-    ((r .each, few s, omega arith), r .below)
+    let r = cut (g .before .before) (Groups (g .groups .given .0 .0)) (g .groups .given .1) in
+    ((r .1, few s, omega arith), r .0 .falling)
 
 same-length : tie.Need-same-length
 same-length c = search needs
@@ -64,15 +65,16 @@ returns-3 : tie.Need-returns-3
 returns-3 c =
     let g = c .before .before .before .before .before .before in
     let s = g .before .before .before .before .before .before in
-    right-map (n s) (s .pre) (s .args .out .now) (s .args .count) _ _ _ (sized s) (omega arith)
-    (ranked (g .before .before) (Levels (g .groups .given .0 .0)) (g .groups .given .1)) (c .before .before .write-levels .ensures)
+    let r = cut (g .before .before) (Groups (g .groups .given .0 .0)) (g .groups .given .1) in
+    rw (length-take-le _ _ (r .1)) at (right-map (n s) (s .pre) (s .args .out .now) (s .args .count) _ _ (sized s) (omega arith)
+    (r .0) (c .before .before .write-levels .ensures))
 
 pub map-held-spec : {M : Type 1} → statement M
 map-held-spec =
     tie.close
     (tie.spec
     returns
-    rank-groups-requires
+    find-cuts-requires
     enum-known-groups
     enum-told
     returns-2

@@ -1,56 +1,107 @@
-use Prim.Native.Nat.{_-_, _≤_}
+use Prim.Native.Nat.{ℕ, _+_, _-_, _≤_, _<_}
 use mathlib.Core.Path.{_≡_, _∙_, refl, ap}
+use mathlib.Core.List.{List, [], _++_}
 use native.Mathlib.Omega.{arith}
-use lib.ListN.{length}
-use Rattle.level_map.proofs.Lists.{imaged, image-next, length-imaged}
 use borrow.Author.Needs.{needs}
+use lib.ListN.{length, getD, take, drop, drop-of-length-le}
+use lib.Seq.{length-take-le, getD-take}
+use Rattle.task_model.specs.Limits.{mostEntries}
+use Rattle.level_map.specs.Cuts.{Falling, levelsOfCuts}
+use Rattle.level_map.proofs.Lists.{filled, length-filled}
+use Rattle.level_map.proofs.Cutting.{falling-few, write-next}
 use Rattle.level_map.proofs.write_levels.Statement.{statement}
 use Rattle.level_map.proofs.write_levels.Tie as tie
 
+-- the levels of the groups that are left, before what stands from `end` on, are the levels of all
 abbrev Inv-loop : tie.InvT-loop
-Inv-loop ranks count groups out₀ j₀ out j = (j ≤ count) × (out ≡ imaged (λ r. groups - r) ranks j out₀)
+Inv-loop cuts groups count out₀ end₀ g₀ out end g =
+    (levelsOfCuts (drop g (take groups cuts)) end ++ drop end out ≡ levelsOfCuts (take groups cuts) count ++ drop count out₀)
+    × Falling (drop g (take groups cuts)) end × (g ≤ groups) × (end ≤ count) × (length out ≡ length out₀)
 
 abbrev μ-loop : tie.MeasureT-loop
-μ-loop ranks count groups out₀ j₀ out j = count - j
+μ-loop cuts groups count out₀ end₀ g₀ out end g = groups - g
 
 loop-holds : tie.Need-loop-holds Inv-loop μ-loop
-loop-holds c = (omega arith, refl)
+loop-holds c = (refl, c .before .pre .1, omega arith, omega arith, refl)
 
-element-copy-out-out : tie.Need-element-copy-out-out Inv-loop μ-loop
-element-copy-out-out c = search needs
+-- the cuts
+module _ (c : tie.Start Inv-loop μ-loop) where
+  abbrev s : List ℕ
+  s = take (c .args .groups) (c .args .cuts .now)
 
-sub-out : tie.Need-sub-out Inv-loop μ-loop
-sub-out c = c .before .before .before .pre .1 (c .before .before .loop .j) (omega arith)
+  long : length s ≡ c .args .groups
+  long = length-take-le (c .args .groups) (c .args .cuts .now) (omega arith)
 
-slice-write-out : tie.Need-slice-write-out Inv-loop μ-loop
-slice-write-out c =
-    let l = c .before .before .loop in
-    let a = c .before .before .before .args in
-    omega (arith, ap length (l .inv .1), length-imaged (λ r. a .groups - r) (a .ranks .now) (l .j) (a .out .now) (omega arith) (omega arith))
+  few : c .args .groups ≤ mostEntries
+  few = omega (arith, long, falling-few s (c .args .count) (c .pre .1))
 
-add-j : tie.Need-add-j Inv-loop μ-loop
-add-j c = search needs
+cast-start : tie.Need-cast-start Inv-loop μ-loop
+cast-start c = search needs
+
+element-copy-out-start : tie.Need-element-copy-out-start Inv-loop μ-loop
+element-copy-out-start c = omega (arith, few (c .before .before .before))
+
+-- one group more
+module _ (c : tie.In-loop Inv-loop μ-loop) where
+  abbrev at-start : tie.Start Inv-loop μ-loop
+  at-start = c .before .before .before
+
+  abbrev cut : ℕ
+  cut = getD (at-start .args .cuts .now) (c .before .loop .g) 0
+
+  next : (cut < c .before .loop .end)
+      × Falling (drop (c .before .loop .g + 1) (s at-start)) cut
+      × (levelsOfCuts (drop (c .before .loop .g + 1) (s at-start)) cut
+      ++ drop cut (filled (c .before .loop .out) cut (c .before .loop .end) (at-start .args .groups - c .before .loop .g))
+      ≡ levelsOfCuts (s at-start) (at-start .args .count) ++ drop (at-start .args .count) (at-start .args .out .now))
+  next =
+      let l = c .before .loop in
+      let w =
+      rw (getD-take (at-start .args .groups) (at-start .args .cuts .now) (l .g) 0 (omega arith), long at-start)
+      at (write-next (s at-start) (l .g) (l .end) (l .out) (omega (arith, long at-start)) (l .inv .1) (omega (arith, l .inv .4))) in
+      (w .0, w .1, w .2 ∙ l .inv .0)
+
+cast-start-2 : tie.Need-cast-start-2 Inv-loop μ-loop
+cast-start-2 c = let n = next (c .before) in omega arith
+
+sub-fill-level : tie.Need-sub-fill-level Inv-loop μ-loop
+sub-fill-level c = omega arith
+
+fill-level-requires : tie.Need-fill-level-requires Inv-loop μ-loop
+fill-level-requires c κs =
+    let k = c .before .before in
+    let n = next k in
+    (omega arith, omega (arith, k .before .loop .inv .4))
+
+add-g : tie.Need-add-g Inv-loop μ-loop
+add-g c = search needs
 
 loop-less : tie.Need-loop-less Inv-loop μ-loop
-loop-less c = search needs
+loop-less c = omega arith
 
 loop-again : tie.Need-loop-again Inv-loop μ-loop
 loop-again c =
-    let l = c .before .before .loop in
-    let a = c .before .before .before .args in
-    (omega arith, (rw (l .inv .1) (image-next (λ r. a .groups - r) (a .ranks .now) (l .j) (a .out .now) (omega arith) (omega arith))))
+    let k = c .before .before .before .before .before in
+    let l = k .before .loop in
+    let n = next k in (
+      (rw (c .before .before .fill-level .ensures) (n .2)),
+      n .1,
+      omega arith,
+      omega arith,
+      ap length (c .before .before .fill-level .ensures)
+          ∙ length-filled (l .out) (cut k) (l .end) _ (omega arith) (omega (arith, l .inv .4)) ∙ l .inv .4,
+    )
 
 same-length : tie.Need-same-length Inv-loop μ-loop
-same-length c =
-    let l = c .before .loop in
-    let a = c .before .before .args in
-    ap length (l .inv .1) ∙ length-imaged (λ r. a .groups - r) (a .ranks .now) (l .j) (a .out .now) (omega arith) (omega arith)
+same-length c = c .before .loop .inv .4
 
 returns : tie.Need-returns Inv-loop μ-loop
 returns c =
     let l = c .before .loop in
-    let e : l .j ≡ c .before .before .args .count = omega arith in
-    rw e at (l .inv .1)
+    let at = c .before .before .before in
+    let none : drop (l .g) (s at) ≡ [] = drop-of-length-le (s at) {i = l .g} (omega (arith, long at)) in
+    let done : l .end ≡ 0 = rw none at (l .inv .1) in
+    rw (none, done) at (l .inv .0)
 
 pub write-levels-spec : {M : Type 1} → statement M
 write-levels-spec =
@@ -59,10 +110,12 @@ write-levels-spec =
     Inv-loop
     μ-loop
     loop-holds
-    element-copy-out-out
-    sub-out
-    slice-write-out
-    add-j
+    cast-start
+    element-copy-out-start
+    cast-start-2
+    sub-fill-level
+    fill-level-requires
+    add-g
     loop-less
     loop-again
     same-length

@@ -1,19 +1,19 @@
 use mathlib.Core.Path.{_∙_, ap, sym}
 use native.Mathlib.Omega.{arith}
 use Rattle.task_model.specs.declared.Entry.{Entry}
+use Rattle.task_model.specs.Limits.{entryAt}
 use Rattle.task_model.specs.Words.{entriesOf}
 use Rattle.task_model.proofs.Laws.{entry-of}
 use Rattle.completion.specs.Test.{completion}
-use Rattle.level_map.specs.Assignments.{levelOf}
 use Rattle.listing.specs.Lines.{entryLine}
+use Rattle.listing.specs.Groups.{timedLine}
 use Rattle.listing.proofs.Lines.{upto-same, upto-none}
-use Rattle.listing.proofs.Texts.{entry-on-time, entry-late}
 use borrow.Author.Needs.{needs}
 use Rattle.listing.proofs.put_entry.Statement.{statement}
 use Rattle.listing.proofs.put_entry.Tie as tie
 
-time-under-requires : tie.Need-time-under-requires
-time-under-requires c κs = search needs
+completion-test-requires : tie.Need-completion-test-requires
+completion-test-requires c κs = search needs
 
 enum-known-time : tie.Need-enum-known-time
 enum-known-time c = search needs
@@ -24,14 +24,12 @@ enum-told c = search needs
 returns : tie.Need-returns
 returns c =
     let a = c .before .before .before .before .args in
-    let l = sym (c .before .before .time-under .ensures) ∙ ap completion (c .enum-told .given .1) in
-    upto-same (sym (entry-late (entriesOf (a .words .now) (a .count)) (a .levels .now) (a .i) _ l)) (upto-none (a .out .now) (a .at) 56)
+    let e = entryAt (entriesOf (a .words .now) (a .count)) (a .i) in
+    let l = sym (c .before .before .completion-test .ensures .0) ∙ ap completion (c .enum-told .given .1) in
+    upto-same (sym (ap (timedLine e (a .level)) l)) (upto-none (a .out .now) (a .at) 56)
 
 entry-at-requires : tie.Need-entry-at-requires
 entry-at-requires c κs = search needs
-
-element-copy-out-put-entry-line : tie.Need-element-copy-out-put-entry-line
-element-copy-out-put-entry-line c = search needs
 
 put-entry-line-requires : tie.Need-put-entry-line-requires
 put-entry-line-requires c κs = search needs
@@ -41,23 +39,23 @@ same-length c = search needs
 
 returns-2 : tie.Need-returns-2
 returns-2 c =
-    let a = c .before .before .before .before .before .before .before .before .before .before .before .args in
-    let es = entriesOf (a .words .now) (a .count) in
-    let o = sym (c .before .before .before .before .before .before .before .before .before .time-under .ensures) ∙ ap completion (c .before .before .before .before .before .before .before .time .given .1) in
-    let n = ap (λ (e : Entry). e .number) (c .before .before .before .before .before .entry-at .ensures ∙ sym (entry-of (a .words .now) (a .count) (a .i) (omega arith))) in
-    let t = c .before .before .before .before .before .before .before .time .given .0 in
-    upto-same (ap (λ x. entryLine x (levelOf (a .levels .now) (a .i)) (t .0) (t .1 .0)) n ∙ sym (entry-on-time es (a .levels .now) (a .i) (t .0) (t .1 .0) o)) (c .before .before .put-entry-line .ensures)
+    let k = c .before .before .before .before .before .before .before in
+    let a = k .before .before .before .args in
+    let e = entryAt (entriesOf (a .words .now) (a .count)) (a .i) in
+    let o = sym (k .before .completion-test .ensures .0) ∙ ap completion (c .before .before .before .before .before .before .time .given .1) in
+    let n = ap (λ (x : Entry). x .number) (c .before .before .before .before .entry-at .ensures ∙ sym (entry-of (a .words .now) (a .count) (a .i) (omega arith))) in
+    let t = c .before .before .before .before .before .before .time .given .0 in
+    upto-same (ap (λ x. entryLine x (a .level) (t .0) (t .1 .0)) n ∙ sym (ap (timedLine e (a .level)) o)) (c .before .before .put-entry-line .ensures)
 
 pub put-entry-spec : {M : Type 1} → statement M
 put-entry-spec =
     tie.close
     (tie.spec
-    time-under-requires
+    completion-test-requires
     enum-known-time
     enum-told
     returns
     entry-at-requires
-    element-copy-out-put-entry-line
     put-entry-line-requires
     same-length
     returns-2)

@@ -1,29 +1,27 @@
 use Prim.Native.Nat.{ℕ, _+_, _*_, _≤_}
-use mathlib.Core.Path.{_≡_, _∙_, ap, ap₂, sym}
-use mathlib.Core.Option.{some}
+use mathlib.Core.Path.{_≡_, _∙_, refl, ap, ap₂, sym}
 use mathlib.Core.List.{List, _++_}
-use native.Mathlib.Nat.{zero-add, le-refl}
+use native.Mathlib.Nat.{zero-add}
 use native.Mathlib.Omega.{arith}
-use lib.ListN.{length, drop, replicate}
-use Rattle.task_model.specs.declared.Entry.{Entry}
-use Rattle.task_model.specs.Limits.{NodeHolds}
-use Rattle.task_model.specs.Words.{entriesOf, nodeOf}
+use lib.ListN.{length, take}
+use lib.Seq.{length-take-le}
+use Rattle.task_model.specs.Limits.{mostEntries, Node, NodeHolds}
+use Rattle.task_model.specs.Words.{nodeOf}
 use Rattle.task_model.proofs.Laws.{length-entries}
 use Rattle.plan_file.specs.declared.Row.{Row}
 use Rattle.plan_file.specs.Decoding.{nodeCount, rowAt, planIn}
 use Rattle.plan_file.specs.Find.{rowIn, nodeOfRow}
 use Rattle.plan_file.proofs.Nodes.{row-get}
 use Rattle.plan_file.proofs.Theorems.{nodes-hold}
-use Rattle.level_map.specs.declared.MappedNode.the-variants.{Levels}
-use Rattle.level_map.specs.Assignments.{levelsUsed}
+use Rattle.level_map.specs.declared.Cut.{Cut}
+use Rattle.level_map.specs.declared.Cut.the-variants.{Groups, NoMap}
 use Rattle.level_map.specs.Map.{theMap}
-use Rattle.level_map.specs.Answer.{answer, mapOf}
-use Rattle.level_timing.specs.Levels.{NeverFalls}
+use Rattle.level_map.specs.Cuts.{levelsOfCuts, CutAnswer}
 use Rattle.listing.specs.Lines.{nodeLine}
+use Rattle.listing.specs.Room.{nodeMost}
 use Rattle.listing.specs.Listing.{entriesText, nodeText}
 use Rattle.listing.proofs.Lines.{upto-same, upto-more, upto-room, upto-append}
 use Rattle.listing.proofs.Texts.{node-mapped, node-no-map}
-use Rattle.listing.proofs.Mapped.{answered-map, answered-none, filled-levels, filled-rises, same-entries}
 use borrow.Author.Needs.{needs}
 use Rattle.listing.proofs.put_node.Statement.{statement}
 use Rattle.listing.proofs.put_node.Tie as tie
@@ -33,9 +31,6 @@ load-node-requires c κs = search needs
 
 cast-count : tie.Need-cast-count
 cast-count c = search needs
-
-slice-aggregate-map-held : tie.Need-slice-aggregate-map-held
-slice-aggregate-map-held c = search needs
 
 -- the node that was loaded
 module _ (c : tie.After-load-node) where
@@ -51,10 +46,13 @@ module _ (c : tie.After-load-node) where
   abbrev words : List ℕ
   words = c .load-node .last .1 .1 .0
 
-  held : nodeOf words (row .count) (row .levels) ≡ nodeOfRow (planIn f) (at-start .args .row)
+  abbrev node : Node
+  node = nodeOf words (row .count) (row .levels)
+
+  held : node ≡ nodeOfRow (planIn f) (at-start .args .row)
   held = c .load-node .ensures .node
 
-  holds : NodeHolds (nodeOf words (row .count) (row .levels))
+  holds : NodeHolds node
   holds = rw held (nodes-hold f (at-start .pre .0 .0) (at-start .args .row) (at-start .pre .0 .1))
 
   number : row .number ≡ rowIn (planIn f .rows) (at-start .args .row) .number
@@ -63,16 +61,22 @@ module _ (c : tie.After-load-node) where
       (c .load-node .ensures .row
       ∙ sym (row-get f 0 (nodeCount f) (at-start .args .row) (at-start .pre .0 .1) ∙ ap (rowAt f) (zero-add (at-start .args .row))))
 
+  sized : length (node .entries) ≡ row .count
+  sized = length-entries words 0 (row .count)
+
+  few : row .count ≤ mostEntries
+  few = omega (arith, holds .fewEntries, sized)
+
   -- its text, by the row that was read
-  named : nodeText (row .number) (nodeOf words (row .count) (row .levels))
+  named : nodeText (row .number) node
       ≡ nodeText (rowIn (planIn f .rows) (at-start .args .row) .number) (nodeOfRow (planIn f) (at-start .args .row))
   named = ap₂ nodeText number held
 
-map-held-requires : tie.Need-map-held-requires
-map-held-requires c κs = holds (c .before .before .before)
+find-cuts-requires : tie.Need-find-cuts-requires
+find-cuts-requires c κs = let k = c .before .before .before in (holds k .each, (few k, refl))
 
-enum-known-mapped : tie.Need-enum-known-mapped
-enum-known-mapped c = search needs
+enum-known-groups : tie.Need-enum-known-groups
+enum-known-groups c = search needs
 
 enum-told : tie.Need-enum-told
 enum-told c = search needs
@@ -83,62 +87,51 @@ put-no-map-line-requires c κs = search needs
 same-length : tie.Need-same-length
 same-length c = search needs
 
+-- where its map is cut
+module _ (c : tie.After-find-cuts) where
+  abbrev at-load : tie.After-load-node
+  at-load = c .before .before .before .before
+
+  abbrev cuts : List ℕ
+  cuts = c .find-cuts .last .1 .1 .1 .0
+
+  cut : (o : Cut) → c .find-cuts .result ≡ o
+      → CutAnswer (theMap (node at-load .entries) (node at-load .levels)) (row at-load .count) (row at-load .levels) o cuts
+  cut o p = rw p at (c .find-cuts .ensures)
+
+  lines : (groups : ℕ) → c .find-cuts .result ≡ Groups groups
+      → nodeLine (row at-load .number) groups (row at-load .levels)
+      ++ entriesText (node at-load .entries) (levelsOfCuts (take groups cuts) (row at-load .count)) (row at-load .count)
+      ≡ nodeText (row at-load .number) (node at-load)
+  lines groups p =
+      let a = cut (Groups groups) p in
+      let used = a .0 .counted ∙ length-take-le groups cuts (a .1) in
+      sym (node-mapped (row at-load .number) (node at-load) (levelsOfCuts (take groups cuts) (row at-load .count)) (a .0 .levels)
+      ∙ rw (used, sized at-load))
+
 returns : tie.Need-returns
 returns c =
-    let k = c .before .before .before .before .before .before .before .before .before .before .before in
-    let n = nodeOf (words k) (row k .count) (row k .levels) in
-    let none = answered-none n 64 (holds k .fewEntries) _ (sym (ap answer (c .before .before .before .before .enum-told .given .1)) ∙ c .before .before .before .before .before .before .before .map-held .ensures .0) in
-    upto-same (sym (node-no-map (row k .number) n none) ∙ named k) (upto-more 3613 (omega arith) (c .before .before .put-no-map-line .ensures))
+    let e = c .before .before .before .before in
+    let k = e .before .before in
+    let none = cut k NoMap (e .enum-told .given .1) in
+    upto-same (sym (node-no-map (row (at-load k) .number) (node (at-load k)) none) ∙ named (at-load k))
+    (upto-more nodeMost (omega arith) (c .before .before .put-no-map-line .ensures))
 
 put-node-line-requires : tie.Need-put-node-line-requires
 put-node-line-requires c κs = search needs
 
--- its map, and the array that holds it
-module _ (c : tie.After-map-held) (used : ℕ) (e : c .map-held .result ≡ Levels used) where
-  abbrev at-load : tie.After-load-node
-  at-load = c .before .before .before .before
-
-  abbrev es : List Entry
-  es = entriesOf (words at-load) (row at-load .count)
-
-  abbrev filled : List ℕ
-  filled = c .map-held .last .1 .1 .1 .0
-
-  length-es : length es ≡ row at-load .count
-  length-es = length-entries (words at-load) 0 (row at-load .count)
-
-  the-map : (m : List ℕ) × (theMap es (row at-load .levels) ≡ some m) × (used ≡ levelsUsed m)
-      × (mapOf (nodeOf (words at-load) (row at-load .count) (row at-load .levels)) ≡ m)
-  the-map =
-      answered-map (nodeOf (words at-load) (row at-load .count) (row at-load .levels)) 64 (holds at-load .fewEntries) used
-      (sym (ap answer e) ∙ c .map-held .ensures .0)
-
-  written : filled ≡ the-map .0 ++ drop (length (the-map .0)) (replicate 64 0)
-  written = rw (e, the-map .3) at (c .map-held .ensures .1 .0)
-
-  rises : NeverFalls (row at-load .count) filled
-  rises = rw length-es at (filled-rises es (holds at-load .each) _ _ _ _ (the-map .1) written)
-
-  lines : nodeLine (row at-load .number) used (row at-load .levels) ++ entriesText es filled (row at-load .count)
-      ≡ nodeText (row at-load .number) (nodeOf (words at-load) (row at-load .count) (row at-load .levels))
-  lines =
-      ap₂ (λ u t. nodeLine (row at-load .number) u (row at-load .levels) ++ t) (the-map .2)
-      (ap (entriesText es filled) (sym length-es)
-      ∙ same-entries es (the-map .0) filled (filled-levels es (holds at-load .each) _ _ _ _ (the-map .1) written)
-      (length es) (le-refl _))
-      ∙ sym (node-mapped (row at-load .number) (nodeOf (words at-load) (row at-load .count) (row at-load .levels)) (the-map .0) (the-map .1))
-
 put-entries-requires : tie.Need-put-entries-requires
 put-entries-requires c κs =
-    let k = c .before .before .before .before .before .before .before .before .before .before .before .before .before .before .before in
-    let few : row k .count ≤ 64 = omega (arith, holds k .fewEntries, length-entries (words k) 0 (row k .count)) in (
-      holds k .each,
+    let line = c .before .before .before .before .before in
+    let g = line .before .before .before in
+    let k = g .before .before in
+    let a = cut k _ (g .groups .given .1) in
+    let few = few (at-load k) in
+    let room = at-start (at-load k) .pre .1 in (
+      holds (at-load k) .each,
       (
-        few,
-        (
-          rises (c .before .before .before .before .before .before .before .before .before .before .before) _ (c .before .before .before .before .before .before .before .before .mapped .given .1),
-          upto-room (c .before .before .before .before .before .put-node-line .ensures) (omega arith) (56 * row k .count) (omega arith),
-        ),
+        (few, a .1),
+        (a .0 .falling, upto-room (line .put-node-line .ensures) (omega (arith, room)) (56 * row (at-load k) .count) (omega (arith, room))),
       ),
     )
 
@@ -147,10 +140,13 @@ same-length-2 c = search needs
 
 returns-2 : tie.Need-returns-2
 returns-2 c =
-    let k = c .before .before .before .before .before .before .before .before .before .before .before .before .before .before .before .before .before .before in
-    let few : row k .count ≤ 64 = omega (arith, holds k .fewEntries, length-entries (words k) 0 (row k .count)) in
-    upto-same (lines (c .before .before .before .before .before .before .before .before .before .before .before .before .before .before) _ (c .before .before .before .before .before .before .before .before .before .before .before .mapped .given .1) ∙ named k)
-    (upto-more 3613 (omega arith) (upto-append (c .before .before .before .before .before .before .before .before .put-node-line .ensures) (omega arith) (c .before .before .put-entries .ensures)))
+    let line = c .before .before .before .before .before .before .before .before in
+    let g = line .before .before .before in
+    let k = g .before .before in
+    let few = few (at-load k) in
+    let room = at-start (at-load k) .pre .1 in
+    upto-same (lines k _ (g .groups .given .1) ∙ named (at-load k))
+    (upto-more nodeMost (omega arith) (upto-append (line .put-node-line .ensures) (omega (arith, room)) (c .before .before .put-entries .ensures)))
 
 pub put-node-spec : {M : Type 1} → statement M
 put-node-spec =
@@ -158,9 +154,8 @@ put-node-spec =
     (tie.spec
     load-node-requires
     cast-count
-    slice-aggregate-map-held
-    map-held-requires
-    enum-known-mapped
+    find-cuts-requires
+    enum-known-groups
     enum-told
     put-no-map-line-requires
     same-length

@@ -3,6 +3,7 @@ use mathlib.Core.Path.{_≡_, sym}
 use native.Mathlib.Omega.{arith}
 use Rattle.text.specs.Text.{Upto}
 use Rattle.plan_file.specs.Decoding.{planIn}
+use Rattle.listing.specs.Room.{nodeMost}
 use Rattle.listing.specs.Listing.{nodesText}
 use Rattle.listing.proofs.Lines.{upto-same, upto-none, upto-room, upto-append, upto-kept}
 use Rattle.listing.proofs.Texts.{nodes-none, nodes-more}
@@ -11,7 +12,7 @@ use Rattle.listing.proofs.put_nodes.Tie as tie
 
 abbrev Inv-loop : tie.InvT-loop
 Inv-loop file nodes out₀ at next₀ row₀ out next row =
-    (row ≤ nodes) × Upto out₀ at (3613 * row) (nodesText (planIn file) row) out next
+    (row ≤ nodes) × Upto out₀ at (nodeMost * row) (nodesText (planIn file) row) out next
 
 abbrev μ-loop : tie.MeasureT-loop
 μ-loop file nodes out₀ at next₀ row₀ out next row = nodes - row
@@ -24,7 +25,7 @@ loop-holds c =
 put-node-requires : tie.Need-put-node-requires Inv-loop μ-loop
 put-node-requires c κs =
     let p = c .before .before .before .before .before .pre in
-    ((p .0 .0, omega arith), upto-room (c .before .before .loop .inv .1) (omega arith) 3613 (omega arith))
+    ((p .0 .0, omega arith), upto-room (c .before .before .loop .inv .1) (omega arith) nodeMost (omega arith))
 
 add-row : tie.Need-add-row Inv-loop μ-loop
 add-row c = omega arith
@@ -36,7 +37,7 @@ loop-again : tie.Need-loop-again Inv-loop μ-loop
 loop-again c =
     let a = c .before .before .before .before .before .before .before .before .args in
     let row = c .before .before .before .before .before .loop .row in
-    let e : 3613 * row + 3613 ≡ 3613 * (row + 1) = omega arith in (
+    let e : nodeMost * row + nodeMost ≡ nodeMost * (row + 1) = omega arith in (
       omega arith,
       upto-same (sym (nodes-more (planIn (a .file .now)) row))
           (rw e at (upto-append (c .before .before .before .before .before .loop .inv .1) (omega arith) (c .before .before .put-node .ensures))),
