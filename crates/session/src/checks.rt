@@ -29,13 +29,7 @@ pub fn check_levels(levels: u8) -> Checked
 
 // Accepts a position before which an entry may be inserted (12), a list that is not full (13), and an entry within the
 // limits (7, 8).
-pub fn check_insert(
-    levels: u32,
-    count: usize,
-    words: &[u32],
-    position: usize,
-    e: Entry,
-) -> Checked
+pub fn check_insert(levels: u32, count: usize, words: &[u32], position: usize, e: Entry) -> Checked
     requires { ⌜ nodeSize ≤ length (now words) ⌝ }
     ensures { λ a. ⌜ outcome a ≡ stepCheck (changing (inserting position e)) (nodeOf (now (words .entry)) count levels) ⌝ }
 {
@@ -68,13 +62,7 @@ pub fn check_remove(levels: u32, count: usize, words: &[u32], position: usize) -
 }
 
 // Accepts the position of an entry (12), and an entry within the limits (7, 8).
-pub fn check_replace(
-    levels: u32,
-    count: usize,
-    words: &[u32],
-    position: usize,
-    e: Entry,
-) -> Checked
+pub fn check_replace(levels: u32, count: usize, words: &[u32], position: usize, e: Entry) -> Checked
     requires { ⌜ nodeSize ≤ length (now words) ⌝ }
     ensures { λ a. ⌜ outcome a ≡ stepCheck (changing (replacing position e)) (nodeOf (now (words .entry)) count levels) ⌝ }
 {
