@@ -9,7 +9,7 @@ ghost use mathlib.Core.Logic.{_↔_};
 ghost use mathlib.Core.List.{map};
 ghost use lib.ListN.{length};
 ghost use Prim.Native.Nat.{_≤_};
-ghost use Rattle.task_model.specs.Refusals.{numbered, accepted};
+ghost use Rattle.task_model.specs.Refusals.{numbered, outcome, accepted};
 ghost use Rattle.plan_file.specs.Answers.{readAnswer, writeAnswer};
 ghost use Rattle.task_model.specs.Answers.{left};
 ghost use Rattle.plan_file.specs.Check.{fileCheck};
@@ -48,6 +48,16 @@ fn give(first: usize, second: usize, values: &mut [usize; 2]) -> u32
     0
 }
 
+// Returns what a check found; it gives nothing.
+fn give_checked(found: Checked, values: &mut [usize; 2]) -> u32
+    ensures { λ a. ⌜ returned a (now (values .exit)) ≡ checked (outcome found) ⌝ }
+{
+    match found {
+        Checked::Accepted => give(0, 0, values),
+        Checked::Refused(r) => refuse(r, values),
+    }
+}
+
 // Accepts a plan file, or refuses it. Returns 0 exactly for the files of plans within the limits.
 #[no_mangle]
 pub extern "C" fn maiplur_check(file: &[u8], values: &mut [usize; 2]) -> u32
@@ -55,10 +65,7 @@ pub extern "C" fn maiplur_check(file: &[u8], values: &mut [usize; 2]) -> u32
     ensures { λ a. ⌜ (returned a (now (values .exit)) ≡ given 0 0) ↔ IsPlanFile (now (file .entry)) ⌝ }
 {
     let found = plan_file::check_file(file);
-    match found {
-        Checked::Accepted => give(0, 0, values),
-        Checked::Refused(r) => refuse(r, values),
-    }
+    give_checked(found, values)
 }
 
 // Reads a file's plan into buffers: a word for each row, and those of each entry. Gives how many rows and entries. What is

@@ -1,5 +1,6 @@
 // The session for C. It is lent as words: its level count, its entry count and the words of a node.
 use super::give;
+use super::give_checked;
 use super::refuse;
 use completion::Timing;
 use level_map::MappedNode;
@@ -7,12 +8,11 @@ use session::SessionWords;
 use session::TimeAnswer;
 use session::from_words;
 use session::in_words;
-use task_model::Checked;
 use task_model::EntryWords;
 ghost use mathlib.Core.Path.{_≡_};
 ghost use lib.ListN.{length};
 ghost use Rattle.task_model.specs.Answers.{left};
-ghost use Rattle.task_model.specs.Refusals.{outcome, accepted};
+ghost use Rattle.task_model.specs.Refusals.{accepted};
 ghost use Rattle.task_model.specs.Checks.{nodeCheck};
 ghost use Rattle.task_model.specs.Words.{entryFrom};
 ghost use Rattle.completion.specs.Test.{completion};
@@ -22,18 +22,8 @@ ghost use Rattle.session.specs.Operations.{changing, opening, inserting, removi
 ghost use Rattle.session.specs.Timing.{timeAnswer};
 ghost use Rattle.session.specs.Mapping.{mapAnswer};
 ghost use Rattle.session.specs.InWords.{sessionIn};
-ghost use Rattle.planner_c.specs.Returned.{returned, checked, sized, givenTime, timed};
+ghost use Rattle.planner_c.specs.Returned.{returned, sized, givenTime, timed};
 ghost use Rattle.planner_c.specs.Changes.{Changes};
-
-// Returns what a change answered; it gives nothing.
-fn give_answer(answer: Checked, values: &mut [usize; 2]) -> u32
-    ensures { λ a. ⌜ returned a (now (values .exit)) ≡ checked (outcome answer) ⌝ }
-{
-    match answer {
-        Checked::Accepted => give(0, 0, values),
-        Checked::Refused(r) => refuse(r, values),
-    }
-}
 
 // Opens a session, whatever the words held: an empty node with the given level count.
 #[no_mangle]
@@ -46,7 +36,7 @@ pub extern "C" fn maiplur_session_open(
         ⌜ Changes (opening levels) (now (words .entry)) (returned a (now (values .exit))) (now (words .exit)) ⌝ }
 {
     let answer = in_words::open(words, levels);
-    give_answer(answer, values)
+    give_checked(answer, values)
 }
 
 // Sets the level count.
@@ -60,7 +50,7 @@ pub extern "C" fn maiplur_session_set_levels(
         ⌜ Changes (changing (settingLevels levels)) (now (words .entry)) (returned a (now (values .exit))) (now (words .exit)) ⌝ }
 {
     let answer = in_words::set_levels(words, levels);
-    give_answer(answer, values)
+    give_checked(answer, values)
 }
 
 // Inserts an entry before a position; just after the last entry it appends.
@@ -77,7 +67,7 @@ pub extern "C" fn maiplur_session_insert(
 {
     let e = task_model::entry_of(entry, 0);
     let answer = in_words::insert(words, position, e);
-    give_answer(answer, values)
+    give_checked(answer, values)
 }
 
 // Removes the entry at a position.
@@ -91,7 +81,7 @@ pub extern "C" fn maiplur_session_remove(
         ⌜ Changes (changing (removing position)) (now (words .entry)) (returned a (now (values .exit))) (now (words .exit)) ⌝ }
 {
     let answer = in_words::remove(words, position);
-    give_answer(answer, values)
+    give_checked(answer, values)
 }
 
 // Replaces the entry at a position.
@@ -108,7 +98,7 @@ pub extern "C" fn maiplur_session_replace(
 {
     let e = task_model::entry_of(entry, 0);
     let answer = in_words::replace(words, position, e);
-    give_answer(answer, values)
+    give_checked(answer, values)
 }
 
 // Gives a completion time, or 0 where the entry is late, and the rounds.

@@ -19,7 +19,7 @@ use Rattle.completion.specs.Group.{groupLevel}
 use Rattle.completion.specs.Test.{completionTest}
 use Rattle.task_model.proofs.Outcomes.{then-refused, then-accepted, then-assoc, both-accepted, mustHold-refuses, demanded}
 use Rattle.session.specs.declared.Session.{Session}
-use Rattle.session.specs.State.{nodeIn, sessionOf}
+use Rattle.session.specs.State.{nodeIn}
 use Rattle.session.specs.Operations.{changing, asking, Operation, inserting, removing, replacing, settingLevels, timing, levelsCheck, changeCheck, queryCheck, operationCheck, lentCheck, stepCheck}
 use Rattle.task_model.specs.Answers.{gives, refuses}
 use Rattle.session.specs.Timing.{timeAnswer}

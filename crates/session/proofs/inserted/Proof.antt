@@ -34,7 +34,7 @@ slice-aggregate-insert-at : tie.Need-slice-aggregate-insert-at
 slice-aggregate-insert-at c = search needs
 
 insert-at-requires : tie.Need-insert-at-requires
-insert-at-requires c κs = let q = ready (c .before .before) in (omega arith, q .0, q .1)
+insert-at-requires c κs = omega (arith, ready (c .before .before))
 
 add-t18 : tie.Need-add-t18
 add-t18 c = omega (arith, ready (c .before .before .before .before))

@@ -34,7 +34,7 @@ slice-aggregate-remove-at : tie.Need-slice-aggregate-remove-at
 slice-aggregate-remove-at c = search needs
 
 remove-at-requires : tie.Need-remove-at-requires
-remove-at-requires c κs = let q = ready (c .before .before) in (omega arith, q .0, q .1)
+remove-at-requires c κs = omega (arith, ready (c .before .before))
 
 sub-t17 : tie.Need-sub-t17
 sub-t17 c = omega (arith, ready (c .before .before .before .before))

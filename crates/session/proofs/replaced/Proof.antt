@@ -34,7 +34,7 @@ slice-aggregate-replace-at : tie.Need-slice-aggregate-replace-at
 slice-aggregate-replace-at c = search needs
 
 replace-at-requires : tie.Need-replace-at-requires
-replace-at-requires c κs = let q = ready (c .before .before) in (omega arith, q .0, q .1)
+replace-at-requires c κs = omega (arith, ready (c .before .before))
 
 returns-2 : tie.Need-returns-2
 returns-2 c =

@@ -1,4 +1,5 @@
 use mathlib.Core.Path.{_∙_, sym, ap}
+use native.Mathlib.Omega.{arith}
 use Rattle.task_model.specs.Refusals.{outcome}
 use Rattle.task_model.specs.Answers.{gives}
 use Rattle.session.proofs.Checking.{time-ready, time-refused, time-given}
@@ -25,7 +26,9 @@ completion-test-requires : tie.Need-completion-test-requires
 completion-test-requires c κs =
     let d = c .before .before in
     let a = d .before .before .before .before .before .before .args in
-    time-ready (a .t1 .words) (a .t1 .count) (a .t1 .levels) (a .first) (a .last) (a .i) (sym (d .before .before .check-time .ensures) ∙ ap outcome (d .enum-told .given .1))
+    let q =
+    time-ready (a .t1 .words) (a .t1 .count) (a .t1 .levels) (a .first) (a .last) (a .i) (sym (d .before .before .check-time .ensures) ∙ ap outcome (d .enum-told .given .1)) in
+    (q .0, omega arith)
 
 returns-2 : tie.Need-returns-2
 returns-2 c =

@@ -34,7 +34,7 @@ slice-aggregate-keep-list : tie.Need-slice-aggregate-keep-list
 slice-aggregate-keep-list c = search needs
 
 keep-list-requires : tie.Need-keep-list-requires
-keep-list-requires c κs = (omega arith, ready (c .before .before))
+keep-list-requires c κs = omega (arith, ready (c .before .before))
 
 returns-2 : tie.Need-returns-2
 returns-2 c =

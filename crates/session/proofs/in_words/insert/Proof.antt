@@ -67,8 +67,8 @@ cast-insert-at c = omega (arith, ready (c .before))
 
 insert-at-requires : tie.Need-insert-at-requires
 insert-at-requires c κs =
-    let a = c .before .before .before .before .before .before .before .before .before .args in
-    let q = ready (c .before) in (part-size (a .words .now) (c .before .before .before .before .before .before .before .before .before .pre), q .0, q .1)
+    let s = c .before .before .before .before .before .before .before .before .before in
+    omega (arith, part-size (s .args .words .now) (s .pre), ready (c .before))
 
 add-words : tie.Need-add-words
 add-words c = omega (arith, ready (c .before .before .before .before))

@@ -67,8 +67,8 @@ cast-replace-at c = omega (arith, ready (c .before))
 
 replace-at-requires : tie.Need-replace-at-requires
 replace-at-requires c κs =
-    let a = c .before .before .before .before .before .before .before .before .before .args in
-    let q = ready (c .before) in (part-size (a .words .now) (c .before .before .before .before .before .before .before .before .before .pre), q .0, q .1)
+    let s = c .before .before .before .before .before .before .before .before .before in
+    omega (arith, part-size (s .args .words .now) (s .pre), ready (c .before))
 
 same-length-2 : tie.Need-same-length-2
 same-length-2 c = search needs

@@ -67,8 +67,8 @@ cast-keep-list c = omega (arith, ready (c .before))
 
 keep-list-requires : tie.Need-keep-list-requires
 keep-list-requires c κs =
-    let a = c .before .before .before .before .before .before .before .before .before .args in
-    (part-size (a .words .now) (c .before .before .before .before .before .before .before .before .before .pre), ready (c .before))
+    let s = c .before .before .before .before .before .before .before .before .before in
+    omega (arith, part-size (s .args .words .now) (s .pre), ready (c .before))
 
 slice-write-words : tie.Need-slice-write-words
 slice-write-words c = search needs

@@ -1,0 +1,25 @@
+use Rattle.task_model.specs.Words.{entryFrom}
+use Rattle.session.specs.Operations.{changing, inserting}
+use Rattle.planner_c.proofs.Changing.{changes}
+use borrow.Author.Needs.{needs}
+use Rattle.planner_c.proofs.sessions.maiplur_session_insert.Statement.{statement}
+use Rattle.planner_c.proofs.sessions.maiplur_session_insert.Tie as tie
+
+entry-of-requires : tie.Need-entry-of-requires
+entry-of-requires c κs = search needs
+
+insert-requires : tie.Need-insert-requires
+insert-requires c κs = search needs
+
+give-checked-requires : tie.Need-give-checked-requires
+give-checked-requires c κs = search needs
+
+returns : tie.Need-returns
+returns c =
+    let a = c .before .before .before .before .before .before .args in
+    let h = rw (c .before .before .before .before .entry-of .ensures) at (c .before .before .insert .ensures) in
+    changes (changing (inserting (a .position) (entryFrom (a .entry .now) 0))) (a .words .now) h (c .give-checked .ensures)
+
+pub maiplur-session-insert-spec : {M : Type 1} → statement M
+maiplur-session-insert-spec =
+    tie.close (tie.spec entry-of-requires insert-requires give-checked-requires returns)
