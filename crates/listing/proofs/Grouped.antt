@@ -67,6 +67,12 @@ module _ (es : List Entry) (s : List ℕ) (f : Falling s (length es)) (l : ℕ) 
       let e : before l m + (before (suc l) m - before l m) ≡ before (suc l) m = omega arith in
       rw (p, q) (rw e at (group-lines (before (suc l) m - before l m) (omega arith)))
 
+-- the group behind `level` groups is from `first` up to `end`, and its lines follow theirs
+abbrev pub NextGroup : List Entry → ℕ → List ℕ → ℕ → ℕ → ℕ → Type 0
+NextGroup es n levels level first end =
+    (first ≤ end) × (end ≤ n) × (end ≡ before (level + 1 + 1) levels)
+    × (entriesText es levels end ≡ entriesText es levels first ++ groupText es first (end - 1) (level + 1) (end - first))
+
 -- the groups of n entries one after the other, from the most urgent on, with the cuts at the start of an array
 module _ (es : List Entry) (n : ℕ) (sized : length es ≡ n) (cuts : List ℕ) (groups : ℕ) (inside : groups ≤ length cuts)
     (f : Falling (take groups cuts) n) where
@@ -80,8 +86,7 @@ module _ (es : List Entry) (n : ℕ) (sized : length es ≡ n) (cuts : List ℕ)
   first-group = sym (cut-first (take groups cuts) n)
 
   pub next-group : (level first end : ℕ) → level < groups → first ≡ before (level + 1) levels → end ≡ getD (n ∷ cuts) (groups - 1 - level) 0
-      → (first ≤ end) × (end ≤ n) × (end ≡ before (level + 1 + 1) levels)
-      × (entriesText es levels end ≡ entriesText es levels first ++ groupText es first (end - 1) (level + 1) (end - first))
+      → NextGroup es n levels level first end
   next-group level first end h p q =
       let g = groups - 1 - level in
       let l = level + 1 in

@@ -1,6 +1,5 @@
 use Prim.Native.Nat.{_+_, _*_, _-_, _≤_}
 use mathlib.Core.Path.{_≡_, sym}
-use mathlib.Core.List.{_++_}
 use native.Mathlib.Omega.{arith}
 use borrow.Author.Needs.{needs}
 use lib.ListN.{take}
@@ -13,10 +12,9 @@ use Rattle.level_map.specs.Cuts.{levelsOfCuts}
 use Rattle.level_map.proofs.Levels.{before}
 use Rattle.level_map.proofs.Cutting.{falling-few}
 use Rattle.listing.specs.Listing.{entriesText}
-use Rattle.listing.specs.Groups.{groupText}
 use Rattle.listing.proofs.Lines.{upto-same, upto-none, upto-room, upto-append, upto-kept}
 use Rattle.listing.proofs.Texts.{entries-none}
-use Rattle.listing.proofs.Grouped.{first-group, next-group, last-group}
+use Rattle.listing.proofs.Grouped.{NextGroup, first-group, next-group, last-group}
 use Rattle.listing.proofs.put_entries.Statement.{statement}
 use Rattle.listing.proofs.put_entries.Tie as tie
 
@@ -66,15 +64,9 @@ module _ (c : tie.After-group-end Inv-loop μ-loop) where
   abbrev at-start : tie.Start Inv-loop μ-loop
   at-start = at-loop .before .before
 
-  group : (at-loop .loop .first ≤ c .group-end .result) × (c .group-end .result ≤ at-start .args .count)
-      × (c .group-end .result
-      ≡ before (at-loop .loop .level + 1 + 1) (levelsOfCuts (take (at-start .args .groups) (at-start .args .cuts .now)) (at-start .args .count)))
-      × (entriesText (entriesOf (at-start .args .words .now) (at-start .args .count))
-      (levelsOfCuts (take (at-start .args .groups) (at-start .args .cuts .now)) (at-start .args .count)) (c .group-end .result)
-      ≡ entriesText (entriesOf (at-start .args .words .now) (at-start .args .count))
-      (levelsOfCuts (take (at-start .args .groups) (at-start .args .cuts .now)) (at-start .args .count)) (at-loop .loop .first)
-      ++ groupText (entriesOf (at-start .args .words .now) (at-start .args .count)) (at-loop .loop .first) (c .group-end .result - 1)
-      (at-loop .loop .level + 1) (c .group-end .result - at-loop .loop .first))
+  group : NextGroup (entriesOf (at-start .args .words .now) (at-start .args .count)) (at-start .args .count)
+      (levelsOfCuts (take (at-start .args .groups) (at-start .args .cuts .now)) (at-start .args .count)) (at-loop .loop .level)
+      (at-loop .loop .first) (c .group-end .result)
   group =
       let a = at-start .args in
       let l = at-loop .loop in
