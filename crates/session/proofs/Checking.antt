@@ -1,6 +1,6 @@
 -- Laws of checks that follow one another, and of what a check's answer leaves of a session.
 use Prim.Native.Nat.{ℕ, _≤_, _<_}
-use mathlib.Core.Path.{_≡_, _∙_, sym}
+use mathlib.Core.Path.{_≡_, sym}
 use mathlib.Core.Bool.{true, _&&_}
 use mathlib.Core.List.{List}
 use native.Mathlib.Omega.{arith}
@@ -8,8 +8,7 @@ use lib.ListN.{length}
 use lib.Dec.{leb, ltb}
 use borrow.Author.Tests.{le-leb, lt-leb, lt-ltb, le-ltb, leb-true, ltb-true}
 use Rattle.task_model.specs.declared.Entry.{Entry}
-use Rattle.task_model.specs.declared.Checked.{Checked}
-use Rattle.task_model.specs.Refusals.{Numbered, at, accepted, refused, outcome, _andThen_}
+use Rattle.task_model.specs.Refusals.{Numbered, at, accepted, refused, _andThen_}
 use Rattle.task_model.specs.Limits.{mostLevels, mostEntries, Node, AllHold}
 use Rattle.task_model.specs.Checks.{entryCheck, nodeCheck}
 use Rattle.task_model.specs.Words.{nodeOf}
@@ -23,7 +22,7 @@ use Rattle.session.specs.State.{nodeIn}
 use Rattle.session.specs.Operations.{changing, asking, Operation, inserting, removing, replacing, settingLevels, timing, levelsCheck, changeCheck, queryCheck, operationCheck, lentCheck, stepCheck}
 use Rattle.task_model.specs.Answers.{gives, refuses}
 use Rattle.session.specs.Timing.{timeAnswer}
-use Rattle.session.specs.Steps.{sessionMade, sessionAfter, Follows}
+use Rattle.session.specs.Steps.{sessionMade, sessionAfter}
 
 -- 1 to 64 levels
 pub levels-low : (levels : ℕ) → levels < 1 → levelsCheck levels ≡ refused (at 4 0 0)
@@ -146,13 +145,6 @@ module _ (o : Operation) (s : Session) where
   pub after-accepted : stepCheck o (nodeIn s) ≡ accepted → sessionAfter o s ≡ sessionMade o s
   unfolding sessionAfter
   after-accepted p = rw (p, sessionAfter)
-
-  pub follows-refused : (a : Checked) (r : Numbered) → outcome a ≡ stepCheck o (nodeIn s) → outcome a ≡ refused r → Follows o s a s
-  follows-refused a r p q = record { answer = p; session = sym (after-refused r (sym p ∙ q)) }
-
-  pub follows-accepted : (a : Checked) (t : Session) → outcome a ≡ stepCheck o (nodeIn s) → outcome a ≡ accepted
-      → t ≡ sessionMade o s → Follows o s a t
-  follows-accepted a t p q e = record { answer = p; session = e ∙ sym (after-accepted (sym p ∙ q)) }
 
 -- timing
 module _ (n : Node) (first last i : ℕ) where

@@ -15,7 +15,7 @@ use Rattle.task_model.proofs.Theorems.{either}
 use Rattle.session.specs.declared.Session.{Session}
 use Rattle.session.specs.State.{nodeIn, zeros, filled, sessionOf}
 use Rattle.session.specs.Operations.{Change, Operation, changing, emptyNode, changed, stepCheck}
-use Rattle.session.specs.Steps.{sessionMade, sessionAfter, sessionAfterAll}
+use Rattle.session.specs.Steps.{sessionMade, sessionAfter, sessionAfterAll, Follows}
 use Rattle.session.specs.InWords.{sessionSize, sessionIn, wordsIn, wordsLeft, wordsAfter, wordsAfterAll, FollowsIn}
 use Rattle.session.proofs.Checking.{after-refused, after-accepted}
 
@@ -50,6 +50,13 @@ module _ (o : Operation) (w : List ℕ) where
     in-accepted q t made after e =
         let s = sym p ∙ q in
         record { answer = p; words = e ∙ ap wordsIn (made ∙ sym (after-accepted o (sessionIn w) s)) ∙ sym (words-accepted s) }
+
+-- a change by value, made in the words of the session
+pub by-value : (o : Operation) (s : Session) {a : Checked} {w after : List ℕ} {t : Session} → w ≡ wordsIn s → FollowsIn o w a after → t ≡ sessionIn after
+    → Follows o s a t
+by-value o s written h read =
+    let g = rw written at h in
+    record { answer = g .answer; session = read ∙ ap sessionIn (g .words) ∙ words-session o (wordsIn s) }
 
 -- opening clears every word but the first
 pub opened-words : (w : List ℕ) (levels : ℕ) → length w ≡ sessionSize → (cleared : List ℕ) → cleared ≡ take 1 w ++ zeros (length w - 1)

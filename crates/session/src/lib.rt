@@ -3,20 +3,11 @@ mod checks;
 pub mod in_words;
 mod list;
 
-use checks::check_insert;
-use checks::check_levels;
-use checks::check_remove;
-use checks::check_replace;
-use checks::check_set_levels;
 use checks::check_time;
 use completion::Timing;
 use completion::completion_test;
 use level_map::MappedNode;
 use level_map::map_held;
-use list::insert_at;
-use list::keep_list;
-use list::remove_at;
-use list::replace_at;
 use task_model::Checked;
 use task_model::Entry;
 use task_model::NODE_WORDS;
@@ -67,19 +58,13 @@ pub fn blank() -> Session
     }
 }
 
-// Opens a session: an empty node with the given level count.
+// Opens a session: an empty node with the given level count. As each change by value it is made in the session's words.
 pub fn opened(s: Session, levels: u8) -> Changed
     ensures { λ c. ⌜ Follows (opening levels) s (c .answer) (c .session) ⌝ }
 {
-    let answer = check_levels(levels);
-    let Checked::Accepted = answer else {
-        return Changed { answer, session: s };
-    };
-    let session = Session {
-        levels: levels as u32,
-        count: 0,
-        words: [0u32; NODE_WORDS],
-    };
+    let mut words = to_words(s);
+    let answer = in_words::open(&mut words, levels);
+    let session = from_words(words);
     Changed { answer, session }
 }
 
@@ -87,18 +72,9 @@ pub fn opened(s: Session, levels: u8) -> Changed
 pub fn inserted(s: Session, position: usize, e: Entry) -> Changed
     ensures { λ c. ⌜ Follows (changing (inserting position e)) s (c .answer) (c .session) ⌝ }
 {
-    let count = s.count as usize;
-    let answer = check_insert(s.levels, count, &s.words, position, e);
-    let Checked::Accepted = answer else {
-        return Changed { answer, session: s };
-    };
-    let mut words = s.words;
-    insert_at(&mut words, count, position, e);
-    let session = Session {
-        levels: s.levels,
-        count: s.count + 1,
-        words,
-    };
+    let mut words = to_words(s);
+    let answer = in_words::insert(&mut words, position, e);
+    let session = from_words(words);
     Changed { answer, session }
 }
 
@@ -106,18 +82,9 @@ pub fn inserted(s: Session, position: usize, e: Entry) -> Changed
 pub fn removed(s: Session, position: usize) -> Changed
     ensures { λ c. ⌜ Follows (changing (removing position)) s (c .answer) (c .session) ⌝ }
 {
-    let count = s.count as usize;
-    let answer = check_remove(s.levels, count, &s.words, position);
-    let Checked::Accepted = answer else {
-        return Changed { answer, session: s };
-    };
-    let mut words = s.words;
-    remove_at(&mut words, count, position);
-    let session = Session {
-        levels: s.levels,
-        count: s.count - 1,
-        words,
-    };
+    let mut words = to_words(s);
+    let answer = in_words::remove(&mut words, position);
+    let session = from_words(words);
     Changed { answer, session }
 }
 
@@ -125,18 +92,9 @@ pub fn removed(s: Session, position: usize) -> Changed
 pub fn replaced(s: Session, position: usize, e: Entry) -> Changed
     ensures { λ c. ⌜ Follows (changing (replacing position e)) s (c .answer) (c .session) ⌝ }
 {
-    let count = s.count as usize;
-    let answer = check_replace(s.levels, count, &s.words, position, e);
-    let Checked::Accepted = answer else {
-        return Changed { answer, session: s };
-    };
-    let mut words = s.words;
-    replace_at(&mut words, count, position, e);
-    let session = Session {
-        levels: s.levels,
-        count: s.count,
-        words,
-    };
+    let mut words = to_words(s);
+    let answer = in_words::replace(&mut words, position, e);
+    let session = from_words(words);
     Changed { answer, session }
 }
 
@@ -144,18 +102,9 @@ pub fn replaced(s: Session, position: usize, e: Entry) -> Changed
 pub fn with_levels(s: Session, levels: u8) -> Changed
     ensures { λ c. ⌜ Follows (changing (settingLevels levels)) s (c .answer) (c .session) ⌝ }
 {
-    let count = s.count as usize;
-    let answer = check_set_levels(s.levels, count, &s.words, levels);
-    let Checked::Accepted = answer else {
-        return Changed { answer, session: s };
-    };
-    let mut words = s.words;
-    keep_list(&mut words, count);
-    let session = Session {
-        levels: levels as u32,
-        count: s.count,
-        words,
-    };
+    let mut words = to_words(s);
+    let answer = in_words::set_levels(&mut words, levels);
+    let session = from_words(words);
     Changed { answer, session }
 }
 
