@@ -9,6 +9,3 @@ pub mod Groups
 pub mod Alike
 pub mod Words
 pub mod Theorems
-pub mod Load
-pub mod Early
-pub mod Behind

@@ -13,18 +13,8 @@ use lib.Dec.{ltb, leb, eqb}
 use borrow.Author.Tests.{lt-ltb, le-ltb, le-leb, lt-leb, eq-eqb, ne-eqb}
 use Rattle.task_model.specs.declared.Entry.{Entry}
 use Rattle.task_model.specs.Limits.{entryAt, TimesHold, AllHold}
-use Rattle.completion.specs.Demand.{
-  releases,
-  sumTo,
-  only,
-  moreUrgent,
-  beside,
-  urgentShare,
-  besideShare,
-  demandWith,
-  startWith,
-}
-use Rattle.task_model.proofs.Laws.{true-or-false}
+use Rattle.completion.specs.Demand.{releases, sumTo, only, moreUrgent, beside, urgentShare, besideShare, demandWith, startWith}
+use Rattle.task_model.proofs.Tests.{true-or-false}
 use Rattle.completion.proofs.Sums.{sumTo-le, sumTo-eq, sumTo-add, sumTo-strict, sumTo-one}
 use Rattle.completion.proofs.Releases.{releases-up, releases-some, urgent-up, beside-up, urgent-first, beside-first}
 

@@ -7,8 +7,8 @@ use native.Mathlib.Omega.{arith}
 use lib.ListN.{length}
 use Rattle.task_model.specs.declared.Entry.{Entry}
 use Rattle.task_model.specs.Limits.{mostTicks, mostEntries, entryAt, TimesHold, AllHold}
-use Rattle.task_model.specs.Words.{entryOf, entriesOf}
-use Rattle.task_model.proofs.Laws.{length-entries, entry-of, all-at}
+use Rattle.node_words.specs.Words.{entryOf, entriesOf}
+use Rattle.node_words.proofs.Entries.{length-entries, entry-of, all-at}
 use Rattle.completion.specs.Demand.{sumTo, urgentShare, besideShare, demandWith, startWith}
 use Rattle.completion.specs.Group.{groupLevel}
 use Rattle.completion.specs.Test.{limit, testFrom, testWith}

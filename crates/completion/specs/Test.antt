@@ -9,8 +9,6 @@ use Rattle.task_model.specs.declared.Entry.{Entry}
 use Rattle.task_model.specs.Limits.{entryAt}
 use Rattle.completion.specs.declared.Timing.{Timing}
 use Rattle.completion.specs.declared.Timing.the-variants.{OnTime, Late}
-use Rattle.completion.specs.declared.Ending.{Ending}
-use Rattle.completion.specs.declared.Ending.the-variants as ending
 use Rattle.completion.specs.Demand.{releases, sumTo, only, demandWith, startWith}
 
 -- The answer for an entry: on time, with its completion time and the rounds, or late, with the rounds alone. Rounds is
@@ -57,11 +55,6 @@ completionTest es level i = testWith (entryAt es i .blocking) es level i
 abbrev pub isOnTime : Completion → Bool
 isOnTime (on-time time rounds) = true
 isOnTime (late rounds) = false
-
--- What the code says of it where it gives no time.
-abbrev pub endsOnTime : Ending → Bool
-endsOnTime ending.OnTime = true
-endsOnTime ending.Late = false
 
 -- The rounds, on time or late.
 abbrev pub roundsIn : Completion → ℕ

@@ -1,18 +1,14 @@
 // The completion time test of an entry in a group of its node.
-mod deciding;
-
-pub use deciding::behind_late;
-pub use deciding::ends_on_time;
 ghost use mathlib.Core.Path.{_≡_};
 ghost use Prim.Native.Nat.{_+_, _-_, _≤_, _<_};
 ghost use Rattle.task_model.specs.Limits.{mostTicks, mostEntries, AllHold, TimesHold};
-ghost use Rattle.task_model.specs.Words.{entryOf, entriesOf};
+ghost use Rattle.node_words.specs.Words.{entryOf, entriesOf};
 ghost use Rattle.completion.specs.Demand.{releases, sumTo, urgentShare, besideShare, demandWith, startWith};
 ghost use Rattle.completion.specs.Group.{groupLevel, InGroup};
 ghost use Rattle.completion.specs.Test.{completion, limit, testWith, completionTest, roundsIn, roundsBound};
+use node_words::NodeWords;
+use node_words::entry_at;
 use task_model::Entry;
-use task_model::NodeWords;
-use task_model::entry_at;
 
 // Whether an entry ends by its deadline; rounds is the number of times that its demand was evaluated.
 pub enum Timing {
@@ -32,14 +28,8 @@ impl Timing {
     }
 }
 
-// Whether an entry ends by its deadline, and no more.
-pub enum Ending {
-    OnTime,
-    Late,
-}
-
 // The last time, counted from its release, by which an entry may end.
-fn limit_of(e: Entry) -> u32
+pub fn limit_of(e: Entry) -> u32
     requires { ⌜ TimesHold e ⌝ }
     ensures { λ d. ⌜ d ≡ limit e ⌝ }
 {
@@ -104,7 +94,7 @@ fn beside_sum(words: &NodeWords, begin: usize, end: usize, calls: u8, t: u32) ->
 
 // The demand at `t` of the entry at `i`, in the group from `first` to `last`, where less urgent work can hold it up for
 // `blocking` ticks.
-fn demand_at(
+pub fn demand_at(
     words: &NodeWords,
     count: usize,
     first: usize,

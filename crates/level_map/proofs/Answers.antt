@@ -6,8 +6,8 @@ use mathlib.Core.List.{List, _++_}
 use native.Mathlib.Omega.{arith}
 use lib.ListN.{length, drop}
 use Rattle.task_model.specs.Limits.{Node, NodeHolds}
-use Rattle.task_model.specs.Refusals.{at}
-use Rattle.task_model.specs.Answers.{Answer, gives, refuses, left}
+use Rattle.refusals.specs.Refusals.{at}
+use Rattle.refusals.specs.Answers.{Answer, gives, refuses, left}
 use Rattle.level_map.specs.Map.{theMap}
 use Rattle.level_map.specs.Answer.{heldAnswer, mapOf, NodeDemand3}
 use Rattle.level_map.specs.Cuts.{levelsOfCuts, CutsOf}

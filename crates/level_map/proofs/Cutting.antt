@@ -11,7 +11,19 @@ use lib.Seq.{drop-cons}
 use Rattle.level_map.specs.Assignments.{sizeOf}
 use Rattle.level_map.specs.Cuts.{Falling, levelsOfCuts}
 use Rattle.level_map.proofs.Lists.{filled, fill-rest}
-use Rattle.level_map.proofs.Levels.{Rising, before, before-suc, before-append, before-same, before-none, before-all, rising-wider, rising-append, rising-same, rising-assignment}
+use Rattle.level_map.proofs.Levels.{
+  Rising,
+  before,
+  before-suc,
+  before-append,
+  before-same,
+  before-none,
+  before-all,
+  rising-wider,
+  rising-append,
+  rising-same,
+  rising-assignment,
+}
 use Rattle.level_map.proofs.Maps.{Full}
 
 -- there are no more groups than entries

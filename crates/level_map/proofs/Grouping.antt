@@ -18,16 +18,7 @@ use Rattle.completion.proofs.Theorems.{alike, same-group, shrink}
 use Rattle.level_map.specs.Assignments.{levelOf, Assignment, NoneLate}
 use Rattle.level_map.specs.Groups.{onTimeIn}
 use Rattle.level_map.specs.Cuts.{Falling, levelsOfCuts}
-use Rattle.level_map.proofs.Levels.{
-  before,
-  before-length,
-  before-in,
-  before-out,
-  own-low,
-  own-high,
-  own-level,
-  assignment-rising,
-}
+use Rattle.level_map.proofs.Levels.{before, before-length, before-in, before-out, own-low, own-high, own-level, assignment-rising}
 use Rattle.level_map.proofs.Cutting.{rising-levels, full-cuts}
 use Rattle.level_map.proofs.Optimal.{InTime}
 

@@ -9,16 +9,7 @@ use lib.ListN.{length}
 use Rattle.level_map.specs.Assignments.{levelOf, Assignment, sizeOf, levelsUsed}
 use Rattle.level_map.specs.Map.{IsMap}
 use Rattle.level_map.proofs.Tests.{one-eq}
-use Rattle.level_map.proofs.Levels.{
-  Rising,
-  before-suc,
-  before-in,
-  own-high,
-  used-levels,
-  used-ge,
-  assignment-rising,
-  rising-assignment,
-}
+use Rattle.level_map.proofs.Levels.{Rising, before-suc, before-in, own-high, used-levels, used-ge, assignment-rising, rising-assignment}
 
 -- A map with c levels, by the levels that it uses.
 pub record Full (c n : ℕ) (m : List ℕ) : Type 0 where

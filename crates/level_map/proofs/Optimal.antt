@@ -15,7 +15,29 @@ use Rattle.level_map.specs.Map.{IsMap, Longer, Chosen}
 use Rattle.level_map.specs.Cuts.{Falling, levelsOfCuts}
 use Rattle.level_map.proofs.Tests.{by-test}
 use Rattle.level_map.proofs.Search.{groupOk, greedy, group-each, group-of, Cuts, greedy-cases, greedy-more, Leads, leads}
-use Rattle.level_map.proofs.Levels.{before, above, Rising, before-suc, above-before, before-zero, before-length, rising-wider, before-none, before-all, own-low, own-high, own-level, same-before, used-levels, used-le, starts, length-starts, starts-map, assignment-rising, rising-assignment}
+use Rattle.level_map.proofs.Levels.{
+  before,
+  above,
+  Rising,
+  before-suc,
+  above-before,
+  before-zero,
+  before-length,
+  rising-wider,
+  before-none,
+  before-all,
+  own-low,
+  own-high,
+  own-level,
+  same-before,
+  used-levels,
+  used-le,
+  starts,
+  length-starts,
+  starts-map,
+  assignment-rising,
+  rising-assignment,
+}
 use Rattle.level_map.proofs.Maps.{Full, full-used, full-map, map-full}
 use Rattle.level_map.proofs.Cutting.{rising-levels, before-low, before-top, before-levels, full-cuts}
 

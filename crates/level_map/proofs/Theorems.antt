@@ -12,8 +12,8 @@ use lib.Seq.{take-at}
 use borrow.Author.Tests.{le-leb, lt-leb}
 use Rattle.task_model.specs.declared.Entry.{Entry}
 use Rattle.task_model.specs.Limits.{Node, AllHold}
-use Rattle.task_model.specs.Refusals.{Numbered, at}
-use Rattle.task_model.specs.Answers.{gives, refuses, left}
+use Rattle.refusals.specs.Refusals.{Numbered, at}
+use Rattle.refusals.specs.Answers.{gives, refuses, left}
 use Rattle.completion.specs.Test.{completionTest, isOnTime}
 use Rattle.level_map.specs.Assignments.{levelOf, Assignment, NoneLate, Passing, levelsUsed}
 use Rattle.level_map.specs.Map.{IsMap, Chosen, maps, mapsWith, firstOf, noneLateTo, passTest, theMap}

@@ -9,8 +9,8 @@ use mathlib.Core.List.{List, []}
 use lib.ListN.{length, take}
 use lib.Dec.{leb}
 use Rattle.task_model.specs.declared.Entry.{Entry}
-use Rattle.task_model.specs.Refusals.{at, numbered, Outcome, _andThen_, mustHold}
-use Rattle.task_model.specs.Answers.{Answer, gives, refuses, giving}
+use Rattle.refusals.specs.Refusals.{at, numbered, Outcome, _andThen_, mustHold}
+use Rattle.refusals.specs.Answers.{Answer, gives, refuses, giving}
 use Rattle.task_model.specs.Limits.{Node}
 use Rattle.level_map.specs.declared.MappedNode.{MappedNode}
 use Rattle.level_map.specs.declared.MappedNode.the-variants.{Levels, Refused}

@@ -4,20 +4,20 @@ ghost use mathlib.Core.List.{_∷_, _++_};
 ghost use Prim.Native.Nat.{_-_, _≤_};
 ghost use lib.ListN.{length, getD, take, drop, replicate};
 ghost use Rattle.task_model.specs.Limits.{mostTicks, mostEntries, AllHold, NodeHolds};
-ghost use Rattle.task_model.specs.Answers.{left};
-ghost use Rattle.task_model.specs.Words.{entriesOf, nodeOf};
+ghost use Rattle.refusals.specs.Answers.{left};
+ghost use Rattle.node_words.specs.Words.{entriesOf, nodeOf};
 ghost use Rattle.level_map.specs.Map.{theMap};
 ghost use Rattle.level_map.specs.Answer.{answer, heldAnswer, mapOf, NodeDemand3};
 ghost use Rattle.level_map.specs.Groups.{GroupPasses, LeastStart};
 ghost use Rattle.level_map.specs.Cuts.{Falling, levelsOfCuts, CutAnswer};
-use completion::Ending;
-use completion::behind_late;
-use completion::ends_on_time;
 use completion::wcet_sum;
+use node_words::NodeWords;
+use node_words::entry_at;
+use on_time::Ending;
+use on_time::behind_late;
+use on_time::ends_on_time;
+use refusals::Refusal;
 use task_model::MOST_ENTRIES;
-use task_model::NodeWords;
-use task_model::Refusal;
-use task_model::entry_at;
 
 // A map, with the number of its levels, or why there is none.
 pub enum MappedNode {

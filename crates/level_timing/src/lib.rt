@@ -2,13 +2,13 @@
 ghost use mathlib.Core.Path.{_≡_};
 ghost use Prim.Native.Nat.{_≤_, _<_};
 ghost use Rattle.task_model.specs.Limits.{mostEntries, AllHold};
-ghost use Rattle.task_model.specs.Words.{entriesOf};
+ghost use Rattle.node_words.specs.Words.{entriesOf};
 ghost use Rattle.completion.specs.Test.{completion, completionTest};
 ghost use Rattle.level_map.specs.Assignments.{levelOf};
 ghost use Rattle.level_timing.specs.Levels.{NeverFalls, FirstOf, LastOf};
 use completion::Timing;
+use node_words::NodeWords;
 use task_model::MOST_ENTRIES;
-use task_model::NodeWords;
 
 // The first position of the group of the entry at `i`.
 fn group_first(levels: &[u8; MOST_ENTRIES], i: usize) -> usize

@@ -3,22 +3,13 @@ use mathlib.Core.Path.{_≡_, refl}
 use Rattle.text.specs.Text.{text}
 use Rattle.text.specs.Decimal.{digits, decimal}
 use Rattle.task_model.specs.Checks.{kindTest, timesTest, entryCheck, entriesCheck, sizeTest}
-use Rattle.task_model.specs.Words.{entryFrom}
+use Rattle.node_words.specs.Words.{entryFrom}
 use Rattle.completion.specs.Demand.{ceilDiv, releases, sumTo, urgentShare, besideShare, demandWith, startWith}
 use Rattle.completion.specs.Test.{limit, iterate, testFrom, testWith}
 use Rattle.plan_file.specs.Plan.{entryCount, rowOf}
-use Rattle.plan_file.specs.Check.{
-  openingTest,
-  countTest,
-  zerosTest,
-  rowTest,
-  contentsCheck,
-  nodesCheck,
-  headerCheck,
-  layoutCheck,
-  fileCheck,
-}
-use Rattle.plan_file.specs.Decoding.{wordAt, wordsFrom, rowsFrom, entriesAt}
+use Rattle.plan_file.specs.Check.{openingTest, countTest, zerosTest, rowTest, contentsCheck, nodesCheck, headerCheck, layoutCheck, fileCheck}
+use Rattle.byte_words.specs.Bytes.{wordAt, wordsFrom}
+use Rattle.plan_file.specs.Decoding.{rowsFrom, entriesAt}
 use Rattle.plan_file.proofs.Examples.{caseP}
 use Rattle.plan_file.specs.Find.{nodeOfRow}
 use Rattle.level_map.specs.Map.{fromLongest, mapsWith, maps, firstOf, noneLateTo, passTest, theMap}

@@ -8,7 +8,7 @@ use native.Mathlib.Decide.{decLt}
 use native.Mathlib.Omega.{arith}
 use lib.ListN.{length}
 use Rattle.task_model.specs.declared.Entry.{Entry}
-use Rattle.task_model.specs.Refusals.{accepted}
+use Rattle.refusals.specs.Refusals.{accepted}
 use Rattle.task_model.specs.Limits.{Node}
 use Rattle.plan_file.specs.Plan.{Plan}
 use Rattle.plan_file.specs.Check.{fileCheck}

@@ -9,21 +9,22 @@ use lib.ListN.{length, getD, take, length-take}
 use lib.Seq.{getD-take, take-all}
 use lib.Dec.{leb, eqb}
 use borrow.Author.Tests.{le-leb}
-use Rattle.task_model.specs.Refusals.{at, accepted, _andThen_, mustHold}
-use Rattle.task_model.proofs.Theorems.{either, not-both}
+use Rattle.refusals.specs.Refusals.{at, _andThen_, mustHold}
+use Rattle.refusals.proofs.Outcomes.{either, not-both}
 use Rattle.completion.proofs.Iteration.{le-or-lt}
 use Rattle.plan_file.specs.declared.Row.{Row}
 use Rattle.plan_file.specs.Plan.{rowOf}
 use Rattle.plan_file.specs.Encoding.{rowLength, headerLength, entryLength, opening, bodiesStart}
 use Rattle.plan_file.specs.Check.{opensAt, openingTest, countTest, zerosTest, rowTest, contentsCheck, headerCheck, layoutCheck, fileCheck}
-use Rattle.plan_file.specs.Decoding.{wordAt, nodeCount, rowsFrom}
+use Rattle.byte_words.specs.Bytes.{wordAt}
+use Rattle.plan_file.specs.Decoding.{nodeCount, rowsFrom}
 use Rattle.plan_file.proofs.Contents.{length-rows}
 use Rattle.plan_file.proofs.Limits.{long-layout}
 use Rattle.plan_file.proofs.File.{layout-holds}
 use Rattle.plan_file.proofs.Theorems.{file-sizes}
 use Rattle.plan_file.proofs.Header.{header-holds}
 use Rattle.plan_file.proofs.Handed.{count-hold}
-use Rattle.task_model.proofs.Laws.{and-true}
+use Rattle.task_model.proofs.Tests.{and-true}
 use Rattle.listing.specs.Listing.{listing}
 use Rattle.listing.proofs.Texts.{listing-refused}
 

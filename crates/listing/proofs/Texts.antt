@@ -8,11 +8,11 @@ use native.Mathlib.Omega.{arith}
 use lib.ListN.{length, drop}
 use borrow.Author.Tests.{le-leb, lt-leb}
 use Rattle.task_model.specs.declared.Entry.{Entry}
-use Rattle.task_model.specs.Refusals.{Numbered, at, accepted, refused}
+use Rattle.refusals.specs.Refusals.{Numbered, at, accepted, refused}
 use Rattle.task_model.specs.Limits.{Node, entryAt}
 use Rattle.completion.specs.Test.{on-time, late, completionTest}
 use Rattle.plan_file.specs.Plan.{mostNodes, Plan}
-use Rattle.task_model.specs.Answers.{Answer, gives, refuses, left}
+use Rattle.refusals.specs.Answers.{Answer, gives, refuses, left}
 use Rattle.plan_file.specs.Check.{fileCheck}
 use Rattle.plan_file.specs.Decoding.{nodeCount, planIn}
 use Rattle.plan_file.proofs.Contents.{length-rows}

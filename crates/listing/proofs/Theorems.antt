@@ -7,7 +7,7 @@ use mathlib.Core.List.{List, [], append-nil}
 use native.Mathlib.Omega.{arith}
 use lib.ListN.{length}
 use Rattle.task_model.specs.declared.Entry.{Entry}
-use Rattle.task_model.specs.Refusals.{accepted}
+use Rattle.refusals.specs.Refusals.{accepted}
 use Rattle.task_model.specs.Limits.{AllHold}
 use Rattle.completion.specs.Test.{on-time, completionTest, isOnTime}
 use Rattle.completion.proofs.Theorems.{by-answer, timing-right}

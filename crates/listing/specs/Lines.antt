@@ -2,7 +2,7 @@
 -- newline byte.
 use Prim.Native.Nat.{ℕ}
 use mathlib.Core.List.{List, _++_}
-use Rattle.task_model.specs.Refusals.{Numbered}
+use Rattle.refusals.specs.Refusals.{Numbered}
 use Rattle.text.specs.Text.{text}
 use Rattle.text.specs.Decimal.{field}
 

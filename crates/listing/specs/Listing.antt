@@ -5,11 +5,11 @@ use mathlib.Core.List.{List, [], _++_}
 use lib.ListN.{length}
 use lib.Dec.{leb}
 use Rattle.task_model.specs.declared.Entry.{Entry}
-use Rattle.task_model.specs.Refusals.{at, numbered, accepted, refused, mustHold}
+use Rattle.refusals.specs.Refusals.{at, numbered, accepted, refused, mustHold}
 use Rattle.task_model.specs.Limits.{Node, entryAt}
 use Rattle.completion.specs.Test.{on-time, late, completionTest}
 use Rattle.plan_file.specs.Plan.{Plan}
-use Rattle.task_model.specs.Answers.{Answer, gives, refuses, giving}
+use Rattle.refusals.specs.Answers.{Answer, gives, refuses, giving}
 use Rattle.plan_file.specs.Check.{fileCheck}
 use Rattle.plan_file.specs.Decoding.{planIn}
 use Rattle.plan_file.specs.Find.{rowIn, nodeOfRow}

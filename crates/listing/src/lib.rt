@@ -6,9 +6,9 @@ pub use aside::list_plan;
 ghost use mathlib.Core.Path.{_≡_};
 ghost use Prim.Native.Nat.{_+_, _-_, _*_, _≤_, _<_};
 ghost use lib.ListN.{length, take};
-ghost use Rattle.task_model.specs.Refusals.{numbered, accepted};
+ghost use Rattle.refusals.specs.Refusals.{numbered, accepted};
 ghost use Rattle.task_model.specs.Limits.{mostEntries, entryAt, AllHold};
-ghost use Rattle.task_model.specs.Words.{entriesOf};
+ghost use Rattle.node_words.specs.Words.{entriesOf};
 ghost use mathlib.Core.List.{_++_};
 ghost use Rattle.text.specs.Text.{Wrote, Upto};
 ghost use Rattle.text.specs.Decimal.{decimal};
@@ -26,10 +26,10 @@ use completion::Timing;
 use completion::completion_test;
 use level_map::Cut;
 use level_map::group_end;
+use node_words::NODE_WORDS;
+use node_words::NodeWords;
+use refusals::Refusal;
 use task_model::MOST_ENTRIES;
-use task_model::NODE_WORDS;
-use task_model::NodeWords;
-use task_model::Refusal;
 use text::put_bytes;
 use text::put_field;
 
@@ -131,7 +131,7 @@ fn put_refused_line(out: &mut [u8], at: usize, r: Refusal) -> usize
     requires { ⌜ at + 64 ≤ length (now out) ⌝ }
     ensures { λ end. ⌜ Upto (now (out .entry)) at 64 (refusedLine (numbered r)) (now (out .exit)) end ⌝ }
 {
-    let n = task_model::numbers_of(r);
+    let n = refusals::numbers_of(r);
     let next = put_three(
         out,
         at,
@@ -166,7 +166,7 @@ fn put_entry(
     let Timing::OnTime { time, rounds } = completion_test(words, count, first, last, i) else {
         return at;
     };
-    let e = task_model::entry_at(words, i);
+    let e = node_words::entry_at(words, i);
     put_entry_line(out, at, e.number, level, time, rounds)
 }
 

@@ -8,7 +8,7 @@ use lib.ListN.{length, take, drop, length-take, length-drop}
 use lib.Seq.{getD-take, getD-drop}
 use Rattle.plan_file.specs.Encoding.{entryLength}
 use Rattle.task_model.specs.declared.Entry.{Entry}
-use Rattle.task_model.specs.Refusals.{Numbered, Outcome, accepted, refused, _andThen_}
+use Rattle.refusals.specs.Refusals.{Numbered, Outcome, accepted, refused, _andThen_}
 use Rattle.task_model.specs.Checks.{entryCheck, entriesCheck}
 use Rattle.task_model.specs.Limits.{noEntry, AllHold}
 use Rattle.task_model.proofs.Laws.{entries-next, entries-stop}
@@ -18,7 +18,7 @@ use Rattle.plan_file.specs.Plan.{entryCount}
 use Rattle.plan_file.specs.Decoding.{rowAt, rowsFrom, entryIn, entriesAt}
 use Rattle.plan_file.specs.Check.{nodesCheck}
 use Rattle.plan_file.proofs.Contents.{rows-first, rows-end}
-use Rattle.task_model.proofs.Outcomes.{then-accepted}
+use Rattle.refusals.proofs.Outcomes.{then-accepted}
 
 pub length-entries-at : (f : List ℕ) (k n : ℕ) → length (entriesAt f k n) ≡ n
 unfolding entriesAt

@@ -6,7 +6,8 @@ use lib.Dec.{lit<}
 use Rattle.task_model.specs.declared.Entry.{Entry}
 use Rattle.plan_file.specs.declared.Row.{Row}
 use Rattle.plan_file.specs.Plan.{Plan}
-use Rattle.plan_file.specs.Encoding.{entryLength, low, headerBytes, rowBytes, entryBytes, contentsBytes, bodiesBytes, encoding, Bytes}
+use Rattle.plan_file.specs.Encoding.{entryLength, headerBytes, rowBytes, entryBytes, contentsBytes, bodiesBytes, encoding}
+use Rattle.byte_words.specs.Bytes.{low, Bytes}
 
 data Small : List ℕ → Type 0 where
   none : Small []

@@ -10,10 +10,11 @@ use lib.ListN.{length, length-map}
 use lib.Dec.{eqb}
 use borrow.Author.Tests.{eq-eqb, ne-eqb}
 use Rattle.plan_file.specs.Encoding.{rowLength, headerLength, entryLength}
-use Rattle.task_model.specs.Refusals.{at, refused, mustHold}
+use Rattle.refusals.specs.Refusals.{at, refused, mustHold}
 use Rattle.plan_file.specs.declared.Row.{Row}
 use Rattle.plan_file.specs.Plan.{entryCount, rowWord}
-use Rattle.plan_file.specs.Decoding.{wordAt, rowAt, offsetAt, rowsFrom}
+use Rattle.byte_words.specs.Bytes.{wordAt}
+use Rattle.plan_file.specs.Decoding.{rowAt, offsetAt, rowsFrom}
 use Rattle.plan_file.specs.Check.{rowTest, contentsCheck, layoutCheck}
 use Rattle.plan_file.proofs.Words.{row-word}
 

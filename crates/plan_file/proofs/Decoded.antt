@@ -8,20 +8,20 @@ use lib.ListN.{length, getD, drop}
 use lib.Seq.{take-all, drop-drop, drop-append-seam, getD-drop}
 use borrow.Author.Tests.{eq-eqb}
 use Rattle.task_model.specs.declared.Entry.{Entry}
-use Rattle.task_model.specs.Refusals.{accepted, mustHold}
+use Rattle.refusals.specs.Refusals.{accepted, mustHold}
 use Rattle.task_model.specs.Limits.{mostEntries}
-use Rattle.task_model.specs.Words.{entrySize, wordsOf, entriesOf, EntriesFit, WordsFit}
-use Rattle.task_model.proofs.Words.{read-entries, words-fit}
-use Rattle.task_model.proofs.Words.{length-words as length-words-of}
+use Rattle.node_words.specs.Words.{entrySize, wordsOf, entriesOf, EntriesFit, WordsFit}
+use Rattle.node_words.proofs.Words.{read-entries, words-fit, length-words as length-words-of}
 use Rattle.plan_file.specs.declared.Row.{Row}
 use Rattle.plan_file.specs.Plan.{Plan, entryCount, rowWord, rowOf, RowFits, RowsFit, PlanFits}
-use Rattle.plan_file.specs.Encoding.{rowLength, headerLength, entryLength, low, headerBytes, rowBytes, bodiesStart, contentsBytes, bodiesBytes, encoding}
-use Rattle.plan_file.specs.Decoding.{wordAt, wordsFrom, nodeCount, rowAt, offsetAt, rowsFrom, rowsIn, entriesAt, entriesIn, planIn}
-use Rattle.plan_file.specs.Buffers.{bytesOf}
+use Rattle.plan_file.specs.Encoding.{rowLength, headerLength, entryLength, headerBytes, rowBytes, bodiesStart, contentsBytes, bodiesBytes, encoding}
+use Rattle.byte_words.specs.Bytes.{low, wordAt, wordsFrom, bytesOf}
+use Rattle.plan_file.specs.Decoding.{nodeCount, rowAt, offsetAt, rowsFrom, rowsIn, entriesAt, entriesIn, planIn}
 use Rattle.plan_file.specs.Check.{rowTest, rowsCheck, contentsCheck, layoutCheck, headerCheck, fileCheck, planCheck}
-use Rattle.task_model.proofs.Outcomes.{both-accepted, demanded}
+use Rattle.refusals.proofs.Outcomes.{both-accepted, demanded}
 use Rattle.plan_file.proofs.Tests.{row-holds, opens-true, counted-true}
-use Rattle.plan_file.proofs.Words.{length-low, row-bytes, bodies-bytes, entries-in-words}
+use Rattle.byte_words.proofs.Words.{length-low}
+use Rattle.plan_file.proofs.Words.{row-bytes, bodies-bytes, entries-in-words}
 use Rattle.plan_file.proofs.Encoding.{length-encoding}
 use Rattle.plan_file.proofs.Header.{header-accepted}
 use Rattle.plan_file.proofs.File.{file-bodies}

@@ -6,16 +6,17 @@ use native.Mathlib.Nat.{zero-add}
 use native.Mathlib.Omega.{arith}
 use lib.ListN.{length, take, drop}
 use lib.Seq.{drop-cons, drop-drop, take-add, take-all}
-use Rattle.task_model.specs.Refusals.{accepted}
-use Rattle.task_model.specs.Words.{entrySize}
+use Rattle.refusals.specs.Refusals.{accepted}
+use Rattle.node_words.specs.Words.{entrySize}
 use Rattle.plan_file.specs.declared.Row.{Row}
 use Rattle.plan_file.specs.Plan.{entryCount}
-use Rattle.plan_file.specs.Encoding.{rowLength, headerLength, entryLength, low, headerBytes, rowBytes, bodiesStart, contentsBytes, bodiesBytes, encoding, Bytes}
-use Rattle.plan_file.specs.Decoding.{wordAt, wordsFrom, nodeCount, rowAt, offsetAt, rowsFrom, rowsIn, entriesAt, planIn}
-use Rattle.plan_file.specs.Buffers.{bytesOf}
+use Rattle.plan_file.specs.Encoding.{rowLength, headerLength, entryLength, headerBytes, rowBytes, bodiesStart, contentsBytes, bodiesBytes, encoding}
+use Rattle.byte_words.specs.Bytes.{low, Bytes, wordAt, wordsFrom, bytesOf}
+use Rattle.plan_file.specs.Decoding.{nodeCount, rowAt, offsetAt, rowsFrom, rowsIn, entriesAt, planIn}
 use Rattle.plan_file.specs.Check.{rowsCheck, contentsCheck, fileCheck}
 use Rattle.plan_file.proofs.Tests.{row-true}
-use Rattle.plan_file.proofs.Words.{row-bytes, length-words, bodies-bytes, entries-in-words}
+use Rattle.plan_file.proofs.Words.{row-bytes, bodies-bytes, entries-in-words}
+use Rattle.byte_words.proofs.Words.{length-words}
 use Rattle.plan_file.proofs.Contents.{length-rows}
 use Rattle.plan_file.proofs.File.{FileHolds, file-holds}
 use Rattle.plan_file.proofs.Nodes.{row-placed}

@@ -1,13 +1,25 @@
 -- Laws of the encoding: lengths, and one row more at the end.
 use Prim.Native.Nat.{ℕ, _+_, _*_}
-use mathlib.Core.Path.{_≡_, _∙_, refl, sym, ap}
+use mathlib.Core.Path.{_≡_, refl, sym}
 use mathlib.Core.List.{List, [], _∷_, _++_, append-assoc, append-nil}
 use native.Mathlib.Omega.{arith}
 use lib.ListN.{length, length-append}
 use Rattle.task_model.specs.declared.Entry.{Entry}
 use Rattle.plan_file.specs.declared.Row.{Row}
 use Rattle.plan_file.specs.Plan.{Plan, entryCount}
-use Rattle.plan_file.specs.Encoding.{headerLength, rowLength, entryLength, low, headerBytes, rowBytes, entryBytes, bodiesStart, contentsBytes, bodiesBytes, encoding}
+use Rattle.plan_file.specs.Encoding.{
+  headerLength,
+  rowLength,
+  entryLength,
+  headerBytes,
+  rowBytes,
+  entryBytes,
+  bodiesStart,
+  contentsBytes,
+  bodiesBytes,
+  encoding,
+}
+use Rattle.byte_words.specs.Bytes.{low}
 
 pub count-snoc : (rs : List Row) (r : Row) → entryCount (rs ++ (r ∷ [])) ≡ entryCount rs + r .count
 unfolding entryCount

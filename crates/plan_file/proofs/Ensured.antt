@@ -3,10 +3,10 @@ use Prim.Native.Nat.{ℕ}
 use mathlib.Core.Path.{_≡_, _∙_, sym}
 use mathlib.Core.Logic.{_↔_}
 use mathlib.Core.List.{List}
-use Rattle.task_model.specs.Words.{WordsFit}
-use Rattle.task_model.specs.Refusals.{Outcome, accepted}
-use Rattle.task_model.specs.Answers.{Answer}
-use Rattle.plan_file.specs.Encoding.{Bytes}
+use Rattle.node_words.specs.Words.{WordsFit}
+use Rattle.refusals.specs.Refusals.{Outcome, accepted}
+use Rattle.refusals.specs.Answers.{Answer}
+use Rattle.byte_words.specs.Bytes.{Bytes}
 use Rattle.plan_file.specs.Check.{fileCheck, wordsCheck}
 use Rattle.plan_file.specs.Limits.{IsPlanFile, IsPlanInMemory}
 use Rattle.plan_file.specs.Answers.{Sizes, ReadCall, WriteCall}

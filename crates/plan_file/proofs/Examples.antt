@@ -3,23 +3,14 @@ use Prim.Native.Nat.{ℕ}
 use mathlib.Core.Path.{_≡_, refl}
 use mathlib.Core.List.{List, [], _∷_, _++_}
 use lib.ListN.{set}
-use Rattle.task_model.specs.Refusals.{at, accepted, refused}
+use Rattle.refusals.specs.Refusals.{at, accepted, refused}
 use Rattle.task_model.specs.Checks.{kindTest, timesTest, entryCheck, entriesCheck, sizeTest}
-use Rattle.task_model.specs.Words.{entryFrom}
+use Rattle.node_words.specs.Words.{entryFrom}
 use Rattle.plan_file.specs.Plan.{entryCount, rowOf}
-use Rattle.plan_file.specs.Encoding.{low, headerBytes, rowBytes, entryBytes, contentsBytes, bodiesBytes, encoding}
-use Rattle.plan_file.specs.Decoding.{wordAt, wordsFrom, rowsFrom, entriesAt, planIn}
-use Rattle.plan_file.specs.Check.{
-  openingTest,
-  countTest,
-  zerosTest,
-  rowTest,
-  contentsCheck,
-  nodesCheck,
-  headerCheck,
-  layoutCheck,
-  fileCheck,
-}
+use Rattle.byte_words.specs.Bytes.{low, wordAt, wordsFrom}
+use Rattle.plan_file.specs.Encoding.{headerBytes, rowBytes, entryBytes, contentsBytes, bodiesBytes, encoding}
+use Rattle.plan_file.specs.Decoding.{rowsFrom, entriesAt, planIn}
+use Rattle.plan_file.specs.Check.{openingTest, countTest, zerosTest, rowTest, contentsCheck, nodesCheck, headerCheck, layoutCheck, fileCheck}
 use Rattle.plan_file.specs.Find.{rowOfNumber, findCheck}
 
 -- One node, number 7, 2 levels, three entries of kind 1, with C/T/D 20/100/100, 30/145/145 and 68/150/150.

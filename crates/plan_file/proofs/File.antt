@@ -4,13 +4,13 @@ use mathlib.Core.Path.{_≡_}
 use mathlib.Core.List.{List}
 use lib.ListN.{length}
 use borrow.Author.Tests.{eqb-true}
-use Rattle.task_model.specs.Refusals.{Numbered, accepted, refused}
+use Rattle.refusals.specs.Refusals.{Numbered, accepted, refused}
 use Rattle.plan_file.specs.declared.Row.{Row}
 use Rattle.plan_file.specs.Plan.{entryCount}
 use Rattle.plan_file.specs.Encoding.{entryLength, bodiesStart}
 use Rattle.plan_file.specs.Decoding.{nodeCount, rowsIn, entriesIn}
 use Rattle.plan_file.specs.Check.{headerCheck, contentsCheck, layoutCheck, nodesCheck, fileCheck}
-use Rattle.task_model.proofs.Outcomes.{both-accepted, demanded}
+use Rattle.refusals.proofs.Outcomes.{both-accepted, demanded}
 use Rattle.plan_file.proofs.Header.{HeaderHolds, header-holds}
 
 pub layout-holds : (f : List ℕ) (i least required : ℕ) (rows : List Row) → layoutCheck f i least required rows ≡ accepted

@@ -7,13 +7,13 @@ use native.Mathlib.Omega.{arith}
 use lib.ListN.{length}
 use lib.Dec.{eqb}
 use borrow.Author.Tests.{eq-eqb, ne-eqb, eqb-true, eqb-false}
-use Rattle.task_model.specs.Refusals.{accepted, mustHold}
-use Rattle.task_model.proofs.Laws.{true-or-false}
+use Rattle.refusals.specs.Refusals.{accepted, mustHold}
+use Rattle.task_model.proofs.Tests.{true-or-false}
 use Rattle.plan_file.specs.declared.Row.{Row}
 use Rattle.plan_file.specs.Decoding.{rowAt, rowsFrom}
 use Rattle.plan_file.specs.Check.{rowTest, rowsCheck}
 use Rattle.plan_file.specs.Find.{rowIn, rowOfNumber}
-use Rattle.task_model.proofs.Outcomes.{both-accepted, demanded}
+use Rattle.refusals.proofs.Outcomes.{both-accepted, demanded}
 use Rattle.plan_file.proofs.Tests.{row-holds}
 use Rattle.plan_file.proofs.Contents.{rows-first, rows-end}
 

@@ -5,13 +5,15 @@ use mathlib.Core.List.{List, [], _∷_, map}
 use native.Mathlib.Omega.{arith}
 use lib.ListN.{length}
 use lib.Seq.{take-all}
-use Rattle.task_model.specs.Words.{entrySize, wordsOf, entriesOf, WordsFit}
-use Rattle.task_model.proofs.Words.{write-entries, entries-fit}
+use Rattle.node_words.specs.Words.{entrySize, wordsOf, entriesOf, WordsFit}
+use Rattle.node_words.proofs.Words.{write-entries, entries-fit}
 use Rattle.plan_file.specs.Plan.{rowWord, rowOf, RowFits, RowsFit, PlanFits}
-use Rattle.plan_file.specs.Encoding.{headerLength, rowLength, Bytes}
-use Rattle.plan_file.specs.Decoding.{wordAt, rowsFrom, planIn}
+use Rattle.plan_file.specs.Encoding.{headerLength, rowLength}
+use Rattle.byte_words.specs.Bytes.{Bytes, wordAt}
+use Rattle.plan_file.specs.Decoding.{rowsFrom, planIn}
 use Rattle.plan_file.proofs.Words.{row-word, entries-in-words}
-use Rattle.plan_file.proofs.Memory.{word-below, words-below}
+use Rattle.byte_words.proofs.Words.{word-below}
+use Rattle.plan_file.proofs.Memory.{words-below}
 
 row-fits : (w : ℕ) → RowFits (rowOf w)
 unfolding rowOf

@@ -6,14 +6,14 @@ use mathlib.Core.List.{List}
 use lib.ListN.{length}
 use lib.Dec.{eqb}
 use borrow.Author.Tests.{le-leb, leb-true, eqb-true}
-use Rattle.task_model.specs.Words.{entrySize}
+use Rattle.node_words.specs.Words.{entrySize}
 use Rattle.task_model.specs.declared.Entry.{Entry}
-use Rattle.task_model.specs.Refusals.{Numbered, at, Outcome, accepted, refused, _andThen_, mustHold}
-use Rattle.task_model.proofs.Laws.{and-true, decided}
+use Rattle.refusals.specs.Refusals.{Numbered, at, Outcome, accepted, refused, _andThen_, mustHold}
+use Rattle.task_model.proofs.Tests.{and-true, decided}
 use Rattle.plan_file.specs.declared.Row.{Row}
 use Rattle.plan_file.specs.Plan.{mostNodes, entryCount}
 use Rattle.plan_file.specs.Check.{countTest, rowsCheck, nodesCheck, handedCheck}
-use Rattle.task_model.proofs.Outcomes.{both-accepted, then-assoc, demanded}
+use Rattle.refusals.proofs.Outcomes.{both-accepted, then-assoc, demanded}
 
 pub count-true : (n : ℕ) → 1 ≤ n → n ≤ mostNodes → countTest n ≡ true
 unfolding countTest

@@ -5,11 +5,11 @@ use mathlib.Core.Bool.{true, false, _&&_}
 use mathlib.Core.List.{List}
 use lib.ListN.{length}
 use borrow.Author.Tests.{leb-true, le-leb, lt-leb}
-use Rattle.task_model.specs.Refusals.{at, accepted, refused}
+use Rattle.refusals.specs.Refusals.{at, accepted, refused}
 use Rattle.plan_file.specs.Encoding.{bodiesStart}
 use Rattle.plan_file.specs.Decoding.{nodeCount}
 use Rattle.plan_file.specs.Check.{openingTest, countTest, zerosTest, headerCheck}
-use Rattle.task_model.proofs.Outcomes.{both-accepted, demanded}
+use Rattle.refusals.proofs.Outcomes.{both-accepted, demanded}
 use Rattle.plan_file.proofs.Tests.{Opens, opens-hold, Counted, counted-hold}
 
 module _ (f : List ℕ) where

@@ -1,9 +1,8 @@
 -- Laws that the functions' proofs and other crates cite, and the theorems of plan files.
 -- Checks one after another, and what their tests say.
 pub mod Tests
--- Words, and stores into buffers.
+-- Words, and the fields that they hold.
 pub mod Words
-pub mod Buffers
 -- The parts of a file: its header, its rows, its entries, and the whole.
 pub mod Header
 pub mod Contents

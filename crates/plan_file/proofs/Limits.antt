@@ -6,13 +6,13 @@ use native.Mathlib.Omega.{arith}
 use lib.ListN.{length, take, drop, length-drop}
 use lib.Seq.{drop-drop, length-take-le}
 use borrow.Author.Tests.{eq-eqb, ne-eqb}
-use Rattle.task_model.specs.Words.{entrySize}
+use Rattle.node_words.specs.Words.{entrySize}
 use Rattle.task_model.specs.declared.Entry.{Entry}
-use Rattle.task_model.specs.Refusals.{at, accepted, refused, mustHold}
+use Rattle.refusals.specs.Refusals.{at, accepted, refused, mustHold}
 use Rattle.task_model.specs.Limits.{AllHold}
 use Rattle.task_model.specs.Checks.{entriesCheck}
-use Rattle.task_model.proofs.Outcomes.{both-accepted, then-accepted, demanded, mustHold-accepts, mustHold-refuses}
-use Rattle.task_model.proofs.Laws.{length-entries}
+use Rattle.refusals.proofs.Outcomes.{both-accepted, then-accepted, demanded, mustHold-accepts, mustHold-refuses}
+use Rattle.node_words.proofs.Entries.{length-entries}
 use Rattle.task_model.proofs.Theorems.{entries-accepted}
 use Rattle.plan_file.specs.declared.Row.{Row}
 use Rattle.plan_file.specs.Plan.{mostNodes, Plan, entryCount, planOf}

@@ -4,22 +4,19 @@ use mathlib.Core.Path.{_≡_, _∙_, refl, sym, ap}
 use mathlib.Core.List.{List, _++_}
 use native.Mathlib.Omega.{arith}
 use lib.Seq.{take-all}
-use Rattle.task_model.specs.Refusals.{accepted}
+use Rattle.refusals.specs.Refusals.{accepted}
 use Rattle.task_model.specs.Limits.{Node}
-use Rattle.task_model.specs.Words.{entrySize, wordsOf, entriesOf, WordsFit}
-use Rattle.task_model.proofs.Words.{entries-front, write-entries}
-use Rattle.plan_file.specs.Encoding.{Bytes}
-use Rattle.plan_file.specs.Decoding.{wordAt, wordsFrom, nodeCount, rowAt, offsetAt, entriesAt}
+use Rattle.node_words.specs.Words.{entrySize, wordsOf, entriesOf, WordsFit}
+use Rattle.node_words.proofs.Words.{entries-front, write-entries}
+use Rattle.byte_words.specs.Bytes.{Bytes, wordsFrom}
+use Rattle.plan_file.specs.Decoding.{nodeCount, rowAt, offsetAt, entriesAt}
 use Rattle.plan_file.specs.Check.{fileCheck}
-use Rattle.plan_file.specs.Buffers.{over}
+use Rattle.byte_words.specs.Buffers.{over}
 use Rattle.plan_file.specs.Answers.{Loaded}
-use Rattle.plan_file.proofs.Words.{length-words, entries-in-words}
-use Rattle.plan_file.proofs.Buffers.{over-start}
+use Rattle.byte_words.proofs.Words.{length-words, word-below}
+use Rattle.plan_file.proofs.Words.{entries-in-words}
+use Rattle.byte_words.proofs.Buffers.{over-start}
 use Rattle.plan_file.proofs.Nodes.{node-at}
-
-pub word-below : (f : List ℕ) → Bytes f → (k : ℕ) → wordAt f k < 4294967296
-unfolding wordAt
-word-below f b k = omega (arith, b k, b (k + 1), b (k + 2), b (k + 3))
 
 pub words-below : (f : List ℕ) → Bytes f → (k n : ℕ) → WordsFit (wordsFrom f k n)
 unfolding wordsFrom

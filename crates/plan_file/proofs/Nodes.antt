@@ -6,7 +6,7 @@ use native.Mathlib.Omega.{arith}
 use native.Mathlib.Nat.{add-zero, zero-add}
 use lib.ListN.{length, take, drop}
 use borrow.Author.Tests.{eqb-true}
-use Rattle.task_model.specs.Refusals.{accepted}
+use Rattle.refusals.specs.Refusals.{accepted}
 use Rattle.task_model.specs.Limits.{Node}
 use Rattle.plan_file.specs.declared.Row.{Row}
 use Rattle.plan_file.specs.Plan.{entryCount}
@@ -14,7 +14,7 @@ use Rattle.plan_file.specs.Encoding.{entryLength, bodiesStart}
 use Rattle.plan_file.specs.Decoding.{nodeCount, rowAt, offsetAt, rowsFrom, rowsIn, entriesAt, planIn}
 use Rattle.plan_file.specs.Check.{contentsCheck, fileCheck}
 use Rattle.plan_file.specs.Find.{rowIn, nodeOfRow}
-use Rattle.task_model.proofs.Outcomes.{both-accepted, demanded}
+use Rattle.refusals.proofs.Outcomes.{both-accepted, demanded}
 use Rattle.plan_file.proofs.Tests.{RowHolds, row-holds}
 use Rattle.plan_file.proofs.Contents.{length-rows}
 use Rattle.plan_file.proofs.Bodies.{length-entries-at, take-entries, drop-entries}

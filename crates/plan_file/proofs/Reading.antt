@@ -5,15 +5,15 @@ use mathlib.Core.List.{List}
 use native.Mathlib.Omega.{arith}
 use lib.ListN.{length}
 use borrow.Author.Tests.{le-leb, lt-leb, lt-ltb, le-ltb}
-use Rattle.task_model.specs.Words.{entrySize}
-use Rattle.task_model.specs.Refusals.{Numbered, at, accepted, refused}
+use Rattle.node_words.specs.Words.{entrySize}
+use Rattle.refusals.specs.Refusals.{Numbered, at, accepted, refused}
 use Rattle.plan_file.specs.Plan.{entryCount}
 use Rattle.plan_file.specs.Encoding.{bodiesStart}
 use Rattle.plan_file.specs.Decoding.{nodeCount, rowAt, offsetAt, rowsIn, entriesIn}
 use Rattle.plan_file.specs.Check.{fileCheck}
 use Rattle.plan_file.specs.Find.{rowOfNumber, findCheck}
 use Rattle.plan_file.specs.Answers.{readAnswer, findAnswer}
-use Rattle.task_model.specs.Answers.{gives, refuses}
+use Rattle.refusals.specs.Answers.{gives, refuses}
 use Rattle.plan_file.proofs.Contents.{length-rows}
 use Rattle.plan_file.proofs.Bodies.{length-entries-at}
 use Rattle.plan_file.proofs.Nodes.{node-at}

@@ -8,17 +8,18 @@ use borrow.Author.Tests.{le-leb, leb-true}
 use lib.ListN.{length, take, drop, length-map}
 use lib.Dec.{leb}
 use lib.Seq.{take-append-seam}
-use Rattle.task_model.specs.Refusals.{Numbered, at, Outcome, accepted, refused, _andThen_, mustHold}
-use Rattle.task_model.specs.Words.{entrySize, wordsOf, WordsFit}
-use Rattle.task_model.proofs.Words.{length-words as length-words-of}
-use Rattle.task_model.specs.Answers.{Answer, gives, refuses, giving, left}
+use Rattle.refusals.specs.Refusals.{Numbered, at, Outcome, accepted, refused, _andThen_, mustHold}
+use Rattle.node_words.specs.Words.{entrySize, wordsOf, WordsFit}
+use Rattle.node_words.proofs.Words.{length-words as length-words-of}
+use Rattle.refusals.specs.Answers.{Answer, gives, refuses, giving, left}
 use Rattle.plan_file.specs.Plan.{entryCount, rowWord, planOf}
-use Rattle.plan_file.specs.Encoding.{bodiesStart, encoding, Bytes}
+use Rattle.plan_file.specs.Encoding.{bodiesStart, encoding}
+use Rattle.byte_words.specs.Bytes.{Bytes}
 use Rattle.plan_file.specs.Decoding.{nodeCount, rowsIn, entriesIn, planIn}
 use Rattle.plan_file.specs.Check.{fileCheck, wordsCheck}
 use Rattle.plan_file.specs.Answers.{Sizes, roomTest, readAnswer, writeAnswer, ReadCall, WriteCall}
 use Rattle.plan_file.specs.RoundTrips.{WrittenAgain, ReadAgain}
-use Rattle.task_model.proofs.Laws.{and-true}
+use Rattle.task_model.proofs.Tests.{and-true}
 use Rattle.plan_file.proofs.Contents.{length-row-words}
 use Rattle.plan_file.proofs.Bodies.{length-entries-at}
 use Rattle.plan_file.proofs.Reading.{read-filled}

@@ -8,8 +8,8 @@ use native.Mathlib.Numerals.{add-one}
 use lib.ListN.{length, getD, take, drop, drop-of-length-le, length-map}
 use lib.Seq.{drop-cons, take-suc, length-take-le}
 use lib.Dec.{eqb}
-use Rattle.task_model.specs.Words.{entrySize}
-use Rattle.task_model.specs.Refusals.{at, Outcome, refused, _andThen_, mustHold}
+use Rattle.node_words.specs.Words.{entrySize}
+use Rattle.refusals.specs.Refusals.{at, Outcome, refused, _andThen_, mustHold}
 use Rattle.plan_file.specs.declared.Row.{Row}
 use Rattle.plan_file.specs.Plan.{entryCount, rowOf}
 use Rattle.plan_file.specs.Encoding.{rowLength, entryLength, rowBytes, contentsBytes}

@@ -8,7 +8,8 @@ use lib.Dec.{leb, eqb}
 use borrow.Author.Tests.{leb-true, le-leb, eqb-true}
 use Rattle.plan_file.specs.Plan.{mostNodes}
 use Rattle.task_model.specs.Checks.{sizeTest}
-use Rattle.task_model.proofs.Laws.{and-true, decided, sizes-true, sizes-hold}
+use Rattle.task_model.proofs.Tests.{and-true, decided}
+use Rattle.task_model.proofs.Laws.{sizes-true, sizes-hold}
 use Rattle.plan_file.specs.declared.Row.{Row}
 use Rattle.plan_file.specs.Check.{openingTest, countTest, zerosTest, rowTest}
 

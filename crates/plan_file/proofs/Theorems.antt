@@ -8,23 +8,24 @@ use lib.ListN.{length, getD, replicate}
 use lib.Dec.{ltb}
 use borrow.Author.Tests.{eq-eqb, lt-ltb, ltb-true}
 use Rattle.task_model.specs.declared.Entry.{Entry}
-use Rattle.task_model.specs.Refusals.{at, accepted, refused}
+use Rattle.refusals.specs.Refusals.{at, accepted, refused}
 use Rattle.task_model.specs.Limits.{mostTicks, mostLevels, mostEntries, NodeHolds}
 use Rattle.task_model.specs.Checks.{kindTest, timesTest, entryCheck, entriesCheck, sizeTest}
-use Rattle.task_model.specs.Words.{entrySize, entryFrom, wordsOf, entriesOf, WordsFit}
-use Rattle.task_model.proofs.Words.{entries-fit}
-use Rattle.task_model.proofs.Words.{length-words as length-words-of}
-use Rattle.task_model.proofs.Laws.{length-entries, true-or-false}
-use Rattle.task_model.proofs.Theorems.{not-both}
+use Rattle.node_words.specs.Words.{entrySize, entryFrom, wordsOf, entriesOf, WordsFit}
+use Rattle.node_words.proofs.Words.{entries-fit, length-words as length-words-of}
+use Rattle.node_words.proofs.Entries.{length-entries}
+use Rattle.task_model.proofs.Tests.{true-or-false}
+use Rattle.refusals.proofs.Outcomes.{not-both, then-accepted, mustHold-accepts, mustHold-refuses}
 use Rattle.plan_file.specs.declared.Row.{Row}
 use Rattle.plan_file.specs.Plan.{mostNodes, Plan, entryCount, rowWord, rowOf, planOf, PlanFits}
-use Rattle.plan_file.specs.Encoding.{headerLength, rowLength, bodiesStart, encoding, Bytes}
-use Rattle.plan_file.specs.Decoding.{wordAt, wordsFrom, nodeCount, rowAt, offsetAt, rowsIn, entryIn, entriesIn, planIn}
+use Rattle.plan_file.specs.Encoding.{headerLength, rowLength, bodiesStart, encoding}
+use Rattle.byte_words.specs.Bytes.{Bytes, wordAt, wordsFrom}
+use Rattle.plan_file.specs.Decoding.{nodeCount, rowAt, offsetAt, rowsIn, entryIn, entriesIn, planIn}
 use Rattle.plan_file.specs.Check.{countTest, rowTest, rowsCheck, contentsCheck, nodesCheck, headerCheck, fileCheck, handedCheck, planCheck, wordsCheck}
 use Rattle.plan_file.specs.Find.{rowIn, nodeOfRow, rowOfNumber, findCheck, nodeFound}
 use Rattle.plan_file.specs.Limits.{PlanHolds, IsPlanFile, IsPlanInMemory}
-use Rattle.task_model.proofs.Outcomes.{then-accepted, mustHold-accepts, mustHold-refuses}
-use Rattle.plan_file.proofs.Words.{words-five, length-words}
+use Rattle.byte_words.proofs.Words.{length-words}
+use Rattle.plan_file.proofs.Words.{words-five}
 use Rattle.plan_file.proofs.Contents.{length-rows}
 use Rattle.plan_file.proofs.Bodies.{length-entries-at}
 use Rattle.plan_file.proofs.Encoding.{length-encoding}

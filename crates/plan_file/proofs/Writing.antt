@@ -6,16 +6,17 @@ use native.Mathlib.Omega.{arith}
 use native.Mathlib.Nat.{zero-add}
 use lib.ListN.{length, take, length-append, length-map}
 use borrow.Author.Tests.{le-leb, lt-leb}
-use Rattle.task_model.specs.Refusals.{Numbered, at, accepted, refused}
-use Rattle.task_model.specs.Words.{entrySize, entriesOf}
-use Rattle.task_model.proofs.Laws.{length-entries}
+use Rattle.refusals.specs.Refusals.{Numbered, at, accepted, refused}
+use Rattle.node_words.specs.Words.{entrySize, entriesOf}
+use Rattle.node_words.proofs.Entries.{length-entries}
 use Rattle.plan_file.specs.Plan.{rowOf, planOf}
 use Rattle.plan_file.specs.Encoding.{headerLength, headerBytes, bodiesStart, contentsBytes, bodiesBytes, encoding}
 use Rattle.plan_file.specs.Check.{wordsCheck}
-use Rattle.plan_file.specs.Buffers.{over, bytesOf}
+use Rattle.byte_words.specs.Buffers.{over}
+use Rattle.byte_words.specs.Bytes.{bytesOf}
 use Rattle.plan_file.specs.Answers.{writeAnswer}
-use Rattle.task_model.specs.Answers.{gives, refuses}
-use Rattle.plan_file.proofs.Buffers.{over-next}
+use Rattle.refusals.specs.Answers.{gives, refuses}
+use Rattle.byte_words.proofs.Buffers.{over-next}
 use Rattle.plan_file.proofs.Words.{bodies-bytes}
 use Rattle.plan_file.proofs.Encoding.{length-header, length-contents, length-encoding}
 use Rattle.plan_file.proofs.Handed.{handed-holds}

@@ -5,10 +5,10 @@ use mathlib.Core.Path.{_≡_}
 use mathlib.Core.List.{List, _++_, map}
 use lib.ListN.{length, drop}
 use lib.Dec.{leb}
-use Rattle.task_model.specs.Refusals.{at, numbered, _andThen_, mustHold}
-use Rattle.task_model.specs.Answers.{Answer, gives, refuses, giving, left}
+use Rattle.refusals.specs.Refusals.{at, numbered, _andThen_, mustHold}
+use Rattle.refusals.specs.Answers.{Answer, gives, refuses, giving, left}
 use Rattle.task_model.specs.Limits.{Node}
-use Rattle.task_model.specs.Words.{entrySize, wordsOf, nodeOf}
+use Rattle.node_words.specs.Words.{entrySize, wordsOf, nodeOf}
 use Rattle.plan_file.specs.declared.Row.{Row}
 use Rattle.plan_file.specs.declared.ReadPlan.{ReadPlan}
 use Rattle.plan_file.specs.declared.ReadPlan.the-variants as read

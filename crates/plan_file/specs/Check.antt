@@ -5,9 +5,9 @@ use mathlib.Core.List.{List, [], _∷_}
 use lib.ListN.{length, getD, take, drop}
 use lib.Dec.{leb, eqb}
 use Rattle.task_model.specs.declared.Entry.{Entry}
-use Rattle.task_model.specs.Refusals.{at, Outcome, accepted, _andThen_, mustHold}
+use Rattle.refusals.specs.Refusals.{at, Outcome, accepted, _andThen_, mustHold}
 use Rattle.task_model.specs.Checks.{sizeTest, entriesCheck}
-use Rattle.task_model.specs.Words.{entrySize}
+use Rattle.node_words.specs.Words.{entrySize}
 use Rattle.plan_file.specs.declared.Row.{Row}
 use Rattle.plan_file.specs.Plan.{mostNodes, Plan, entryCount, planOf}
 use Rattle.plan_file.specs.Encoding.{opening, headerLength, entryLength, bodiesStart}

@@ -3,19 +3,11 @@ use Prim.Native.Nat.{ℕ, zero, suc, _+_, _*_}
 use mathlib.Core.List.{List, [], _∷_}
 use lib.ListN.{getD}
 use Rattle.task_model.specs.declared.Entry.{Entry}
-use Rattle.task_model.specs.Words.{entrySize, entryFrom}
+use Rattle.node_words.specs.Words.{entrySize, entryFrom}
+use Rattle.byte_words.specs.Bytes.{wordAt, wordsFrom}
 use Rattle.plan_file.specs.declared.Row.{Row}
 use Rattle.plan_file.specs.Plan.{Plan, entryCount, rowOf}
 use Rattle.plan_file.specs.Encoding.{headerLength, rowLength, entryLength, bodiesStart}
-
--- The number that four bytes from byte `k` on hold, low byte first: a word.
-unfoldable pub wordAt : List ℕ → ℕ → ℕ
-wordAt f k = getD f k 0 + getD f (k + 1) 0 * 256 + getD f (k + 2) 0 * 65536 + getD f (k + 3) 0 * 16777216
-
--- `n` words from byte `k` on.
-unfoldable pub wordsFrom : List ℕ → ℕ → ℕ → List ℕ
-wordsFrom f k zero = []
-wordsFrom f k (suc n) = wordAt f k ∷ wordsFrom f (k + 4) n
 
 -- The node count, in the byte after the opening ones.
 abbrev pub nodeCount : List ℕ → ℕ

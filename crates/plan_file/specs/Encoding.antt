@@ -1,15 +1,11 @@
 -- The plan file of a plan (docs/SPEC.md, 'The plan file'): contents first, then bodies; numbers are unsigned, low byte first.
-use Prim.Native.Nat.{ℕ, zero, suc, _+_, _*_, _/_, _%_, _<_}
+use Prim.Native.Nat.{ℕ, _+_, _*_}
 use mathlib.Core.List.{List, [], _∷_, _++_}
-use lib.ListN.{length, getD}
+use lib.ListN.{length}
 use Rattle.task_model.specs.declared.Entry.{Entry}
+use Rattle.byte_words.specs.Bytes.{low}
 use Rattle.plan_file.specs.declared.Row.{Row}
 use Rattle.plan_file.specs.Plan.{Plan}
-
--- The `k` bytes of a number, low byte first.
-unfoldable pub low : ℕ → ℕ → List ℕ
-low zero n = []
-low (suc k) n = n % 256 ∷ low k (n / 256)
 
 -- The four bytes that a file opens with.
 abbrev pub opening : List ℕ
@@ -59,7 +55,3 @@ encoding p =
     headerBytes (length (p .rows))
     ++ contentsBytes (bodiesStart (length (p .rows))) (p .rows)
     ++ bodiesBytes (p .entries)
-
--- A file is a list of bytes.
-abbrev pub Bytes : List ℕ → Type 0
-Bytes f = (i : ℕ) → getD f i 0 < 256

@@ -4,7 +4,7 @@ use mathlib.Core.Bool.{true, false}
 use mathlib.Core.List.{List, [], _∷_}
 use lib.ListN.{length, getD, take, drop}
 use lib.Dec.{ltb, eqb}
-use Rattle.task_model.specs.Refusals.{at, Outcome, _andThen_, mustHold}
+use Rattle.refusals.specs.Refusals.{at, Outcome, _andThen_, mustHold}
 use Rattle.task_model.specs.Limits.{Node}
 use Rattle.plan_file.specs.declared.Row.{Row}
 use Rattle.plan_file.specs.Plan.{Plan, entryCount}

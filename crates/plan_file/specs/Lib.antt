@@ -5,6 +5,5 @@ pub mod Decoding
 pub mod Check
 pub mod Find
 pub mod Limits
-pub mod Buffers
 pub mod Answers
 pub mod RoundTrips

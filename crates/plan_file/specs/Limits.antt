@@ -4,7 +4,7 @@ use mathlib.Core.Path.{_≡_}
 use mathlib.Core.List.{List}
 use lib.ListN.{length}
 use Rattle.task_model.specs.Limits.{NodeHolds}
-use Rattle.task_model.specs.Words.{entrySize}
+use Rattle.node_words.specs.Words.{entrySize}
 use Rattle.plan_file.specs.Plan.{mostNodes, Plan, PlanFits, entryCount, planOf}
 use Rattle.plan_file.specs.Encoding.{encoding}
 use Rattle.plan_file.specs.Find.{rowIn, nodeOfRow}

@@ -3,7 +3,7 @@ use Prim.Native.Nat.{ℕ, _+_, _*_, _/_, _%_, _<_}
 use mathlib.Core.List.{List, [], _∷_, map}
 use lib.ListN.{length}
 use Rattle.task_model.specs.declared.Entry.{Entry}
-use Rattle.task_model.specs.Words.{entrySize, entriesOf, EntriesFit}
+use Rattle.node_words.specs.Words.{entrySize, entriesOf, EntriesFit}
 use Rattle.plan_file.specs.declared.Row.{Row}
 
 -- The rows in contents order, and the entries of all nodes in that order, each node's in listed order.

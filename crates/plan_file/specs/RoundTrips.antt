@@ -3,8 +3,8 @@ use Prim.Native.Nat.{ℕ, _*_, _/_, _≤_}
 use mathlib.Core.Path.{_≡_}
 use mathlib.Core.List.{List, _++_}
 use lib.ListN.{length, take, drop}
-use Rattle.task_model.specs.Words.{entrySize}
-use Rattle.task_model.specs.Answers.{Answer, gives, refuses}
+use Rattle.node_words.specs.Words.{entrySize}
+use Rattle.refusals.specs.Answers.{Answer, gives, refuses}
 use Rattle.plan_file.specs.Answers.{Sizes, ReadCall, WriteCall}
 
 -- After the reader filled its buffers: any call of the writer on the parts that were filled, with room for the file, gives

@@ -8,22 +8,22 @@ use super::Row;
 use super::node_count;
 use super::read::entry_in;
 use super::read::row_of;
-use super::read::word_at;
 use super::row_at;
-use task_model::Checked;
-use task_model::ENTRY_WORDS;
+use byte_words::word_at;
+use node_words::ENTRY_WORDS;
+use refusals::Checked;
+use refusals::Refusal;
 use task_model::MOST_ENTRIES;
 use task_model::MOST_LEVELS;
-use task_model::Refusal;
 ghost use mathlib.Core.Path.{_≡_};
 ghost use mathlib.Core.List.{map};
 ghost use lib.ListN.{length};
 ghost use mathlib.Core.Bool.{_&&_};
 ghost use lib.Dec.{eqb};
 ghost use Prim.Native.Nat.{_+_, _*_, _≤_};
-ghost use Rattle.task_model.specs.Refusals.{outcome, at, _andThen_, mustHold};
+ghost use Rattle.refusals.specs.Refusals.{outcome, at, _andThen_, mustHold};
 ghost use Rattle.task_model.specs.Checks.{entriesCheck};
-ghost use Rattle.task_model.specs.Words.{entrySize, entriesFrom};
+ghost use Rattle.node_words.specs.Words.{entrySize, entriesFrom};
 ghost use Rattle.plan_file.specs.Plan.{mostNodes, entryCount, rowOf};
 ghost use Rattle.plan_file.specs.Encoding.{headerLength, entryLength, bodiesStart};
 ghost use Rattle.plan_file.specs.Decoding.{nodeCount, offsetAt, rowsFrom, entriesAt};
@@ -235,7 +235,7 @@ pub(crate) fn check_nodes(rows: &[u32], words: &[u32]) -> Checked
     while row < rows.len() {
         let r = row_of(rows[row]);
         let count = r.count as usize;
-        let found = task_model::check_entries(row, words, first, count);
+        let found = node_words::check_entries(row, words, first, count);
         let Checked::Accepted = found else {
             return found;
         };

@@ -4,24 +4,14 @@ use super::HEADER_BYTES;
 use super::OPENING;
 use super::ROW_BYTES;
 use super::read::row_of;
+use byte_words::put_word;
 ghost use mathlib.Core.Path.{_≡_};
 ghost use mathlib.Core.List.{map};
-ghost use lib.ListN.{length, take};
+ghost use lib.ListN.{length};
 ghost use Prim.Native.Nat.{_+_, _*_, _≤_};
 ghost use Rattle.plan_file.specs.Plan.{mostNodes, rowOf};
-ghost use Rattle.plan_file.specs.Encoding.{headerLength, rowLength, low, bodiesStart, headerBytes, rowBytes, contentsBytes};
-ghost use Rattle.plan_file.specs.Buffers.{over, bytesOf};
-
-// Stores a word as four bytes, low byte first.
-fn put_word(file: &mut [u8], k: usize, word: u32)
-    requires { ⌜ k + 4 ≤ length (now file) ⌝ }
-    ensures { λ _. ⌜ now (file .exit) ≡ over (now (file .entry)) k (low 4 word) ⌝ }
-{
-    file[k] = (word % 256) as u8;
-    file[k + 1] = (word / 256 % 256) as u8;
-    file[k + 2] = (word / 65536 % 256) as u8;
-    file[k + 3] = (word / 16777216 % 256) as u8;
-}
+ghost use Rattle.plan_file.specs.Encoding.{headerLength, rowLength, bodiesStart, headerBytes, rowBytes, contentsBytes};
+ghost use Rattle.byte_words.specs.Buffers.{over};
 
 // Stores a row, given as its word, with its offset.
 fn put_row(file: &mut [u8], k: usize, word: u32, offset: u32)
@@ -62,17 +52,5 @@ pub(crate) fn put_contents(file: &mut [u8], rows: &[u32])
         put_row(file, HEADER_BYTES + row * ROW_BYTES, word, offset as u32);
         offset += row_of(word).count as usize * ENTRY_BYTES;
         row += 1;
-    }
-}
-
-// Stores the first `count` words, from byte `k` on.
-pub(crate) fn put_words(file: &mut [u8], k: usize, words: &[u32], count: usize)
-    requires { ⌜ (k + count * 4 ≤ length (now file)) × (count ≤ length (now words)) ⌝ }
-    ensures { λ _. ⌜ now (file .exit) ≡ over (now (file .entry)) k (bytesOf (take count (now (words .entry)))) ⌝ }
-{
-    let mut i: usize = 0;
-    while i < count {
-        put_word(file, k + i * 4, words[i]);
-        i += 1;
     }
 }

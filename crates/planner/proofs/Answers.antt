@@ -3,11 +3,10 @@ use Prim.Native.Nat.{ℕ}
 use mathlib.Core.Path.{_≡_, _∙_, refl, sym}
 use mathlib.Core.List.{List}
 use lib.ListN.{length}
-use Rattle.task_model.specs.Refusals.{Numbered, accepted, refused}
-use Rattle.task_model.specs.Answers.{Answer, gives, refuses, left}
+use Rattle.refusals.specs.Refusals.{Numbered, accepted, refused}
+use Rattle.refusals.specs.Answers.{Answer, gives, refuses, left}
 use Rattle.task_model.specs.Limits.{Node}
-use Rattle.task_model.proofs.Outcomes.{giving-refuses, giving-gives}
-use Rattle.task_model.proofs.Theorems.{not-both}
+use Rattle.refusals.proofs.Outcomes.{giving-refuses, giving-gives, not-both}
 use Rattle.plan_file.specs.Answers.{Shape, findAnswer}
 use Rattle.plan_file.specs.Find.{findCheck, nodeFound}
 use Rattle.level_map.specs.Answer.{mapOf, heldAnswer, NodeDemand3}

@@ -5,12 +5,12 @@ use mathlib.Core.List.{List}
 use native.Mathlib.Omega.{arith}
 use lib.ListN.{length}
 use borrow.Author.Tests.{ltb-true}
-use Rattle.task_model.specs.Refusals.{accepted}
+use Rattle.refusals.specs.Refusals.{accepted}
 use Rattle.task_model.specs.Limits.{NodeHolds}
 use Rattle.plan_file.specs.Check.{fileCheck}
 use Rattle.plan_file.specs.Decoding.{nodeCount, rowsIn}
 use Rattle.plan_file.specs.Find.{rowOfNumber, findCheck, nodeFound}
-use Rattle.task_model.proofs.Outcomes.{both-accepted, demanded}
+use Rattle.refusals.proofs.Outcomes.{both-accepted, demanded}
 use Rattle.plan_file.proofs.Contents.{length-rows}
 use Rattle.plan_file.proofs.Theorems.{nodes-hold}
 

@@ -1,8 +1,8 @@
 -- Mapping a node of a plan file.
 use Prim.Native.Nat.{ℕ}
 use mathlib.Core.List.{List}
-use Rattle.task_model.specs.Refusals.{_andThen_}
-use Rattle.task_model.specs.Answers.{Answer, giving}
+use Rattle.refusals.specs.Refusals.{_andThen_}
+use Rattle.refusals.specs.Answers.{Answer, giving}
 use Rattle.plan_file.specs.Find.{findCheck, nodeFound}
 use Rattle.level_map.specs.Assignments.{levelsUsed}
 use Rattle.level_map.specs.Answer.{mapOf, heldCheck}

@@ -1,15 +1,15 @@
 // The map of a controller of a plan file.
 ghost use mathlib.Core.Path.{_≡_};
 ghost use lib.ListN.{length};
-ghost use Rattle.task_model.specs.Refusals.{accepted};
-ghost use Rattle.task_model.specs.Answers.{left};
+ghost use Rattle.refusals.specs.Refusals.{accepted};
+ghost use Rattle.refusals.specs.Answers.{left};
 ghost use Rattle.plan_file.specs.Find.{findCheck, nodeFound};
 ghost use Rattle.level_map.specs.Answer.{answer, mapOf, NodeDemand3};
 ghost use Rattle.planner.specs.Mapping.{fileAnswer};
 use level_map::MappedNode;
 use level_map::map_held;
+use node_words::NODE_WORDS;
 use plan_file::FoundNode;
-use task_model::NODE_WORDS;
 
 // Maps the node with a number of a plan file, one byte an entry from the buffer's start, and answers how many levels the
 // map uses. Refuses a file by its own checks, then a number that the plan does not have (9), then as `level_map::map_held`.

@@ -2,8 +2,8 @@
 use Prim.Native.Nat.{ℕ}
 use mathlib.Core.Path.{_≡_, _∙_, ap}
 use mathlib.Core.List.{List}
-use Rattle.task_model.specs.declared.Checked.{Checked}
-use Rattle.task_model.specs.Refusals.{outcome}
+use Rattle.refusals.specs.declared.Checked.{Checked}
+use Rattle.refusals.specs.Refusals.{outcome}
 use Rattle.session.specs.Operations.{Operation}
 use Rattle.session.specs.InWords.{FollowsIn}
 use Rattle.planner_c.specs.Returned.{Returned, checked}

@@ -1,12 +1,11 @@
 -- What returning 0 says of a check.
-use Prim.Native.Nat.{ℕ}
 use mathlib.Core.Path.{_≡_, _∙_, refl, sym, ap}
 use mathlib.Core.Logic.{_↔_}
-use Rattle.task_model.specs.declared.Checked.{Checked}
-use Rattle.task_model.specs.declared.Checked.the-variants.{Accepted, Refused}
-use Rattle.task_model.specs.Refusals.{outcome, accepted}
-use Rattle.task_model.proofs.Refusals.{number-some}
-use Rattle.task_model.proofs.Theorems.{not-both}
+use Rattle.refusals.specs.declared.Checked.{Checked}
+use Rattle.refusals.specs.declared.Checked.the-variants.{Accepted, Refused}
+use Rattle.refusals.specs.Refusals.{outcome, accepted}
+use Rattle.refusals.proofs.Refusals.{number-some}
+use Rattle.refusals.proofs.Outcomes.{not-both}
 use Rattle.planner_c.specs.Returned.{Returned, given, checked}
 
 -- 0 is returned, with 0 and 0, exactly if the check accepts

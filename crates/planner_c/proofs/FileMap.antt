@@ -1,17 +1,16 @@
 -- The map of a session is that of its node in a plan file: laws, and then the theorems.
 use Prim.Native.Nat.{ℕ, zero, suc, _<_}
 use mathlib.Core.Path.{_≡_, _∙_, refl, ap, sym}
-use mathlib.Core.List.{List, [], _∷_}
+use mathlib.Core.List.{List}
 use native.Mathlib.Omega.{arith}
 use lib.ListN.{length}
 use lib.Seq.{take-length}
-use Rattle.task_model.specs.declared.Entry.{Entry}
-use Rattle.task_model.specs.Refusals.{accepted}
-use Rattle.task_model.specs.Limits.{Node, entryAt, EntryHolds, NodeHolds}
-use Rattle.task_model.specs.Words.{entryFrom}
-use Rattle.task_model.specs.Answers.{left}
+use Rattle.refusals.specs.Refusals.{accepted}
+use Rattle.task_model.specs.Limits.{Node, NodeHolds}
+use Rattle.node_words.specs.Words.{entryFrom}
+use Rattle.refusals.specs.Answers.{left}
 use Rattle.task_model.specs.Checks.{nodeCheck}
-use Rattle.task_model.proofs.Laws.{length-entries, entry-of}
+use Rattle.node_words.proofs.Entries.{length-entries, entry-of}
 use Rattle.task_model.proofs.Theorems.{node-accepted}
 use Rattle.plan_file.specs.Plan.{Plan, entryCount, PlanFits}
 use Rattle.plan_file.specs.Encoding.{encoding}

@@ -3,9 +3,9 @@ use Prim.Native.Nat.{ℕ}
 use mathlib.Core.Path.{_≡_, _∙_, ap}
 use mathlib.Core.List.{List}
 use lib.ListN.{length}
-use Rattle.task_model.specs.Refusals.{accepted}
+use Rattle.refusals.specs.Refusals.{accepted}
 use Rattle.task_model.specs.Checks.{nodeCheck}
-use Rattle.task_model.specs.Answers.{left}
+use Rattle.refusals.specs.Answers.{left}
 use Rattle.level_map.specs.declared.MappedNode.{MappedNode}
 use Rattle.level_map.specs.Answer.{answer, mapOf, NodeDemand3}
 use Rattle.session.specs.declared.Session.{Session}

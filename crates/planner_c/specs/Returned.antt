@@ -1,10 +1,10 @@
 -- How an answer crosses to C: a number that is returned, and two values that are left in a lent array.
 use Prim.Native.Nat.{ℕ}
 use mathlib.Core.List.{List, [], _∷_}
-use Rattle.task_model.specs.Refusals.{Numbered, Outcome, accepted, refused}
+use Rattle.refusals.specs.Refusals.{Numbered, Outcome, accepted, refused}
 use Rattle.completion.specs.Test.{Completion, on-time, late}
 use Rattle.plan_file.specs.Answers.{Sizes}
-use Rattle.task_model.specs.Answers.{Answer, gives, refuses}
+use Rattle.refusals.specs.Answers.{Answer, gives, refuses}
 
 -- The number that is returned, and the values as the call leaves them.
 pub record Returned : Type 0 where

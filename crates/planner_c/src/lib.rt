@@ -9,9 +9,9 @@ ghost use mathlib.Core.Logic.{_↔_};
 ghost use mathlib.Core.List.{map};
 ghost use lib.ListN.{length};
 ghost use Prim.Native.Nat.{_≤_};
-ghost use Rattle.task_model.specs.Refusals.{numbered, outcome, accepted};
+ghost use Rattle.refusals.specs.Refusals.{numbered, outcome, accepted};
 ghost use Rattle.plan_file.specs.Answers.{readAnswer, writeAnswer};
-ghost use Rattle.task_model.specs.Answers.{left};
+ghost use Rattle.refusals.specs.Answers.{left};
 ghost use Rattle.plan_file.specs.Check.{fileCheck};
 ghost use Rattle.plan_file.specs.Decoding.{planIn};
 ghost use Rattle.plan_file.specs.Encoding.{encoding};
@@ -19,7 +19,7 @@ ghost use Rattle.plan_file.specs.Find.{findCheck, nodeFound};
 ghost use Rattle.plan_file.specs.Limits.{IsPlanFile};
 ghost use Rattle.plan_file.specs.RoundTrips.{WrittenAgain, ReadAgain};
 ghost use Rattle.plan_file.specs.Plan.{rowWord, planOf};
-ghost use Rattle.task_model.specs.Words.{wordsOf};
+ghost use Rattle.node_words.specs.Words.{wordsOf};
 ghost use Rattle.level_map.specs.Answer.{mapOf, NodeDemand3};
 ghost use Rattle.planner.specs.Mapping.{fileAnswer};
 ghost use Rattle.listing.specs.Listing.{listing, listAnswer};
@@ -28,14 +28,14 @@ use level_map::MappedNode;
 use listing::Listed;
 use plan_file::ReadPlan;
 use plan_file::Written;
-use task_model::Checked;
-use task_model::Refusal;
+use refusals::Checked;
+use refusals::Refusal;
 
 // Returns the number of a refusal, and leaves its row and its entry position.
 fn refuse(r: Refusal, values: &mut [usize; 2]) -> u32
     ensures { λ a. ⌜ returned a (now (values .exit)) ≡ back (numbered r) ⌝ }
 {
-    let n = task_model::numbers_of(r);
+    let n = refusals::numbers_of(r);
     *values = [n.row, n.entry];
     n.number as u32
 }

@@ -4,17 +4,17 @@ use super::give_checked;
 use super::refuse;
 use completion::Timing;
 use level_map::MappedNode;
+use node_words::EntryWords;
 use session::SessionWords;
 use session::TimeAnswer;
 use session::from_words;
 use session::in_words;
-use task_model::EntryWords;
 ghost use mathlib.Core.Path.{_≡_};
 ghost use lib.ListN.{length};
-ghost use Rattle.task_model.specs.Answers.{left};
-ghost use Rattle.task_model.specs.Refusals.{accepted};
+ghost use Rattle.refusals.specs.Answers.{left};
+ghost use Rattle.refusals.specs.Refusals.{accepted};
 ghost use Rattle.task_model.specs.Checks.{nodeCheck};
-ghost use Rattle.task_model.specs.Words.{entryFrom};
+ghost use Rattle.node_words.specs.Words.{entryFrom};
 ghost use Rattle.completion.specs.Test.{completion};
 ghost use Rattle.level_map.specs.Answer.{mapOf, NodeDemand3};
 ghost use Rattle.session.specs.State.{nodeIn};
@@ -65,7 +65,7 @@ pub extern "C" fn maiplur_session_insert(
         ⌜ Changes (changing (inserting position (entryFrom (now (entry .entry)) 0))) (now (words .entry))
         (returned a (now (values .exit))) (now (words .exit)) ⌝ }
 {
-    let e = task_model::entry_of(entry, 0);
+    let e = node_words::entry_of(entry, 0);
     let answer = in_words::insert(words, position, e);
     give_checked(answer, values)
 }
@@ -96,7 +96,7 @@ pub extern "C" fn maiplur_session_replace(
         ⌜ Changes (changing (replacing position (entryFrom (now (entry .entry)) 0))) (now (words .entry))
         (returned a (now (values .exit))) (now (words .exit)) ⌝ }
 {
-    let e = task_model::entry_of(entry, 0);
+    let e = node_words::entry_of(entry, 0);
     let answer = in_words::replace(words, position, e);
     give_checked(answer, values)
 }

@@ -8,19 +8,35 @@ use lib.ListN.{length}
 use lib.Dec.{leb, ltb}
 use borrow.Author.Tests.{le-leb, lt-leb, lt-ltb, le-ltb, leb-true, ltb-true}
 use Rattle.task_model.specs.declared.Entry.{Entry}
-use Rattle.task_model.specs.Refusals.{Numbered, at, accepted, refused, _andThen_}
+use Rattle.refusals.specs.Refusals.{Numbered, at, accepted, refused, _andThen_}
 use Rattle.task_model.specs.Limits.{mostLevels, mostEntries, Node, AllHold}
 use Rattle.task_model.specs.Checks.{entryCheck, nodeCheck}
-use Rattle.task_model.specs.Words.{nodeOf}
-use Rattle.task_model.proofs.Laws.{and-true, decided, length-entries}
+use Rattle.node_words.specs.Words.{nodeOf}
+use Rattle.task_model.proofs.Tests.{and-true, decided}
+use Rattle.node_words.proofs.Entries.{length-entries}
 use Rattle.task_model.proofs.Theorems.{node-accepted}
 use Rattle.completion.specs.Group.{groupLevel}
 use Rattle.completion.specs.Test.{completionTest}
-use Rattle.task_model.proofs.Outcomes.{then-refused, then-accepted, then-assoc, both-accepted, mustHold-refuses, demanded}
+use Rattle.refusals.proofs.Outcomes.{then-refused, then-accepted, then-assoc, both-accepted, mustHold-refuses, demanded}
 use Rattle.session.specs.declared.Session.{Session}
 use Rattle.session.specs.State.{nodeIn}
-use Rattle.session.specs.Operations.{changing, asking, Operation, inserting, removing, replacing, settingLevels, timing, levelsCheck, changeCheck, queryCheck, operationCheck, lentCheck, stepCheck}
-use Rattle.task_model.specs.Answers.{gives, refuses}
+use Rattle.session.specs.Operations.{
+  changing,
+  asking,
+  Operation,
+  inserting,
+  removing,
+  replacing,
+  settingLevels,
+  timing,
+  levelsCheck,
+  changeCheck,
+  queryCheck,
+  operationCheck,
+  lentCheck,
+  stepCheck,
+}
+use Rattle.refusals.specs.Answers.{gives, refuses}
 use Rattle.session.specs.Timing.{timeAnswer}
 use Rattle.session.specs.Steps.{sessionMade, sessionAfter}
 

@@ -3,7 +3,7 @@ use mathlib.Core.Path.{_≡_, _∙_, sym}
 use lib.ListN.{length, length-map}
 use denote.Laws.{Is}
 use denote.Struct.Laws as LL
-use Rattle.task_model.specs.Words.{nodeSize}
+use Rattle.node_words.specs.Words.{nodeSize}
 use Rattle.session.specs.declared.Session.{Session}
 use Rattle.session.proofs.Session as T
 use Rattle.session.proofs.Session.Laws as T′

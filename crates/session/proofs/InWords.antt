@@ -7,13 +7,14 @@ use native.Mathlib.Omega.{arith}
 use lib.ListN.{length, take, drop, getD, set, drop-of-length-le, length-drop}
 use lib.Seq.{take-all}
 use borrow.Rule.Slice.PartMut.{putMid}
-use Rattle.task_model.specs.declared.Checked.{Checked}
-use Rattle.task_model.specs.Refusals.{Numbered, accepted, refused, outcome}
+use Rattle.refusals.specs.declared.Checked.{Checked}
+use Rattle.refusals.specs.Refusals.{Numbered, accepted, refused, outcome}
 use Rattle.task_model.specs.Limits.{Node}
-use Rattle.task_model.specs.Words.{nodeSize, wordsOf, nodeOf}
-use Rattle.task_model.proofs.Theorems.{either}
+use Rattle.node_words.specs.Words.{nodeSize, wordsOf, nodeOf}
+use Rattle.refusals.proofs.Outcomes.{either}
 use Rattle.session.specs.declared.Session.{Session}
-use Rattle.session.specs.State.{nodeIn, zeros, filled, sessionOf}
+use Rattle.session.specs.State.{nodeIn, sessionOf}
+use Rattle.node_words.specs.Lists.{zeros, filled}
 use Rattle.session.specs.Operations.{Change, Operation, changing, emptyNode, changed, stepCheck}
 use Rattle.session.specs.Steps.{sessionMade, sessionAfter, sessionAfterAll, Follows}
 use Rattle.session.specs.InWords.{sessionSize, sessionIn, wordsIn, wordsLeft, wordsAfter, wordsAfterAll, FollowsIn}

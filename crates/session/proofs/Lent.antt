@@ -4,9 +4,9 @@ use mir.Val.{Val}
 use denote.Laws.{Is}
 use denote.Struct.Laws as LL
 use denote.Enum.Laws as EL
-use Rattle.task_model.specs.declared.Checked.{Checked}
-use Rattle.task_model.proofs.Checked as TA
-use Rattle.task_model.proofs.Checked.Laws as TA′
+use Rattle.refusals.specs.declared.Checked.{Checked}
+use Rattle.refusals.proofs.Checked as TA
+use Rattle.refusals.proofs.Checked.Laws as TA′
 use Rattle.session.specs.declared.Session.{Session}
 use Rattle.session.specs.declared.Changed.{Changed}
 use Rattle.session.proofs.Session as T

@@ -38,12 +38,11 @@ use denote.Triple.Spec.{Meets, tripleOf}
 use denote.Triple.Walked.{says, Stays, stay-ref, stay-none, walkOf, AllGo, goes-none, goes-ref, Walks, ends-at, walked, walk-meets}
 use denote.Triple.Clauses.{Ended, Clauses, closing, ensured, lasts}
 use denote.Exit.{yes}
-use Rattle.task_model.specs.declared.Checked.{Checked}
 use Rattle.task_model.specs.declared.Entry.{Entry}
 use Rattle.task_model.proofs.Entry as TE
 use Rattle.task_model.proofs.Entry.Laws as TE′
-use Rattle.task_model.proofs.Checked as TA
-use Rattle.task_model.proofs.Checked.Laws as TA′
+use Rattle.refusals.proofs.Checked as TA
+use Rattle.refusals.proofs.Checked.Laws as TA′
 use Rattle.session.specs.declared.Session.{Session}
 use Rattle.session.specs.declared.Changed.{Changed}
 use Rattle.session.specs.Operations.{Operation}

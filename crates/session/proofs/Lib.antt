@@ -1,7 +1,5 @@
 -- Laws that the functions' proofs cite, and the theorems of the session.
 pub mod Held
-pub mod Copying
-pub mod Entries
 pub mod Changing
 pub mod Checking
 pub mod Reading

@@ -3,12 +3,13 @@ use Prim.Native.Nat.{ℕ}
 use mathlib.Core.Path.{_≡_, _∙_, refl, sym}
 use mathlib.Core.List.{List}
 use lib.ListN.{length}
-use Rattle.task_model.specs.Refusals.{Numbered, accepted, refused, numbered}
-use Rattle.task_model.specs.declared.Refusal.{Refusal}
-use Rattle.task_model.specs.Answers.{refuses, left}
+use Rattle.refusals.specs.Refusals.{Numbered, accepted, refused, numbered}
+use Rattle.refusals.specs.declared.Refusal.{Refusal}
+use Rattle.refusals.specs.Answers.{refuses, left}
 use Rattle.task_model.specs.Limits.{Node}
 use Rattle.task_model.specs.Checks.{nodeCheck}
-use Rattle.task_model.proofs.Theorems.{node-accepted, not-both}
+use Rattle.task_model.proofs.Theorems.{node-accepted}
+use Rattle.refusals.proofs.Outcomes.{not-both}
 use Rattle.level_map.specs.declared.MappedNode.{MappedNode}
 use Rattle.level_map.specs.declared.MappedNode.the-variants.{Refused}
 use Rattle.level_map.specs.Answer.{answer, mapOf, heldAnswer, NodeDemand3}

@@ -7,9 +7,10 @@ use native.Mathlib.Omega.{arith}
 use lib.ListN.{length}
 use Rattle.task_model.specs.declared.Entry.{Entry}
 use Rattle.task_model.specs.Limits.{Node, entryAt, EntryHolds, NodeHolds}
-use Rattle.task_model.specs.Words.{EntryFits, EntriesFit}
-use Rattle.task_model.proofs.Words.{read-entries}
-use Rattle.session.specs.State.{nodeIn, filled, sessionOf}
+use Rattle.node_words.specs.Words.{EntryFits, EntriesFit}
+use Rattle.node_words.proofs.Words.{read-entries}
+use Rattle.session.specs.State.{nodeIn, sessionOf}
+use Rattle.node_words.specs.Lists.{filled}
 
 -- a node within the limits, with numbers of 16 bits
 pub record Kept (n : Node) : Type 0 where

@@ -6,13 +6,37 @@ use mathlib.Core.List.{List, [], _∷_}
 use native.Mathlib.Omega.{arith}
 use lib.ListN.{length}
 use Rattle.task_model.specs.declared.Entry.{Entry}
-use Rattle.task_model.specs.Refusals.{Numbered, accepted, refused}
+use Rattle.refusals.specs.Refusals.{Numbered, accepted, refused}
 use Rattle.task_model.specs.Limits.{mostLevels, mostEntries, Node, EntryHolds, NodeHolds}
-use Rattle.task_model.proofs.Theorems.{either, entry-accepted, node-accepted}
+use Rattle.refusals.proofs.Outcomes.{either}
+use Rattle.task_model.proofs.Theorems.{entry-accepted, node-accepted}
 use Rattle.session.specs.State.{nodeIn, sessionOf}
-use Rattle.session.specs.Operations.{Change, Operation, opening, changing, asking, inserting, removing, replacing, settingLevels, CallableChange, Callable, AllCallable, changeCheck, operationCheck, emptyNode, changed, made, nodeAfter, nodeAfterAll, answersAll, lentCheck, stepCheck}
+use Rattle.session.specs.Operations.{
+  Change,
+  Operation,
+  opening,
+  changing,
+  asking,
+  inserting,
+  removing,
+  replacing,
+  settingLevels,
+  CallableChange,
+  Callable,
+  AllCallable,
+  changeCheck,
+  operationCheck,
+  emptyNode,
+  changed,
+  made,
+  nodeAfter,
+  nodeAfterAll,
+  answersAll,
+  lentCheck,
+  stepCheck,
+}
 use Rattle.session.specs.Steps.{sessionMade, sessionAfter, sessionAfterAll, answersOf}
-use Rattle.session.proofs.Entries.{size-inserted, size-removed, size-replaced, Each, each-of, of-each, each-inserted, each-removed, each-replaced}
+use Rattle.node_words.proofs.Lists.{size-inserted, size-removed, size-replaced, Each, each-of, of-each, each-inserted, each-removed, each-replaced}
 use Rattle.session.proofs.Reading.{Kept, read-back}
 use Rattle.session.proofs.Checking.{lent-goes-on, levels-accepted, insert-accepted, remove-accepted, replace-accepted, after-refused, after-accepted}
 

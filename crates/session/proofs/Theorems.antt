@@ -6,27 +6,57 @@ use mathlib.Core.List.{List, _∷_}
 use native.Mathlib.Omega.{arith}
 use lib.ListN.{length}
 use Rattle.task_model.specs.declared.Entry.{Entry}
-use Rattle.task_model.specs.Refusals.{Numbered, at, accepted, refused}
+use Rattle.refusals.specs.Refusals.{Numbered, at, accepted, refused}
 use Rattle.task_model.specs.Limits.{mostLevels, Node}
 use Rattle.task_model.specs.Checks.{nodeCheck}
-use Rattle.task_model.proofs.Laws.{node-sizes, length-entries}
-use Rattle.task_model.proofs.Outcomes.{giving-refuses}
-use Rattle.task_model.proofs.Theorems.{node-accepted, either}
+use Rattle.task_model.proofs.Laws.{node-sizes}
+use Rattle.node_words.proofs.Entries.{length-entries}
+use Rattle.refusals.proofs.Outcomes.{giving-refuses, either}
+use Rattle.task_model.proofs.Theorems.{node-accepted}
 use Rattle.completion.specs.Group.{groupLevel}
 use Rattle.completion.specs.Test.{Completion, completionTest, on-time}
 use Rattle.completion.specs.Right.{RightTiming}
 use Rattle.completion.proofs.Theorems.{timing-right}
 use Rattle.level_map.specs.Answer.{mapOf, heldAnswer, NodeDemand3}
 use Rattle.session.specs.declared.Session.{Session}
-use Rattle.session.specs.State.{nodeIn, sessionOf, Sound, zeros, blankSession}
-use Rattle.session.specs.Operations.{Query, Operation, opening, changing, asking, inserting, mapping, timing, AllCallable, operationCheck, emptyNode, nodeAfterAll, answersAll, lentCheck, stepCheck}
-use Rattle.task_model.specs.Answers.{gives, refuses, left}
+use Rattle.session.specs.State.{nodeIn, sessionOf, Sound, blankSession}
+use Rattle.node_words.specs.Lists.{zeros}
+use Rattle.session.specs.Operations.{
+  Query,
+  Operation,
+  opening,
+  changing,
+  asking,
+  inserting,
+  mapping,
+  timing,
+  AllCallable,
+  operationCheck,
+  emptyNode,
+  nodeAfterAll,
+  answersAll,
+  lentCheck,
+  stepCheck,
+}
+use Rattle.refusals.specs.Answers.{gives, refuses, left}
 use Rattle.session.specs.Timing.{timeAnswer}
 use Rattle.session.specs.Mapping.{mapAnswer}
 use Rattle.session.specs.Steps.{sessionAfter, sessionAfterAll, answersOf}
 use Rattle.session.specs.InWords.{sessionSize, sessionIn, wordsIn, wordsAfter, wordsAfterAll}
 use Rattle.session.proofs.Reading.{Kept, read-back}
-use Rattle.session.proofs.Checking.{levels-within, lent-stops, insert-outside, insert-full, time-inside, time-else, time-refused, time-given, time-ready, after-refused, after-accepted}
+use Rattle.session.proofs.Checking.{
+  levels-within,
+  lent-stops,
+  insert-outside,
+  insert-full,
+  time-inside,
+  time-else,
+  time-refused,
+  time-given,
+  time-ready,
+  after-refused,
+  after-accepted,
+}
 use Rattle.session.proofs.Mapping.{own-answer, own-demand}
 use Rattle.session.proofs.InWords.{words-back, words-refused, words-accepted, rows-words}
 use Rattle.session.proofs.Rows.{kept-empty, own-checks, rows-session, rows-answers, rows-kept}

@@ -3,8 +3,8 @@ use Prim.Native.Nat.{ℕ}
 use mathlib.Core.Path.{_≡_}
 use mathlib.Core.List.{List}
 use lib.ListN.{length}
-use Rattle.task_model.specs.Refusals.{accepted}
-use Rattle.task_model.specs.Answers.{Answer, giving, left}
+use Rattle.refusals.specs.Refusals.{accepted}
+use Rattle.refusals.specs.Answers.{Answer, giving, left}
 use Rattle.task_model.specs.Limits.{Node}
 use Rattle.task_model.specs.Checks.{nodeCheck}
 use Rattle.level_map.specs.declared.MappedNode.{MappedNode}

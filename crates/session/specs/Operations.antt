@@ -1,13 +1,14 @@
 -- The operations of a session (docs/SPEC.md, 'The session'), as functions of the level count and the list of entries alone:
 -- what each checks, in its order, and what it makes of the node.
-use Prim.Native.Nat.{ℕ, suc, _<_}
+use Prim.Native.Nat.{ℕ, _<_}
 use mathlib.Core.Bool.{_&&_}
-use mathlib.Core.List.{List, [], _∷_, _++_}
-use lib.ListN.{length, take, drop}
+use mathlib.Core.List.{List, [], _∷_}
+use lib.ListN.{length}
 use lib.Dec.{leb, ltb}
 use Rattle.task_model.specs.declared.Entry.{Entry}
-use Rattle.task_model.specs.Refusals.{at, Outcome, accepted, refused, _andThen_, mustHold}
+use Rattle.refusals.specs.Refusals.{at, Outcome, accepted, refused, _andThen_, mustHold}
 use Rattle.task_model.specs.Limits.{mostLevels, mostEntries, Node}
+use Rattle.node_words.specs.Lists.{insertAt, removeAt, replaceAt}
 use Rattle.task_model.specs.Checks.{entryCheck, nodeCheck}
 use Rattle.level_map.specs.Answer.{heldCheck}
 
@@ -74,16 +75,6 @@ unfoldable pub operationCheck : Operation → Node → Outcome
 operationCheck (opening levels) n = levelsCheck levels
 operationCheck (changing c) n = changeCheck c n
 operationCheck (asking q) n = queryCheck q n
-
--- Lists: an entry more before a position, one less, and one in the place of another.
-abbrev pub insertAt : ℕ → Entry → List Entry → List Entry
-insertAt position e es = take position es ++ e ∷ drop position es
-
-abbrev pub removeAt : ℕ → List Entry → List Entry
-removeAt position es = take position es ++ drop (suc position) es
-
-abbrev pub replaceAt : ℕ → Entry → List Entry → List Entry
-replaceAt position e es = take position es ++ e ∷ drop (suc position) es
 
 -- Opening makes an empty node with the given level count.
 abbrev pub emptyNode : ℕ → Node

@@ -1,23 +1,14 @@
 -- What a session holds: a node, and zero in every word beyond its entries.
-use Prim.Native.Nat.{ℕ, _-_}
 use mathlib.Core.Path.{_≡_}
-use mathlib.Core.List.{List, _++_}
-use lib.ListN.{length, replicate}
+use lib.ListN.{length}
 use Rattle.task_model.specs.Limits.{Node, NodeHolds}
-use Rattle.task_model.specs.Words.{nodeSize, wordsOf, nodeOf}
+use Rattle.node_words.specs.Lists.{zeros, filled}
+use Rattle.node_words.specs.Words.{nodeSize, wordsOf, nodeOf}
 use Rattle.session.specs.declared.Session.{Session}
 
 -- The node that a session holds: its level count, and the entries that its first words hold.
 abbrev pub nodeIn : Session → Node
 nodeIn s = nodeOf (s .words) (s .count) (s .levels)
-
--- n words that are zero.
-abbrev pub zeros : ℕ → List ℕ
-zeros n = replicate n 0
-
--- Words from the start on, and zero in every slot beyond them.
-unfoldable pub filled : List ℕ → List ℕ
-filled ws = ws ++ zeros (nodeSize - length ws)
 
 -- The session of a node. Nothing in it is left free.
 unfoldable pub sessionOf : Node → Session

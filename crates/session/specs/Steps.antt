@@ -1,8 +1,8 @@
 -- What an operation answers, and the session that it leaves.
 use mathlib.Core.Path.{_≡_}
 use mathlib.Core.List.{List, [], _∷_}
-use Rattle.task_model.specs.declared.Checked.{Checked}
-use Rattle.task_model.specs.Refusals.{Outcome, accepted, refused, outcome}
+use Rattle.refusals.specs.declared.Checked.{Checked}
+use Rattle.refusals.specs.Refusals.{Outcome, accepted, refused, outcome}
 use Rattle.session.specs.declared.Session.{Session}
 use Rattle.session.specs.State.{nodeIn, sessionOf}
 use Rattle.session.specs.Operations.{Operation, opening, changing, asking, emptyNode, changed, stepCheck}

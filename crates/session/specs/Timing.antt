@@ -1,13 +1,13 @@
 -- What timing answers.
 use Prim.Native.Nat.{ℕ}
-use Rattle.task_model.specs.Refusals.{numbered}
+use Rattle.refusals.specs.Refusals.{numbered}
 use Rattle.task_model.specs.Limits.{Node}
 use Rattle.completion.specs.Group.{groupLevel}
 use Rattle.completion.specs.Test.{Completion, completion, completionTest}
 use Rattle.session.specs.declared.TimeAnswer.{TimeAnswer}
 use Rattle.session.specs.declared.TimeAnswer.the-variants.{Answered, Refused}
 use Rattle.session.specs.Operations.{asking, timing, stepCheck}
-use Rattle.task_model.specs.Answers.{Answer, gives, refuses, giving}
+use Rattle.refusals.specs.Answers.{Answer, gives, refuses, giving}
 
 -- What the code's answer says: on time, with the completion time and the rounds, or late, with the rounds; or the refusal.
 abbrev pub timeGives : TimeAnswer → Answer Completion

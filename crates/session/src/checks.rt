@@ -1,17 +1,17 @@
 // The checks of each operation, in their order. A session is given by its level count, its entry count and the words of its
 // entries, and is first checked as a node of a file is: 4, then 7 and 8 with the place.
-use task_model::Checked;
+use node_words::check_words;
+use refusals::Checked;
+use refusals::Refusal;
 use task_model::Entry;
 use task_model::MOST_ENTRIES;
 use task_model::MOST_LEVELS;
-use task_model::Refusal;
 use task_model::check_entry;
-use task_model::check_words;
 ghost use mathlib.Core.Path.{_≡_};
 ghost use Prim.Native.Nat.{_≤_};
 ghost use lib.ListN.{length};
-ghost use Rattle.task_model.specs.Refusals.{outcome};
-ghost use Rattle.task_model.specs.Words.{nodeSize, nodeOf};
+ghost use Rattle.refusals.specs.Refusals.{outcome};
+ghost use Rattle.node_words.specs.Words.{nodeSize, nodeOf};
 ghost use Rattle.session.specs.Operations.{changing, asking, inserting, removing, replacing, settingLevels, timing, levelsCheck, stepCheck};
 
 // Accepts 1 to 64 levels (4).

@@ -1,19 +1,18 @@
 // The session: one node, changed entry by entry until it maps.
 mod checks;
 pub mod in_words;
-mod list;
 
 use checks::check_time;
 use completion::Timing;
 use completion::completion_test;
 use level_map::MappedNode;
 use level_map::map_held;
-use task_model::Checked;
+use node_words::NODE_WORDS;
+use node_words::NodeWords;
+use node_words::check_words;
+use refusals::Checked;
+use refusals::Refusal;
 use task_model::Entry;
-use task_model::NODE_WORDS;
-use task_model::NodeWords;
-use task_model::Refusal;
-use task_model::check_words;
 ghost use mathlib.Core.Path.{_≡_};
 ghost use Rattle.session.specs.State.{nodeIn, blankSession};
 ghost use Rattle.session.specs.Operations.{changing, opening, inserting, removing, replacing, settingLevels};

@@ -1,6 +1,4 @@
 -- Laws that the functions' proofs and other crates cite, and the theorems of the checks.
-pub mod Outcomes
+pub mod Tests
 pub mod Laws
 pub mod Theorems
-pub mod Refusals
-pub mod Words

@@ -8,14 +8,13 @@ use native.Mathlib.Omega.{arith}
 use lib.ListN.{length}
 use lib.Dec.{leb, eqb}
 use borrow.Author.Tests.{leb-true, le-leb, eqb-true}
+use Rattle.refusals.proofs.Outcomes.{either, not-both}
 use Rattle.task_model.specs.declared.Entry.{Entry}
-use Rattle.task_model.specs.Refusals.{Numbered, at, Outcome, accepted, refused}
+use Rattle.refusals.specs.Refusals.{Numbered, at, Outcome, accepted, refused}
 use Rattle.task_model.specs.Limits.{mostLevels, mostEntries, Node, entryAt, KindHolds, TimesHold, EntryHolds, AllHold, NodeHolds}
 use Rattle.task_model.specs.Checks.{kindTest, timesTest, entryCheck, entriesCheck, sizeTest, nodeCheck}
+use Rattle.task_model.proofs.Tests.{and-true, true-or-false, decided}
 use Rattle.task_model.proofs.Laws.{
-  and-true,
-  true-or-false,
-  decided,
   times-true,
   times-hold,
   times-false,
@@ -49,14 +48,6 @@ kind-true e h =
 number : Outcome → ℕ
 number accepted = 0
 number (refused r) = r .number
-
--- an answer is accepted or refused, and not both
-pub either : (o : Outcome) → (o ≡ accepted) ⊎ ((r : Numbered) × (o ≡ refused r))
-either accepted = inl refl
-either (refused r) = inr (r, refl)
-
-pub not-both : {o : Outcome} {r : Numbered} → o ≡ accepted → o ≡ refused r → ⊥
-not-both p q = let z : _≡_ {A = ℕ} 0 1 = cc in omega arith
 
 seven-eight : {row position : ℕ} → refused (at 7 row position) ≡ refused (at 8 row position) → ⊥
 unfolding number

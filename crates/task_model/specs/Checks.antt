@@ -5,7 +5,7 @@ use mathlib.Core.List.{List, [], _∷_}
 use lib.ListN.{length}
 use lib.Dec.{leb, eqb}
 use Rattle.task_model.specs.declared.Entry.{Entry}
-use Rattle.task_model.specs.Refusals.{at, Outcome, accepted, refused}
+use Rattle.refusals.specs.Refusals.{at, Outcome, accepted, refused}
 use Rattle.task_model.specs.Limits.{mostTicks, mostLevels, mostEntries, Node}
 
 -- Kind 1 with up to 15 calls, or kind 2 with none.

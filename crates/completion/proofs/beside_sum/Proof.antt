@@ -2,8 +2,8 @@ use Prim.Native.Nat.{_+_, _*_, _-_, _≤_}
 use mathlib.Core.Path.{_≡_, ap}
 use native.Mathlib.Nat.{le-trans, zero-add}
 use native.Mathlib.Omega.{arith}
-use Rattle.task_model.specs.Words.{entryOf}
-use Rattle.task_model.proofs.Laws.{all-at}
+use Rattle.node_words.specs.Words.{entryOf}
+use Rattle.node_words.proofs.Entries.{all-at}
 use Rattle.completion.specs.Demand.{sumTo, besideShare}
 use Rattle.completion.proofs.Bounds.{mostShare}
 use Rattle.completion.proofs.Sums.{sumTo-more}

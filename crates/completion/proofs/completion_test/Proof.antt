@@ -2,8 +2,8 @@ use mathlib.Core.Path.{_∙_, ap, sym}
 use native.Mathlib.Omega.{arith}
 use borrow.Author.Needs.{needs}
 use Rattle.task_model.specs.declared.Entry.{Entry}
-use Rattle.task_model.specs.Words.{entriesOf}
-use Rattle.task_model.proofs.Laws.{entry-of}
+use Rattle.node_words.specs.Words.{entriesOf}
+use Rattle.node_words.proofs.Entries.{entry-of}
 use Rattle.completion.specs.Group.{groupLevel}
 use Rattle.completion.specs.Test.{testWith}
 use Rattle.completion.proofs.completion_test.Statement.{statement}

@@ -2,7 +2,7 @@ use Prim.Native.Nat.{_+_, _≤_}
 use native.Mathlib.Omega.{arith}
 use borrow.Author.Needs.{needs}
 use Rattle.task_model.specs.Limits.{mostTicks}
-use Rattle.task_model.proofs.Laws.{all-fewer}
+use Rattle.node_words.proofs.Entries.{all-fewer}
 use Rattle.completion.proofs.Bounds.{mostShares}
 use Rattle.completion.proofs.Words.{words-times, words-parts, urgent-small, beside-small}
 use Rattle.completion.proofs.demand_at.Statement.{statement}

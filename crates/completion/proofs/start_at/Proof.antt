@@ -1,7 +1,7 @@
 use Prim.Native.Nat.{_+_}
 use mathlib.Core.Path.{_∙_, ap, sym}
 use native.Mathlib.Omega.{arith}
-use Rattle.task_model.proofs.Laws.{all-fewer}
+use Rattle.node_words.proofs.Entries.{all-fewer}
 use Rattle.completion.proofs.Words.{words-start, wcet-small}
 use Rattle.completion.proofs.start_at.Statement.{statement}
 use Rattle.completion.proofs.start_at.Tie as tie

@@ -4,8 +4,8 @@ use mathlib.Core.List.{List}
 use native.Mathlib.Omega.{arith}
 use borrow.Author.Needs.{needs}
 use Rattle.task_model.specs.Limits.{mostTicks, AllHold}
-use Rattle.task_model.specs.Words.{entriesOf}
-use Rattle.task_model.proofs.Laws.{length-entries}
+use Rattle.node_words.specs.Words.{entriesOf}
+use Rattle.node_words.proofs.Entries.{length-entries}
 use Rattle.completion.specs.Demand.{demandWith}
 use Rattle.completion.specs.Group.{groupLevel}
 use Rattle.completion.specs.Test.{Completion, testFrom, testWith, roundsIn, roundsBound}

@@ -1,8 +1,8 @@
 use Prim.Native.Nat.{_*_, _-_, _≤_}
 use mathlib.Core.Path.{_≡_, sym}
 use native.Mathlib.Omega.{arith}
-use Rattle.task_model.specs.Words.{entryOf}
-use Rattle.task_model.proofs.Laws.{all-at}
+use Rattle.node_words.specs.Words.{entryOf}
+use Rattle.node_words.proofs.Entries.{all-at}
 use Rattle.completion.specs.Demand.{sumTo, urgentShare}
 use Rattle.completion.proofs.Bounds.{mostShare}
 use Rattle.completion.proofs.Sums.{sumTo-none, sumTo-step, sumTo-all}

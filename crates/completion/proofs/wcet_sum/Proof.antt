@@ -4,8 +4,8 @@ use native.Mathlib.Omega.{arith}
 use borrow.Author.Needs.{needs}
 use Rattle.task_model.specs.declared.Entry.{Entry}
 use Rattle.task_model.specs.Limits.{mostTicks}
-use Rattle.task_model.specs.Words.{entryOf}
-use Rattle.task_model.proofs.Laws.{all-at}
+use Rattle.node_words.specs.Words.{entryOf}
+use Rattle.node_words.proofs.Entries.{all-at}
 use Rattle.completion.specs.Demand.{sumTo}
 use Rattle.completion.proofs.Sums.{sumTo-none, sumTo-step, sumTo-all}
 use Rattle.completion.proofs.wcet_sum.Statement.{statement}

@@ -4,8 +4,8 @@ use native.Mathlib.Omega.{arith}
 use borrow.Author.Needs.{needs}
 use lib.ListN.{length, length-set}
 use Rattle.task_model.specs.Limits.{mostEntries}
-use Rattle.task_model.specs.Words.{entriesOf}
-use Rattle.task_model.proofs.Laws.{length-entries}
+use Rattle.node_words.specs.Words.{entriesOf}
+use Rattle.node_words.proofs.Entries.{length-entries}
 use Rattle.level_map.specs.declared.Start.{Start}
 use Rattle.level_map.specs.declared.Start.the-variants.{At, Nowhere}
 use Rattle.level_map.specs.Map.{maps, firstOf, passTest, theMap}

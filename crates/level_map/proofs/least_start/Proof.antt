@@ -8,13 +8,14 @@ use borrow.Author.Needs.{needs}
 use lib.ListN.{length}
 use Rattle.task_model.specs.declared.Entry.{Entry}
 use Rattle.task_model.specs.Limits.{entryAt}
-use Rattle.task_model.specs.Words.{entriesOf}
-use Rattle.task_model.proofs.Laws.{length-entries, entry-of, all-at, all-fewer}
+use Rattle.node_words.specs.Words.{entriesOf}
+use Rattle.node_words.proofs.Entries.{length-entries, entry-of, all-at, all-fewer}
 use Rattle.completion.specs.Group.{groupLevel}
-use Rattle.completion.specs.Test.{testWith, isOnTime, endsOnTime}
-use Rattle.completion.specs.Behind.{behindLate}
+use Rattle.completion.specs.Test.{testWith, isOnTime}
+use Rattle.on_time.specs.Deciding.{endsOnTime}
+use Rattle.on_time.specs.Behind.{behindLate}
 use Rattle.completion.proofs.Theorems.{widen}
-use Rattle.completion.proofs.Behind.{behind-most, behind-late}
+use Rattle.on_time.proofs.Behind.{behind-most, behind-late}
 use Rattle.level_map.specs.Groups.{onTimeIn, GroupPasses}
 use Rattle.level_map.proofs.least_start.Statement.{statement}
 use Rattle.level_map.proofs.least_start.Tie as tie

@@ -5,8 +5,8 @@ use borrow.Author.Needs.{needs}
 use lib.ListN.{length}
 use lib.Seq.{length-take-le}
 use Rattle.task_model.specs.Limits.{mostEntries, Node}
-use Rattle.task_model.specs.Words.{nodeOf}
-use Rattle.task_model.proofs.Laws.{length-entries}
+use Rattle.node_words.specs.Words.{nodeOf}
+use Rattle.node_words.proofs.Entries.{length-entries}
 use Rattle.level_map.specs.declared.Cut.{Cut}
 use Rattle.level_map.specs.declared.Cut.the-variants.{Groups, NoMap}
 use Rattle.level_map.specs.Map.{theMap}

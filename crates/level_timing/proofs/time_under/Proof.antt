@@ -1,7 +1,7 @@
 use mathlib.Core.Path.{_∙_}
 use borrow.Author.Needs.{needs}
-use Rattle.task_model.specs.Words.{entriesOf}
-use Rattle.task_model.proofs.Laws.{length-entries}
+use Rattle.node_words.specs.Words.{entriesOf}
+use Rattle.node_words.proofs.Entries.{length-entries}
 use Rattle.level_timing.proofs.Groups.{time-group}
 use Rattle.level_timing.proofs.time_under.Statement.{statement}
 use Rattle.level_timing.proofs.time_under.Tie as tie

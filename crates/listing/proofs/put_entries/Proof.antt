@@ -5,8 +5,8 @@ use borrow.Author.Needs.{needs}
 use lib.ListN.{take}
 use lib.Seq.{length-take-le}
 use Rattle.task_model.specs.Limits.{mostEntries}
-use Rattle.task_model.specs.Words.{entriesOf}
-use Rattle.task_model.proofs.Laws.{length-entries}
+use Rattle.node_words.specs.Words.{entriesOf}
+use Rattle.node_words.proofs.Entries.{length-entries}
 use Rattle.text.specs.Text.{Upto}
 use Rattle.level_map.specs.Cuts.{levelsOfCuts}
 use Rattle.level_map.proofs.Levels.{before}

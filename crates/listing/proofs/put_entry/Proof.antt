@@ -2,8 +2,8 @@ use mathlib.Core.Path.{_∙_, ap, sym}
 use native.Mathlib.Omega.{arith}
 use Rattle.task_model.specs.declared.Entry.{Entry}
 use Rattle.task_model.specs.Limits.{entryAt}
-use Rattle.task_model.specs.Words.{entriesOf}
-use Rattle.task_model.proofs.Laws.{entry-of}
+use Rattle.node_words.specs.Words.{entriesOf}
+use Rattle.node_words.proofs.Entries.{entry-of}
 use Rattle.completion.specs.Test.{completion}
 use Rattle.listing.specs.Lines.{entryLine}
 use Rattle.listing.specs.Groups.{timedLine}

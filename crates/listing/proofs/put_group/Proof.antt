@@ -3,7 +3,7 @@ use mathlib.Core.Path.{_≡_, sym}
 use mathlib.Core.List.{_++_}
 use native.Mathlib.Omega.{arith}
 use Rattle.task_model.specs.Limits.{entryAt}
-use Rattle.task_model.specs.Words.{entriesOf}
+use Rattle.node_words.specs.Words.{entriesOf}
 use Rattle.completion.specs.Group.{groupLevel}
 use Rattle.completion.specs.Test.{completionTest}
 use Rattle.text.specs.Text.{Upto}

@@ -6,8 +6,8 @@ use native.Mathlib.Omega.{arith}
 use lib.ListN.{length, take}
 use lib.Seq.{length-take-le}
 use Rattle.task_model.specs.Limits.{mostEntries, Node, NodeHolds}
-use Rattle.task_model.specs.Words.{nodeOf}
-use Rattle.task_model.proofs.Laws.{length-entries}
+use Rattle.node_words.specs.Words.{nodeOf}
+use Rattle.node_words.proofs.Entries.{length-entries}
 use Rattle.plan_file.specs.declared.Row.{Row}
 use Rattle.plan_file.specs.Decoding.{nodeCount, rowAt, planIn}
 use Rattle.plan_file.specs.Find.{rowIn, nodeOfRow}

@@ -1,8 +1,8 @@
 use mathlib.Core.Path.{_≡_, _∙_, sym, ap}
 use native.Mathlib.Omega.{arith}
 use borrow.Author.Needs.{needs}
-use Rattle.task_model.specs.Refusals.{outcome}
-use Rattle.task_model.specs.declared.Checked.{Checked}
+use Rattle.refusals.specs.Refusals.{outcome}
+use Rattle.refusals.specs.declared.Checked.{Checked}
 use Rattle.plan_file.specs.Check.{headerCheck, layoutCheck}
 use Rattle.plan_file.specs.Decoding.{nodeCount, rowsIn}
 use Rattle.plan_file.specs.Encoding.{bodiesStart}

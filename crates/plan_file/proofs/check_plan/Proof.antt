@@ -5,9 +5,9 @@ use mathlib.Core.Path.{_≡_, _∙_, sym, ap}
 use native.Mathlib.Omega.{arith}
 use lib.ListN.{length, length-map}
 use borrow.Author.Needs.{needs}
-use Rattle.task_model.specs.Words.{entrySize}
-use Rattle.task_model.specs.Refusals.{outcome}
-use Rattle.task_model.specs.declared.Checked.{Checked}
+use Rattle.node_words.specs.Words.{entrySize}
+use Rattle.refusals.specs.Refusals.{outcome}
+use Rattle.refusals.specs.declared.Checked.{Checked}
 use Rattle.plan_file.specs.Check.{countTest}
 use Rattle.plan_file.specs.Plan.{entryCount, rowOf}
 use Rattle.plan_file.proofs.Handed.{tally, tally-holds, count-true, count-false, handed-count, handed-tally, handed-nodes}

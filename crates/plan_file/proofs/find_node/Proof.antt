@@ -1,7 +1,7 @@
 use mathlib.Core.Path.{_≡_, _∙_, refl, sym, ap}
 use native.Mathlib.Omega.{arith}
 use borrow.Author.Needs.{needs}
-use Rattle.task_model.specs.Refusals.{outcome, accepted}
+use Rattle.refusals.specs.Refusals.{outcome, accepted}
 use Rattle.plan_file.specs.Find.{rowOfNumber}
 use Rattle.plan_file.specs.Decoding.{rowsIn}
 use Rattle.plan_file.specs.Check.{fileCheck}

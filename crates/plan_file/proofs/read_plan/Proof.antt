@@ -3,14 +3,15 @@ use mathlib.Core.Path.{_≡_, _∙_, refl, sym, ap}
 use native.Mathlib.Omega.{arith}
 use lib.ListN.{length}
 use borrow.Author.Needs.{needs}
-use Rattle.task_model.specs.Words.{entrySize}
-use Rattle.task_model.specs.Refusals.{outcome, accepted}
+use Rattle.node_words.specs.Words.{entrySize}
+use Rattle.refusals.specs.Refusals.{outcome, accepted}
 use Rattle.plan_file.specs.Decoding.{nodeCount, rowsIn}
-use Rattle.plan_file.specs.Encoding.{bodiesStart, Bytes}
+use Rattle.plan_file.specs.Encoding.{bodiesStart}
+use Rattle.byte_words.specs.Bytes.{Bytes}
 use Rattle.plan_file.specs.Check.{fileCheck}
 use Rattle.plan_file.specs.Plan.{entryCount}
 use Rattle.plan_file.proofs.Memory.{words-of-entries}
-use Rattle.plan_file.proofs.Buffers.{over-start}
+use Rattle.byte_words.proofs.Buffers.{over-start}
 use Rattle.plan_file.proofs.Reading.{read-refused, read-few-rows, read-few-words, read-filled}
 use Rattle.plan_file.proofs.File.{file-holds}
 use Rattle.plan_file.proofs.Ensured.{read-ensures}

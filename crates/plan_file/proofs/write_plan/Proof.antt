@@ -3,12 +3,12 @@ use mathlib.Core.Path.{_≡_, _∙_, refl, sym, ap}
 use native.Mathlib.Omega.{arith}
 use lib.ListN.{length, length-map}
 use borrow.Author.Needs.{needs}
-use Rattle.task_model.specs.Refusals.{outcome, accepted}
+use Rattle.refusals.specs.Refusals.{outcome, accepted}
 use Rattle.plan_file.specs.Check.{wordsCheck}
 use Rattle.plan_file.specs.Plan.{mostNodes, rowOf}
 use Rattle.plan_file.proofs.Writing.{written, write-refused, write-short, write-fits}
 use Rattle.plan_file.proofs.Handed.{handed-holds}
-use Rattle.plan_file.proofs.Buffers.{over-start}
+use Rattle.byte_words.proofs.Buffers.{over-start}
 use Rattle.plan_file.proofs.Ensured.{write-ensures}
 use Rattle.plan_file.proofs.write_plan.Statement.{statement}
 use Rattle.plan_file.proofs.write_plan.Tie as tie

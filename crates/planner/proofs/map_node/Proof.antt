@@ -1,7 +1,7 @@
 use Prim.Native.Nat.{ℕ}
 use mathlib.Core.Path.{_≡_, _∙_, ap, sym, subst}
 use borrow.Author.Needs.{needs}
-use Rattle.task_model.specs.Words.{nodeOf}
+use Rattle.node_words.specs.Words.{nodeOf}
 use Rattle.plan_file.specs.declared.FoundNode.the-variants.{Found}
 use Rattle.plan_file.specs.Answers.{findGives, findAnswer, Holding}
 use Rattle.plan_file.specs.Find.{nodeFound}

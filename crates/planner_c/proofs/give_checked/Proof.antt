@@ -1,5 +1,5 @@
 use mathlib.Core.Path.{_∙_, ap, sym}
-use Rattle.task_model.specs.Refusals.{outcome}
+use Rattle.refusals.specs.Refusals.{outcome}
 use Rattle.planner_c.specs.Returned.{checked}
 use borrow.Author.Needs.{needs}
 use Rattle.planner_c.proofs.give_checked.Statement.{statement}

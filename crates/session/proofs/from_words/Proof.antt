@@ -7,9 +7,9 @@ use mir.Syntax.{w32}
 use borrow.Kind.Array.{eInt, good-length}
 use borrow.Author.Needs.{needs}
 use Rattle.session.specs.InWords.{sessionSize}
-use Rattle.task_model.specs.Words.{nodeSize}
-use Rattle.session.specs.State.{zeros}
-use Rattle.session.proofs.Copying.{copy-next, copy-all}
+use Rattle.node_words.specs.Words.{nodeSize}
+use Rattle.node_words.specs.Lists.{zeros}
+use Rattle.node_words.proofs.Copying.{copy-next, copy-all}
 use Rattle.session.proofs.from_words.Statement.{statement}
 use Rattle.session.proofs.from_words.Tie as tie
 

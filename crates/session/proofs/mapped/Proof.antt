@@ -1,6 +1,6 @@
 use mathlib.Core.Path.{_≡_, _∙_, sym, ap}
 use native.Mathlib.Omega.{arith}
-use Rattle.task_model.specs.Refusals.{outcome, accepted}
+use Rattle.refusals.specs.Refusals.{outcome, accepted}
 use Rattle.task_model.specs.Limits.{NodeHolds}
 use Rattle.task_model.specs.Checks.{nodeCheck}
 use Rattle.task_model.proofs.Theorems.{node-accepted}

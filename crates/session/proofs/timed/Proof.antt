@@ -1,7 +1,7 @@
 use mathlib.Core.Path.{_∙_, sym, ap}
 use native.Mathlib.Omega.{arith}
-use Rattle.task_model.specs.Refusals.{outcome}
-use Rattle.task_model.specs.Answers.{gives}
+use Rattle.refusals.specs.Refusals.{outcome}
+use Rattle.refusals.specs.Answers.{gives}
 use Rattle.session.proofs.Checking.{time-ready, time-refused, time-given}
 use borrow.Author.Needs.{needs}
 use Rattle.session.proofs.timed.Statement.{statement}

@@ -5,11 +5,11 @@ use native.Mathlib.Omega.{arith}
 use lib.ListN.{length}
 use lib.Seq.{paste, paste-zero}
 use borrow.Author.Needs.{needs}
-use Rattle.task_model.specs.Words.{nodeSize}
+use Rattle.node_words.specs.Words.{nodeSize}
 use Rattle.session.specs.declared.Session.{Session}
-use Rattle.session.specs.State.{zeros}
+use Rattle.node_words.specs.Lists.{zeros}
 use Rattle.session.proofs.Held.{held-size}
-use Rattle.session.proofs.Copying.{copy-next, copy-all}
+use Rattle.node_words.proofs.Copying.{copy-next, copy-all}
 use Rattle.session.proofs.to_words.Statement.{statement}
 use Rattle.session.proofs.to_words.Tie as tie
 

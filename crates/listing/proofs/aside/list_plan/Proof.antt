@@ -2,9 +2,9 @@ use borrow.Author.Needs.{needs}
 use mathlib.Core.Path.{_≡_, _∙_, ap, sym}
 use native.Mathlib.Omega.{arith}
 use lib.ListN.{length}
-use Rattle.task_model.specs.declared.Checked.the-variants.{Accepted}
-use Rattle.task_model.specs.Refusals.{outcome, accepted}
-use Rattle.task_model.specs.Answers.{gives}
+use Rattle.refusals.specs.declared.Checked.the-variants.{Accepted}
+use Rattle.refusals.specs.Refusals.{outcome, accepted}
+use Rattle.refusals.specs.Answers.{gives}
 use Rattle.plan_file.specs.Check.{fileCheck}
 use Rattle.plan_file.proofs.File.{file-holds}
 use Rattle.text.proofs.Writing.{written-front}

@@ -4,7 +4,7 @@ use mathlib.Core.Path.{_≡_, _∙_, ap, ap₂, sym}
 use mathlib.Core.List.{List}
 use lib.ListN.{length, take}
 use Rattle.text.proofs.Writing.{front-text}
-use Rattle.task_model.specs.Refusals.{numbered}
+use Rattle.refusals.specs.Refusals.{numbered}
 use Rattle.listing.specs.Lines.{refusedLine}
 use Rattle.listing.proofs.Lines.{upto-end}
 use Rattle.listing.proofs.Texts.{text-same}

@@ -1,6 +1,6 @@
 use mathlib.Core.Path.{_∙_, sym, ap}
 use native.Mathlib.Omega.{arith}
-use Rattle.task_model.specs.Refusals.{outcome}
+use Rattle.refusals.specs.Refusals.{outcome}
 use Rattle.plan_file.proofs.Bodies.{whole-accepted}
 use borrow.Author.Needs.{needs}
 use Rattle.plan_file.proofs.checks.check_bodies.Statement.{statement}

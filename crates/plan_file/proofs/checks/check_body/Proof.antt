@@ -5,8 +5,8 @@ use native.Mathlib.Nat.{sub-zero}
 use borrow.Author.Needs.{needs}
 use Rattle.plan_file.specs.Encoding.{entryLength}
 use Rattle.task_model.specs.Checks.{entryCheck, entriesCheck}
-use Rattle.task_model.specs.Refusals.{outcome}
-use Rattle.task_model.specs.declared.Checked.{Checked}
+use Rattle.refusals.specs.Refusals.{outcome}
+use Rattle.refusals.specs.declared.Checked.{Checked}
 use Rattle.plan_file.specs.Decoding.{entryIn, entriesAt}
 use Rattle.plan_file.proofs.Bodies.{body-next, body-stop, body-end}
 use Rattle.plan_file.proofs.checks.check_body.Statement.{statement}

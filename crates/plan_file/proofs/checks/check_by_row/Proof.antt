@@ -5,8 +5,8 @@ use native.Mathlib.Nat.{sub-zero}
 use lib.ListN.{length}
 use borrow.Author.Needs.{needs}
 use Rattle.task_model.specs.Checks.{entriesCheck}
-use Rattle.task_model.specs.Refusals.{outcome}
-use Rattle.task_model.specs.declared.Checked.{Checked}
+use Rattle.refusals.specs.Refusals.{outcome}
+use Rattle.refusals.specs.declared.Checked.{Checked}
 use Rattle.plan_file.specs.Check.{nodesCheck}
 use Rattle.plan_file.specs.Decoding.{rowAt, rowsFrom, entriesAt}
 use Rattle.plan_file.specs.Encoding.{entryLength, bodiesStart}

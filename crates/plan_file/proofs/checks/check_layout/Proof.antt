@@ -11,7 +11,7 @@ use Rattle.plan_file.specs.Check.{rowTest, layoutCheck}
 use Rattle.plan_file.specs.Decoding.{rowAt, offsetAt, rowsFrom}
 use Rattle.plan_file.specs.Encoding.{rowLength, headerLength, bodiesStart}
 use Rattle.plan_file.proofs.Contents.{at-row, at-offset, at-next, at-end}
-use Rattle.task_model.proofs.Outcomes.{mustHold-accepts, mustHold-refuses}
+use Rattle.refusals.proofs.Outcomes.{mustHold-accepts, mustHold-refuses}
 use Rattle.plan_file.proofs.checks.check_layout.Statement.{statement}
 use Rattle.plan_file.proofs.checks.check_layout.Tie as tie
 

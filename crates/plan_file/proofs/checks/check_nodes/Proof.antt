@@ -5,10 +5,10 @@ use native.Mathlib.Omega.{arith}
 use native.Mathlib.Nat.{zero-add}
 use lib.ListN.{length, getD}
 use borrow.Author.Needs.{needs}
-use Rattle.task_model.specs.Words.{entrySize, entriesFrom}
+use Rattle.node_words.specs.Words.{entrySize, entriesFrom}
 use Rattle.task_model.specs.Checks.{entriesCheck}
-use Rattle.task_model.specs.Refusals.{outcome}
-use Rattle.task_model.specs.declared.Checked.{Checked}
+use Rattle.refusals.specs.Refusals.{outcome}
+use Rattle.refusals.specs.declared.Checked.{Checked}
 use Rattle.plan_file.specs.Check.{nodesCheck}
 use Rattle.plan_file.specs.Plan.{entryCount, rowOf}
 use Rattle.plan_file.specs.declared.Row.{Row}

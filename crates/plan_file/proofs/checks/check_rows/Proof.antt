@@ -8,12 +8,12 @@ use lib.Dec.{eqb}
 use lib.ListN.{length, getD}
 use borrow.Author.Tests.{not-true, not-false, eq-eqb, ne-eqb}
 use borrow.Author.Needs.{needs}
-use Rattle.task_model.specs.Words.{entrySize}
-use Rattle.task_model.specs.Refusals.{at, _andThen_, mustHold}
+use Rattle.node_words.specs.Words.{entrySize}
+use Rattle.refusals.specs.Refusals.{at, _andThen_, mustHold}
 use Rattle.plan_file.specs.Check.{rowTest, rowsCheck}
 use Rattle.plan_file.specs.Plan.{entryCount, rowOf}
 use Rattle.plan_file.proofs.Rows.{tallyFrom, tally-row, tally-next, tally-end}
-use Rattle.task_model.proofs.Outcomes.{mustHold-accepts, mustHold-refuses}
+use Rattle.refusals.proofs.Outcomes.{mustHold-accepts, mustHold-refuses}
 use Rattle.plan_file.proofs.checks.check_rows.Statement.{statement}
 use Rattle.plan_file.proofs.checks.check_rows.Tie as tie
 

@@ -6,9 +6,9 @@ use lib.ListN.{length, length-set}
 use borrow.Author.Needs.{needs}
 use Rattle.plan_file.specs.Decoding.{rowsFrom}
 use Rattle.plan_file.specs.Plan.{rowWord}
-use Rattle.plan_file.specs.Buffers.{over}
+use Rattle.byte_words.specs.Buffers.{over}
 use Rattle.plan_file.proofs.Contents.{row-words-snoc, length-row-words}
-use Rattle.plan_file.proofs.Buffers.{over-nothing, over-more}
+use Rattle.byte_words.proofs.Buffers.{over-nothing, over-more}
 use Rattle.plan_file.proofs.read.copy_rows.Statement.{statement}
 use Rattle.plan_file.proofs.read.copy_rows.Tie as tie
 

@@ -7,10 +7,10 @@ use lib.ListN.{length, take}
 use borrow.Author.Needs.{needs}
 use Rattle.plan_file.specs.Encoding.{entryLength, bodiesStart, contentsBytes}
 use Rattle.plan_file.specs.Plan.{entryCount, rowOf}
-use Rattle.plan_file.specs.Buffers.{over}
+use Rattle.byte_words.specs.Buffers.{over}
 use Rattle.plan_file.specs.declared.Row.{Row}
 use Rattle.plan_file.proofs.Rows.{count-more, contents-more, contents-length}
-use Rattle.plan_file.proofs.Buffers.{over-nothing, over-next}
+use Rattle.byte_words.proofs.Buffers.{over-nothing, over-next}
 use Rattle.plan_file.proofs.store.put_contents.Statement.{statement}
 use Rattle.plan_file.proofs.store.put_contents.Tie as tie
 

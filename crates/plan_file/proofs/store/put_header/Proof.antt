@@ -1,8 +1,9 @@
 use native.Mathlib.Omega.{arith}
 use lib.ListN.{length-set}
 use borrow.Author.Needs.{needs}
-use Rattle.plan_file.specs.Encoding.{headerBytes, low}
-use Rattle.plan_file.proofs.Buffers.{stored}
+use Rattle.plan_file.specs.Encoding.{headerBytes}
+use Rattle.byte_words.specs.Bytes.{low}
+use Rattle.byte_words.proofs.Buffers.{stored}
 use Rattle.plan_file.proofs.store.put_header.Statement.{statement}
 use Rattle.plan_file.proofs.store.put_header.Tie as tie
 

@@ -1,10 +1,10 @@
 use mathlib.Core.Path.{_∙_, refl, sym, ap}
 use native.Mathlib.Omega.{arith}
 use borrow.Author.Needs.{needs}
-use Rattle.plan_file.specs.Encoding.{low}
-use Rattle.plan_file.specs.Buffers.{over}
+use Rattle.byte_words.specs.Bytes.{low}
+use Rattle.byte_words.specs.Buffers.{over}
 use Rattle.plan_file.proofs.Words.{row-bytes}
-use Rattle.plan_file.proofs.Buffers.{over-next}
+use Rattle.byte_words.proofs.Buffers.{over-next}
 use Rattle.plan_file.proofs.store.put_row.Statement.{statement}
 use Rattle.plan_file.proofs.store.put_row.Tie as tie
 

@@ -1,4 +1,4 @@
-use Rattle.task_model.specs.Words.{entryFrom}
+use Rattle.node_words.specs.Words.{entryFrom}
 use Rattle.session.specs.Operations.{changing, replacing}
 use Rattle.planner_c.proofs.Changing.{changes}
 use borrow.Author.Needs.{needs}

@@ -1,9 +1,9 @@
 use mathlib.Core.Path.{_≡_, _∙_, sym, ap}
 use native.Mathlib.Omega.{arith}
-use Rattle.task_model.specs.Refusals.{outcome, accepted}
+use Rattle.refusals.specs.Refusals.{outcome, accepted}
 use Rattle.task_model.specs.Checks.{nodeCheck}
-use Rattle.task_model.proofs.Laws.{length-entries}
-use Rattle.task_model.specs.Words.{nodeOf}
+use Rattle.node_words.proofs.Entries.{length-entries}
+use Rattle.node_words.specs.Words.{nodeOf}
 use Rattle.session.specs.Operations.{changing, removing, lentCheck}
 use Rattle.session.proofs.Checking.{lent-stops, lent-goes-on, remove-outside, remove-inside}
 use borrow.Author.Needs.{needs}

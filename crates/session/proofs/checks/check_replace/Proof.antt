@@ -1,7 +1,7 @@
 use mathlib.Core.Path.{_∙_, sym, ap}
-use Rattle.task_model.specs.Refusals.{outcome}
+use Rattle.refusals.specs.Refusals.{outcome}
 use Rattle.session.proofs.Checking.{replace-step}
-use Rattle.task_model.proofs.Outcomes.{then-refused, then-accepted}
+use Rattle.refusals.proofs.Outcomes.{then-refused, then-accepted}
 use borrow.Author.Needs.{needs}
 use Rattle.session.proofs.checks.check_replace.Statement.{statement}
 use Rattle.session.proofs.checks.check_replace.Tie as tie

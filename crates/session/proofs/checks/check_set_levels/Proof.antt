@@ -1,7 +1,7 @@
 use mathlib.Core.Path.{_≡_, _∙_, sym, ap}
-use Rattle.task_model.specs.Refusals.{outcome, accepted}
+use Rattle.refusals.specs.Refusals.{outcome, accepted}
 use Rattle.task_model.specs.Checks.{nodeCheck}
-use Rattle.task_model.specs.Words.{nodeOf}
+use Rattle.node_words.specs.Words.{nodeOf}
 use Rattle.session.specs.Operations.{changing, settingLevels, changeCheck, operationCheck, lentCheck}
 use Rattle.session.proofs.Checking.{lent-stops, lent-goes-on}
 use borrow.Author.Needs.{needs}

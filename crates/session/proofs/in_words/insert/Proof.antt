@@ -2,7 +2,7 @@ use Prim.Native.Nat.{_+_, _≤_, _<_}
 use mathlib.Core.Path.{_∙_, sym, ap}
 use native.Mathlib.Omega.{arith}
 use lib.ListN.{getD}
-use Rattle.task_model.specs.Refusals.{outcome}
+use Rattle.refusals.specs.Refusals.{outcome}
 use Rattle.task_model.specs.Limits.{mostEntries}
 use Rattle.session.specs.Operations.{inserting}
 use Rattle.session.proofs.Changing.{made-inserted}

@@ -1,5 +1,5 @@
 use mathlib.Core.Path.{refl, ap}
-use Rattle.task_model.specs.Refusals.{outcome}
+use Rattle.refusals.specs.Refusals.{outcome}
 use Rattle.session.specs.Operations.{opening, lentCheck, operationCheck, stepCheck}
 use Rattle.session.proofs.InWords.{in-refused, in-accepted, opened-words}
 use borrow.Author.Needs.{needs}

@@ -1,0 +1,3 @@
+-- Laws that the functions' proofs and other crates cite.
+pub mod Words
+pub mod Buffers

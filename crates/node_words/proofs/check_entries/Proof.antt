@@ -1,0 +1,89 @@
+use Prim.Native.Nat.{_+_, _≤_, _-_}
+use mathlib.Core.Path.{_≡_, _∙_, sym, ap}
+use native.Mathlib.Omega.{arith}
+use native.Mathlib.Nat.{add-zero, sub-zero}
+use borrow.Author.Needs.{needs}
+use Rattle.node_words.specs.Words.{entryOf, entriesFrom}
+use Rattle.task_model.specs.Checks.{entryCheck, entriesCheck}
+use Rattle.refusals.specs.Refusals.{outcome}
+use Rattle.refusals.specs.declared.Checked.{Checked}
+use Rattle.node_words.proofs.Entries.{from-next, from-stop, from-end}
+use Rattle.node_words.proofs.check_entries.Statement.{statement}
+use Rattle.node_words.proofs.check_entries.Tie as tie
+
+abbrev Inv-loop : tie.InvT-loop
+Inv-loop row words first count position₀ position =
+    (position ≤ count)
+    × (entriesCheck row position (entriesFrom words (first + position) (count - position)) ≡ entriesCheck row 0 (entriesFrom words first count))
+
+abbrev μ-loop : tie.MeasureT-loop
+μ-loop row words first count position₀ position = count - position
+
+loop-holds : tie.Need-loop-holds Inv-loop μ-loop
+loop-holds c = (omega arith, (rw (add-zero, sub-zero)))
+
+add-entry-of : tie.Need-add-entry-of Inv-loop μ-loop
+add-entry-of c = search needs
+
+mul-entry-of : tie.Need-mul-entry-of Inv-loop μ-loop
+mul-entry-of c = search needs
+
+entry-of-requires : tie.Need-entry-of-requires Inv-loop μ-loop
+entry-of-requires c κs = search needs
+
+check-entry-requires : tie.Need-check-entry-requires Inv-loop μ-loop
+check-entry-requires c κs = search needs
+
+enum-told : tie.Need-enum-told Inv-loop μ-loop
+enum-told c = search needs
+
+enum-told-2 : tie.Need-enum-told-2 Inv-loop μ-loop
+enum-told-2 c = search needs
+
+-- what the check of the entry at hand answers
+found : (c : tie.After-check-entry Inv-loop μ-loop) (o : Checked) → c .check-entry .result ≡ o
+    → entryCheck (c .before .before .before .before .before .args .row) (c .before .before .before .loop .position) (entryOf (c .before .before .before .before .before .args .words .now) (c .before .before .before .before .before .args .first + c .before .before .before .loop .position))
+    ≡ outcome o
+found c o p =
+    ap (entryCheck _ _) (sym (c .before .entry-of .ensures)) ∙ sym (c .check-entry .ensures) ∙ ap outcome p
+
+returns : tie.Need-returns Inv-loop μ-loop
+returns c =
+    ap outcome (c .enum-told2 .given .1)
+    ∙ sym (from-stop _ _ _ _ _ (c .before .before .before .before .loop-test .taken) _ (found (c .before .before) _ (c .enum-told2 .given .1)))
+    ∙ c .before .before .before .before .before .loop .inv .1
+
+add-position : tie.Need-add-position Inv-loop μ-loop
+add-position c = search needs
+
+loop-less : tie.Need-loop-less Inv-loop μ-loop
+loop-less c = omega arith
+
+loop-again : tie.Need-loop-again Inv-loop μ-loop
+loop-again c = (
+  omega arith,
+  sym (from-next _ _ _ _ _ (c .before .before .before .before .loop-test .taken) (found (c .before .before) _ (c .enum-told .given .1)))
+      ∙ c .before .before .before .before .before .loop .inv .1,
+)
+
+returns-2 : tie.Need-returns-2 Inv-loop μ-loop
+returns-2 c = sym (from-end _ _ _ _ _ (c .loop-test .left)) ∙ c .before .loop .inv .1
+
+pub check-entries-spec : {M : Type 1} → statement M
+check-entries-spec =
+    tie.close
+    (tie.spec
+    Inv-loop
+    μ-loop
+    loop-holds
+    add-entry-of
+    mul-entry-of
+    entry-of-requires
+    check-entry-requires
+    enum-told
+    enum-told-2
+    returns
+    add-position
+    loop-less
+    loop-again
+    returns-2)

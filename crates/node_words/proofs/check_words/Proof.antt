@@ -1,0 +1,34 @@
+use mathlib.Core.Path.{_∙_, sym}
+use native.Mathlib.Omega.{arith}
+use Rattle.task_model.proofs.Laws.{node-sizes, node-entries}
+use Rattle.node_words.proofs.Entries.{length-entries}
+use borrow.Author.Needs.{needs}
+use Rattle.node_words.proofs.check_words.Statement.{statement}
+use Rattle.node_words.proofs.check_words.Tie as tie
+
+returns : tie.Need-returns
+returns c = sym (node-sizes _ _ (λ h1 h2 h3. omega arith))
+
+cast-if2 : tie.Need-cast-if2
+cast-if2 c = search needs
+
+returns-2 : tie.Need-returns-2
+returns-2 c = sym (node-sizes _ _ (λ h1 h2 h3. omega arith))
+
+returns-3 : tie.Need-returns-3
+returns-3 c =
+    let a = c .before .before .before .before .args in
+    sym (node-sizes _ _ (λ h1 h2 h3. omega (arith, length-entries (a .words .now) 0 (a .count))))
+
+check-entries-requires : tie.Need-check-entries-requires
+check-entries-requires c κs = omega arith
+
+returns-4 : tie.Need-returns-4
+returns-4 c =
+    let a = c .before .before .before .before .before .args in
+    c .check-entries .ensures
+    ∙ sym (node-entries _ _ (omega arith) (omega arith) (omega (arith, length-entries (a .words .now) 0 (a .count))))
+
+pub check-words-spec : {M : Type 1} → statement M
+check-words-spec =
+    tie.close (tie.spec returns cast-if2 returns-2 returns-3 check-entries-requires returns-4)

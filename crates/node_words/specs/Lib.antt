@@ -1,0 +1,3 @@
+-- What a reader of a node's words must believe.
+pub mod Words
+pub mod Lists

@@ -1,0 +1,118 @@
+// The entries of a node as words of 32 bits: how they are read, stored, checked, and changed in place.
+pub mod list;
+
+use refusals::Checked;
+use refusals::Refusal;
+use task_model::Entry;
+use task_model::MOST_ENTRIES;
+use task_model::MOST_LEVELS;
+use task_model::check_entry;
+ghost use mathlib.Core.Path.{_≡_};
+ghost use lib.ListN.{length};
+ghost use lib.Seq.{sets};
+ghost use Prim.Native.Nat.{_+_, _*_, _<_, _≤_};
+ghost use mathlib.Core.List.{[], _∷_};
+ghost use Rattle.refusals.specs.Refusals.{outcome};
+ghost use Rattle.task_model.specs.Limits.{mostEntries};
+ghost use Rattle.task_model.specs.Checks.{entriesCheck, nodeCheck};
+ghost use Rattle.node_words.specs.Words.{entrySize, nodeSize, entryWords, entryFrom, entryOf, entriesFrom, nodeOf};
+
+// How many words of 32 bits hold an entry, and a node with all the entries it may have (specs/Words.antt).
+pub const ENTRY_WORDS: usize = 5;
+
+pub const NODE_WORDS: usize = MOST_ENTRIES * ENTRY_WORDS;
+
+pub type EntryWords = [u32; ENTRY_WORDS];
+
+pub type NodeWords = [u32; NODE_WORDS];
+
+// The entry that five words hold: number, kind and calls in the first, then C, T, D and B.
+pub fn entry_with(head: u32, wcet: u32, period: u32, deadline: u32, blocking: u32) -> Entry
+    ensures { λ e. ⌜ e ≡ entryFrom (head ∷ wcet ∷ period ∷ deadline ∷ blocking ∷ []) 0 ⌝ }
+{
+    Entry {
+        number: (head % 65536) as u16,
+        kind: (head / 65536 % 256) as u8,
+        calls: (head / 16777216 % 256) as u8,
+        wcet,
+        period,
+        deadline,
+        blocking,
+    }
+}
+
+// The entry that five words of a slice hold, from word `k` on.
+pub fn entry_of(words: &[u32], k: usize) -> Entry
+    requires { ⌜ k + entrySize ≤ length (now words) ⌝ }
+    ensures { λ e. ⌜ e ≡ entryFrom (now (words .entry)) k ⌝ }
+{
+    entry_with(
+        words[k],
+        words[k + 1],
+        words[k + 2],
+        words[k + 3],
+        words[k + 4],
+    )
+}
+
+// The entry at a position of a node's words.
+pub fn entry_at(words: &NodeWords, position: usize) -> Entry
+    requires { ⌜ position < mostEntries ⌝ }
+    ensures { λ e. ⌜ e ≡ entryOf (now (words .entry)) position ⌝ }
+{
+    entry_of(words, position * ENTRY_WORDS)
+}
+
+// Stores an entry's words in a slice, from word `k` on.
+pub fn store_entry(words: &mut [u32], k: usize, e: Entry)
+    requires { ⌜ k + entrySize ≤ length (now words) ⌝ }
+    ensures { λ _. ⌜ now (words .exit) ≡ sets (now (words .entry)) k (entryWords e) ⌝ }
+{
+    words[k] = e.number as u32 + e.kind as u32 * 65536 + e.calls as u32 * 16777216;
+    words[k + 1] = e.wcet;
+    words[k + 2] = e.period;
+    words[k + 3] = e.deadline;
+    words[k + 4] = e.blocking;
+}
+
+// Accepts `count` entries that are all within the limits, from entry `first` of the words on; refuses the first that is
+// not.
+pub fn check_entries(row: usize, words: &[u32], first: usize, count: usize) -> Checked
+    requires { ⌜ (first + count) * entrySize ≤ length (now words) ⌝ }
+    ensures { λ a. ⌜ outcome a ≡ entriesCheck row 0 (entriesFrom (now (words .entry)) first count) ⌝ }
+{
+    let mut position: usize = 0;
+    while position < count {
+        let e = entry_of(words, (first + position) * ENTRY_WORDS);
+        let found = check_entry(row, position, e);
+        let Checked::Accepted = found else {
+            return found;
+        };
+        position += 1;
+    }
+    Checked::Accepted
+}
+
+// Accepts a node within the limits; refuses its level or entry count (4), then its first entry that breaks one.
+pub fn check_node(row: usize, words: &NodeWords, count: usize, levels: u8) -> Checked
+    ensures { λ a. ⌜ outcome a ≡ nodeCheck row (nodeOf (now (words .entry)) count levels) ⌝ }
+{
+    check_words(row, words, count, levels as u32)
+}
+
+// The same for a node whose words lie in a slice, and a level count of 32 bits.
+pub fn check_words(row: usize, words: &[u32], count: usize, levels: u32) -> Checked
+    requires { ⌜ nodeSize ≤ length (now words) ⌝ }
+    ensures { λ a. ⌜ outcome a ≡ nodeCheck row (nodeOf (now (words .entry)) count levels) ⌝ }
+{
+    if levels < 1 {
+        return Checked::Refused(Refusal::Row { row });
+    }
+    if (MOST_LEVELS as u32) < levels {
+        return Checked::Refused(Refusal::Row { row });
+    }
+    if MOST_ENTRIES < count {
+        return Checked::Refused(Refusal::Row { row });
+    }
+    check_entries(row, words, 0, count)
+}

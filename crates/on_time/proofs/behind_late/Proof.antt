@@ -1,0 +1,108 @@
+use Prim.Native.Nat.{_-_, _≤_}
+use mathlib.Core.Path.{_≡_, _∙_, sym}
+use native.Mathlib.Omega.{arith}
+use borrow.Author.Needs.{needs}
+use Rattle.node_words.specs.Words.{entriesOf}
+use Rattle.on_time.specs.Behind.{lateByRuns, behindLast, behindLate}
+use Rattle.completion.proofs.Bounds.{mostRuns}
+use Rattle.completion.proofs.Words.{words-times, wcet-small}
+use Rattle.on_time.proofs.Behind.{last-none, last-found, last-kept, runs-late, runs-fit}
+use Rattle.on_time.proofs.behind_late.Statement.{statement}
+use Rattle.on_time.proofs.behind_late.Tie as tie
+
+abbrev Inv-loop : tie.InvT-loop
+Inv-loop words count end runs behind₀ i₀ behind i =
+    (behind ≡ behindLast (lateByRuns (entriesOf words count) end) i) × (i ≤ end) × (runs ≤ mostRuns)
+
+abbrev μ-loop : tie.MeasureT-loop
+μ-loop words count end runs behind₀ i₀ behind i = end - i
+
+loop-holds : tie.Need-loop-holds Inv-loop μ-loop
+loop-holds c =
+    let a = c .args in (
+      omega (arith, last-none (lateByRuns (entriesOf (a .words .now) (a .count)) (a .end))),
+      omega arith,
+      omega (arith, c .pre .1 .1, wcet-small (a .words .now) (a .count) (c .pre .0) (omega arith) (a .end) (omega arith)),
+    )
+
+entry-at-requires : tie.Need-entry-at-requires Inv-loop μ-loop
+entry-at-requires c κs = omega arith
+
+cast-if1 : tie.Need-cast-if1 Inv-loop μ-loop
+cast-if1 c = search needs
+
+add-if1 : tie.Need-add-if1 Inv-loop μ-loop
+add-if1 c = omega (arith, c .before .before .before .loop .inv .2)
+
+limit-of-requires : tie.Need-limit-of-requires Inv-loop μ-loop
+limit-of-requires c κs =
+    words-times _ _ (c .before .before .before .before .pre .0) _ (omega arith) _ (c .before .entry-at .ensures)
+
+cast-if1-2 : tie.Need-cast-if1-2 Inv-loop μ-loop
+cast-if1-2 c = search needs
+
+add-i : tie.Need-add-i Inv-loop μ-loop
+add-i c = omega arith
+
+loop-less : tie.Need-loop-less Inv-loop μ-loop
+loop-less c = omega arith
+
+loop-again : tie.Need-loop-again Inv-loop μ-loop
+loop-again c =
+    let s = c .before .before .before .before .before .before in
+    let l = c .before .before .before .before .before .loop in
+    let ws = s .args .words .now in (
+      l .inv .0
+          ∙ sym (last-kept _ (l .i) (runs-fit ws (s .args .count) (s .args .end) _ (omega arith) (s .pre .1 .1) (l .i) (omega arith) _
+          (c .before .before .before .entry-at .ensures) (omega (arith, c .before .limit-of .ensures, c .if1 .taken)))),
+      omega arith,
+      l .inv .2,
+    )
+
+add-behind : tie.Need-add-behind Inv-loop μ-loop
+add-behind c = omega arith
+
+add-i-2 : tie.Need-add-i-2 Inv-loop μ-loop
+add-i-2 c = omega arith
+
+loop-less-2 : tie.Need-loop-less-2 Inv-loop μ-loop
+loop-less-2 c = omega arith
+
+loop-again-2 : tie.Need-loop-again-2 Inv-loop μ-loop
+loop-again-2 c =
+    let s = c .before .before .before .before .before .before in
+    let l = c .before .before .before .before .before .loop in
+    let ws = s .args .words .now in (
+      sym (last-found _ (l .i) (runs-late ws (s .args .count) (s .args .end) _ (omega arith) (s .pre .1 .1) (l .i) (omega arith) _
+          (c .before .before .before .entry-at .ensures) (omega (arith, c .before .limit-of .ensures, c .if1 .left)))),
+      omega arith,
+      l .inv .2,
+    )
+
+returns : tie.Need-returns Inv-loop μ-loop
+unfolding behindLate
+returns c =
+    let l = c .before .loop in
+    let e : l .i ≡ c .before .before .args .end = omega arith in
+    rw e at (l .inv .0)
+
+pub behind-late-spec : {M : Type 1} → statement M
+behind-late-spec =
+    tie.close
+    (tie.spec
+    Inv-loop
+    μ-loop
+    loop-holds
+    entry-at-requires
+    cast-if1
+    add-if1
+    limit-of-requires
+    cast-if1-2
+    add-i
+    loop-less
+    loop-again
+    add-behind
+    add-i-2
+    loop-less-2
+    loop-again-2
+    returns)

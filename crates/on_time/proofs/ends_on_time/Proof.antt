@@ -1,0 +1,119 @@
+use Prim.Native.Nat.{_+_, _≤_}
+use mathlib.Core.Path.{_≡_, sym}
+use native.Mathlib.Nat.{le-refl}
+use native.Mathlib.Omega.{arith}
+use borrow.Author.Needs.{needs}
+use Rattle.task_model.specs.Limits.{mostTicks, entryAt}
+use Rattle.node_words.specs.Words.{entriesOf}
+use Rattle.node_words.proofs.Entries.{all-fewer}
+use Rattle.completion.specs.Demand.{startWith}
+use Rattle.completion.specs.Group.{groupLevel}
+use Rattle.completion.specs.Test.{limit}
+use Rattle.completion.proofs.Words.{words-times, words-limit, words-due, words-begin, wcet-small}
+use Rattle.on_time.proofs.Early.{start-runs, late-start, on-time-at, not-earlier, runs-below}
+use Rattle.on_time.proofs.ends_on_time.Statement.{statement}
+use Rattle.on_time.proofs.ends_on_time.Tie as tie
+
+entry-at-requires : tie.Need-entry-at-requires
+entry-at-requires c κs = search needs
+
+limit-of-requires : tie.Need-limit-of-requires
+limit-of-requires c κs = words-times _ _ (c .before .pre .0) _ (omega arith) _ (c .entry-at .ensures)
+
+-- the entry's limit, and where its test starts
+module _ (c : tie.After-limit-of) where
+  abbrev at-start : tie.Start
+  at-start = c .before .before
+
+  few : (1 ≤ c .limit-of .result) × (c .limit-of .result ≤ mostTicks)
+  few = words-limit _ _ (at-start .pre .0) _ (omega arith) _ (c .before .entry-at .ensures) _ (c .limit-of .ensures)
+
+  due : limit (entryAt (entriesOf (at-start .args .words .now) (at-start .args .count)) (at-start .args .i)) ≡ c .limit-of .result
+  due = words-due _ _ (at-start .pre .0) _ (omega arith) _ (c .before .entry-at .ensures) _ (c .limit-of .ensures)
+
+  begins : at-start .args .blocking + at-start .args .runs
+      ≡ startWith (at-start .args .blocking) (entriesOf (at-start .args .words .now) (at-start .args .count))
+      (groupLevel (at-start .args .first) (at-start .args .last)) (at-start .args .i)
+  begins = start-runs _ _ (at-start .pre .0) _ _ _ (omega arith) (omega arith) (omega arith) _ _ due _ (at-start .pre .1 .1)
+
+add-start : tie.Need-add-start
+add-start c =
+    let s = at-start c in
+    let a = s .args in
+    omega (arith, s .pre .1 .1, wcet-small (a .words .now) (a .count) (s .pre .0) (omega arith) (a .last + 1) (omega arith))
+
+cast-if1 : tie.Need-cast-if1
+cast-if1 c = search needs
+
+returns : tie.Need-returns
+returns c =
+    let k = c .before in
+    sym (late-start _ _ (at-start k .pre .0) _ _ _ (omega arith) (omega arith) (omega arith) _ _ (due k) _ (begins k) (c .if1 .taken))
+
+demand-at-requires : tie.Need-demand-at-requires
+demand-at-requires c κs =
+    let p = at-start (c .before) .pre in
+    (p .0, ((omega arith, omega arith, omega arith, omega arith), few (c .before)))
+
+cast-if2 : tie.Need-cast-if2
+cast-if2 c = search needs
+
+returns-2 : tie.Need-returns-2
+returns-2 c =
+    let k = c .before .before .before in
+    sym (on-time-at _ _ (at-start k .pre .0) _ _ _ (omega arith) (omega arith) (omega arith) _ _ (due k) _ _ (le-refl _)
+    (c .before .demand-at .ensures) (c .if2 .taken))
+
+earliest-requires : tie.Need-earliest-requires
+earliest-requires c κs =
+    let k = c .before .before .before in
+    let p = at-start k .pre in (
+      all-fewer _ _ _ (omega arith) (p .0),
+      (
+        omega arith,
+        (
+          runs-below _ _ (p .0) _ _ _ (omega arith) (omega arith) (omega arith) _ _ (due k) _ _ (begins k) (omega arith),
+          omega (arith, c .before .before .if1 .left),
+          few k .1,
+        ),
+      ),
+    )
+
+met-from-requires : tie.Need-met-from-requires
+met-from-requires c κs =
+    let k = c .before .before .before .before in
+    let p = at-start k .pre in
+    let a = at-start k .args in (
+      p .0,
+      (
+        (omega arith, omega arith, omega arith, omega arith),
+        (
+          omega (
+            arith,
+            begins k,
+            c .earliest .ensures .0,
+            words-begin _ _ (p .0) (a .first) (a .last) (a .i) (omega arith) (omega arith) (a .blocking) .0,
+          ),
+          not-earlier _ _ (p .0) _ _ _ (omega arith) (omega arith) (omega arith) _ _ (due k) _ _ (begins k) (c .earliest .ensures .1),
+        ),
+      ),
+    )
+
+returns-3 : tie.Need-returns-3
+returns-3 c = search needs
+
+pub ends-on-time-spec : {M : Type 1} → statement M
+ends-on-time-spec =
+    tie.close
+    (tie.spec
+    entry-at-requires
+    limit-of-requires
+    add-start
+    cast-if1
+    returns
+    demand-at-requires
+    cast-if2
+    returns-2
+    earliest-requires
+    met-from-requires
+    returns-3)

@@ -1,0 +1,94 @@
+use Prim.Native.Nat.{ℕ, _+_, _-_, _≤_}
+use mathlib.Core.Path.{_≡_, sym}
+use native.Mathlib.Nat.{le-trans}
+use native.Mathlib.Omega.{arith}
+use borrow.Author.Needs.{needs}
+use Rattle.task_model.specs.Limits.{mostTicks, entryAt}
+use Rattle.node_words.specs.Words.{entriesOf}
+use Rattle.completion.specs.Demand.{demandWith}
+use Rattle.completion.specs.Group.{groupLevel}
+use Rattle.completion.specs.Test.{limit}
+use Rattle.completion.proofs.Words.{words-times, words-limit, words-due, words-up}
+use Rattle.on_time.proofs.Early.{late-after, on-time-at}
+use Rattle.on_time.proofs.met_from.Statement.{statement}
+use Rattle.on_time.proofs.met_from.Tie as tie
+
+-- the demand is met at no time before t
+abbrev Inv-loop : tie.InvT-loop
+Inv-loop words count first last i blocking begin limit t₀ t =
+    ((u : ℕ) → demandWith blocking (entriesOf words count) (groupLevel first last) i u ≤ u → t ≤ u)
+    × (1 ≤ t)
+    × (limit ≤ mostTicks)
+
+abbrev μ-loop : tie.MeasureT-loop
+μ-loop words count first last i blocking begin limit t₀ t = limit + 1 - t
+
+entry-at-requires : tie.Need-entry-at-requires Inv-loop μ-loop
+entry-at-requires c κs = omega arith
+
+limit-of-requires : tie.Need-limit-of-requires Inv-loop μ-loop
+limit-of-requires c κs = words-times _ _ (c .before .pre .0) _ (omega arith) _ (c .entry-at .ensures)
+
+cast-limit : tie.Need-cast-limit Inv-loop μ-loop
+cast-limit c = search needs
+
+-- the limit
+due : (c : tie.After-limit-of Inv-loop μ-loop)
+    → limit (entryAt (entriesOf (c .before .before .args .words .now) (c .before .before .args .count)) (c .before .before .args .i)) ≡ c .limit-of .result
+due c = words-due _ _ (c .before .before .pre .0) _ (omega arith) _ (c .before .entry-at .ensures) _ (c .limit-of .ensures)
+
+loop-holds : tie.Need-loop-holds Inv-loop μ-loop
+loop-holds c =
+    let p = c .before .before .pre in
+    (p .1 .1 .1, p .1 .1 .0, words-limit _ _ (p .0) _ (omega arith) _ (c .before .entry-at .ensures) _ (c .limit-of .ensures) .1)
+
+cast-demand-at : tie.Need-cast-demand-at Inv-loop μ-loop
+cast-demand-at c = omega arith
+
+demand-at-requires : tie.Need-demand-at-requires Inv-loop μ-loop
+demand-at-requires c κs =
+    let p = c .before .before .before .before .pre in
+    (p .0, ((omega arith, omega arith, omega arith, omega arith), (omega arith, omega arith)))
+
+returns : tie.Need-returns Inv-loop μ-loop
+returns c =
+    let l = c .before .before .before .before in
+    sym (on-time-at _ _ (l .before .before .pre .0) _ _ _ (omega arith) (omega arith) (omega arith) _ _ (due l) _ _
+    (c .before .before .loop-test .taken) (c .before .demand-at .ensures) (c .if1 .taken))
+
+loop-less : tie.Need-loop-less Inv-loop μ-loop
+loop-less c = omega (arith, c .if1 .left)
+
+loop-again : tie.Need-loop-again Inv-loop μ-loop
+loop-again c =
+    let s = c .before .before .before .before .before .before in
+    let l = c .before .before .before .loop in (
+      λ u w.
+          rw (c .before .demand-at .ensures)
+          (le-trans (words-up _ _ (s .pre .0) _ _ _ (omega arith) (omega arith) _ _ u (l .inv .0 u w)) w),
+      omega (arith, c .if1 .left),
+      l .inv .2,
+    )
+
+returns-2 : tie.Need-returns-2 Inv-loop μ-loop
+returns-2 c =
+    let l = c .before .before in
+    sym (late-after _ _ (l .before .before .pre .0) _ _ _ (omega arith) (omega arith) (omega arith) _ _ (due l) _ (c .loop-test .left)
+    (c .before .loop .inv .0))
+
+pub met-from-spec : {M : Type 1} → statement M
+met-from-spec =
+    tie.close
+    (tie.spec
+    Inv-loop
+    μ-loop
+    entry-at-requires
+    limit-of-requires
+    cast-limit
+    loop-holds
+    cast-demand-at
+    demand-at-requires
+    returns
+    loop-less
+    loop-again
+    returns-2)

@@ -1,0 +1,49 @@
+-- Laws of checks that follow one another, and of the answers after them.
+use Prim.Native.Nat.{ℕ}
+use mathlib.Core.Path.{_≡_, refl}
+use mathlib.Core.Bool.{Bool, true, false}
+use mathlib.Core.Logic.{_⊎_, inl, inr}
+use native.Mathlib.Omega.{arith}
+use Rattle.refusals.specs.Refusals.{Numbered, Outcome, accepted, refused, _andThen_, mustHold}
+use Rattle.refusals.specs.Answers.{gives, refuses, giving}
+
+-- an answer is accepted or refused, and not both
+pub either : (o : Outcome) → (o ≡ accepted) ⊎ ((r : Numbered) × (o ≡ refused r))
+either accepted = inl refl
+either (refused r) = inr (r, refl)
+
+pub not-both : {o : Outcome} {r : Numbered} → o ≡ accepted → o ≡ refused r → ⊥
+not-both p q = let z : _≡_ {A = ℕ} 0 1 = cc in omega arith
+
+pub then-refused : (a b : Outcome) (r : Numbered) → a ≡ refused r → a andThen b ≡ refused r
+then-refused a b r p = rw p
+
+pub then-accepted : (a b : Outcome) → a ≡ accepted → a andThen b ≡ b
+then-accepted a b p = rw p
+
+pub both-accepted : (a b : Outcome) → a andThen b ≡ accepted → (a ≡ accepted) × (b ≡ accepted)
+both-accepted accepted b p = (refl, p)
+both-accepted (refused r) b p = absurd (not-both p refl)
+
+pub then-assoc : (a b c : Outcome) → (a andThen b) andThen c ≡ a andThen (b andThen c)
+then-assoc accepted b c = refl
+then-assoc (refused r) b c = refl
+
+pub mustHold-accepts : (b : Bool) (r : Numbered) → b ≡ true → mustHold b r ≡ accepted
+mustHold-accepts b r p = rw p
+
+pub mustHold-refuses : (b : Bool) (r : Numbered) → b ≡ false → mustHold b r ≡ refused r
+mustHold-refuses b r p = rw p
+
+pub demanded : (b : Bool) (r : Numbered) → mustHold b r ≡ accepted → b ≡ true
+demanded true r p = refl
+demanded false r p = absurd (not-both p refl)
+
+-- what an answer says of the checks before it
+pub giving-refuses : {A : Type 0} (o : Outcome) (a : A) (r : Numbered) → refuses r ≡ giving o a → o ≡ refused r
+giving-refuses accepted a r p = absurd (let z : _≡_ {A = ℕ} 0 1 = cc in omega arith)
+giving-refuses (refused s) a r p = cc
+
+pub giving-gives : {A : Type 0} (o : Outcome) (a b : A) → gives b ≡ giving o a → (o ≡ accepted) × (b ≡ a)
+giving-gives accepted a b p = (refl, cc)
+giving-gives (refused s) a b p = absurd (let z : _≡_ {A = ℕ} 0 1 = cc in omega arith)
