@@ -8,19 +8,19 @@ use lib.ListN.{length}
 use lib.Dec.{ltb, eqb}
 use Rattle.task_model.specs.declared.Entry.{Entry}
 use Rattle.task_model.specs.Limits.{entryAt}
-use Rattle.completion.specs.Demand.{ceilDiv, releases, sumTo, only, urgentShare, besideShare, demandWith, startWith}
+use Rattle.completion.specs.Demand.{ceilDiv, releases, sumTo, only, higherLevelInterference, sameLevelInterference, demandWith, initialTimeWith}
 use Rattle.completion.specs.Test.{limit, testWith}
 use Rattle.completion.proofs.Sums.{sumTo-eq}
 use Rattle.completion.proofs.Iteration.{test-same}
-use Rattle.completion.proofs.Shares.{leb-or}
-use Rattle.completion.proofs.Groups.{urgentIn, besideIn, demandIn}
+use Rattle.completion.proofs.Interference.{leb-or}
+use Rattle.completion.proofs.Groups.{higherLevelIn, sameLevelIn, demandIn}
 
 pub test-alike : (b b′ : ℕ) (es es′ : List Entry) (lv lv′ : ℕ → ℕ) (i : ℕ) → limit (entryAt es i) ≡ limit (entryAt es′ i)
-    → startWith b es lv i ≡ startWith b′ es′ lv′ i → ((t : ℕ) → demandWith b es lv i t ≡ demandWith b′ es′ lv′ i t)
+    → initialTimeWith b es lv i ≡ initialTimeWith b′ es′ lv′ i → ((t : ℕ) → demandWith b es lv i t ≡ demandWith b′ es′ lv′ i t)
     → testWith b es lv i ≡ testWith b′ es′ lv′ i
 unfolding testWith
 test-alike b b′ es es′ lv lv′ i d s w =
-    rw (d, s) (test-same (demandWith b es lv i) (demandWith b′ es′ lv′ i) w (limit (entryAt es′ i)) (startWith b′ es′ lv′ i) 0)
+    rw (d, s) (test-same (demandWith b es lv i) (demandWith b′ es′ lv′ i) w (limit (entryAt es′ i)) (initialTimeWith b′ es′ lv′ i) 0)
 
 -- levels that compare alike with the timed entry's
 module _ (b : ℕ) (es : List Entry) (lv lv′ : ℕ → ℕ) (i : ℕ)
@@ -29,13 +29,13 @@ module _ (b : ℕ) (es : List Entry) (lv lv′ : ℕ → ℕ) (i : ℕ)
   unfolding demandWith
   demand-alike t =
       ap₂ (λ x y. entryAt es i .wcet + b + x + y)
-      (sumTo-eq _ _ (length es) (λ j l. ap (λ c. only c (urgentShare (entryAt es j) t)) (h j l .0)))
+      (sumTo-eq _ _ (length es) (λ j l. ap (λ c. only c (higherLevelInterference (entryAt es j) t)) (h j l .0)))
       (sumTo-eq _ _ (length es)
-      (λ j l. ap (λ c. only (c && not (eqb j i)) (besideShare (entryAt es j) (entryAt es i .calls) t)) (h j l .1)))
+      (λ j l. ap (λ c. only (c && not (eqb j i)) (sameLevelInterference (entryAt es j) (entryAt es i .calls) t)) (h j l .1)))
 
-  pub start-alike : startWith b es lv i ≡ startWith b es lv′ i
-  unfolding startWith
-  start-alike =
+  pub initial-alike : initialTimeWith b es lv i ≡ initialTimeWith b es lv′ i
+  unfolding initialTimeWith
+  initial-alike =
       ap (λ x. b + x)
       (sumTo-eq _ _ (length es)
       (λ j l.
@@ -45,19 +45,19 @@ module _ (b : ℕ) (es : List Entry) (lv lv′ : ℕ → ℕ) (i : ℕ)
 module _ (es es′ : List Entry) (first last i : ℕ) (hf : first ≤ i) (hi : i ≤ last)
     (ct : (j : ℕ) → j ≤ last → (entryAt es j .wcet ≡ entryAt es′ j .wcet) × (entryAt es j .period ≡ entryAt es′ j .period))
     (r : entryAt es i .calls ≡ entryAt es′ i .calls) where
-  urgent-same : (t j : ℕ) → j ≤ last → urgentIn es t j ≡ urgentIn es′ t j
-  unfolding urgentShare releases
-  urgent-same t j l = ap₂ (λ c p. c * ceilDiv t p) (ct j l .0) (ct j l .1)
+  higher-level-same : (t j : ℕ) → j ≤ last → higherLevelIn es t j ≡ higherLevelIn es′ t j
+  unfolding higherLevelInterference releases
+  higher-level-same t j l = ap₂ (λ c p. c * ceilDiv t p) (ct j l .0) (ct j l .1)
 
-  beside-same : (t j : ℕ) → j ≤ last → besideIn es i t j ≡ besideIn es′ i t j
-  unfolding besideShare releases
-  beside-same t j l = rw (ct j l .0, ct j l .1, r)
+  same-level-same : (t j : ℕ) → j ≤ last → sameLevelIn es i t j ≡ sameLevelIn es′ i t j
+  unfolding sameLevelInterference releases
+  same-level-same t j l = rw (ct j l .0, ct j l .1, r)
 
   pub demandIn-same : (b t : ℕ) → demandIn b es first last i t ≡ demandIn b es′ first last i t
   demandIn-same b t =
-      let u = sumTo-eq (urgentIn es t) (urgentIn es′ t) first (λ j l. urgent-same t j (omega arith)) in
-      let s : (m : ℕ) → m ≤ last + 1 → sumTo (besideIn es i t) m ≡ sumTo (besideIn es′ i t) m =
-      λ m k. sumTo-eq (besideIn es i t) (besideIn es′ i t) m (λ j l. beside-same t j (omega arith)) in
+      let u = sumTo-eq (higherLevelIn es t) (higherLevelIn es′ t) first (λ j l. higher-level-same t j (omega arith)) in
+      let s : (m : ℕ) → m ≤ last + 1 → sumTo (sameLevelIn es i t) m ≡ sumTo (sameLevelIn es′ i t) m =
+      λ m k. sumTo-eq (sameLevelIn es i t) (sameLevelIn es′ i t) m (λ j l. same-level-same t j (omega arith)) in
       rw (
         ct i hi .0,
         u,

@@ -6,12 +6,12 @@ use Rattle.task_model.specs.Limits.{mostTicks, mostEntries, TimesHold}
 use Rattle.completion.specs.Test.{limit}
 
 -- What one entry runs in up to `mostTicks` ticks, at most: t + T, since C is at most T.
-abbrev pub mostShare : ℕ
-mostShare = mostTicks + mostTicks
+abbrev pub mostInterference : ℕ
+mostInterference = mostTicks + mostTicks
 
 -- What all entries of a node run in that time, and one run of each.
-abbrev pub mostShares : ℕ
-mostShares = mostShare * mostEntries
+abbrev pub mostInterferences : ℕ
+mostInterferences = mostInterference * mostEntries
 
 abbrev pub mostRuns : ℕ
 mostRuns = mostTicks * mostEntries

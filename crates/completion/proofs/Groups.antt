@@ -10,7 +10,7 @@ use lib.Dec.{leb}
 use borrow.Author.Tests.{lt-ltb, le-ltb, le-leb, lt-leb, eq-eqb, ne-eqb}
 use Rattle.task_model.specs.declared.Entry.{Entry}
 use Rattle.task_model.specs.Limits.{entryAt}
-use Rattle.completion.specs.Demand.{sumTo, only, moreUrgent, beside, urgentShare, besideShare, demandWith, startWith}
+use Rattle.completion.specs.Demand.{sumTo, only, moreUrgent, sharesLevel, higherLevelInterference, sameLevelInterference, demandWith, initialTimeWith}
 use Rattle.completion.specs.Group.{IsGroup, groupLevel}
 use Rattle.completion.proofs.Sums.{sumTo-none, sumTo-between, sumTo-flat, sumTo-up}
 
@@ -37,11 +37,11 @@ module _ (first last : ℕ) where
       }
 
 -- The terms of the entries on more urgent levels, and of the others on the own level.
-abbrev pub urgentIn : List Entry → ℕ → ℕ → ℕ
-urgentIn es t j = urgentShare (entryAt es j) t
+abbrev pub higherLevelIn : List Entry → ℕ → ℕ → ℕ
+higherLevelIn es t j = higherLevelInterference (entryAt es j) t
 
-abbrev pub besideIn : List Entry → ℕ → ℕ → ℕ → ℕ
-besideIn es i t j = besideShare (entryAt es j) (entryAt es i .calls) t
+abbrev pub sameLevelIn : List Entry → ℕ → ℕ → ℕ → ℕ
+sameLevelIn es i t j = sameLevelInterference (entryAt es j) (entryAt es i .calls) t
 
 abbrev pub wcetIn : List Entry → ℕ → ℕ
 wcetIn es j = entryAt es j .wcet
@@ -49,9 +49,9 @@ wcetIn es j = entryAt es j .wcet
 -- The demand of the entry at i in the group from `first` to `last`, with the blocking b.
 abbrev pub demandIn : ℕ → List Entry → ℕ → ℕ → ℕ → ℕ → ℕ
 demandIn b es first last i t =
-    entryAt es i .wcet + b + sumTo (urgentIn es t) first
-    + (sumTo (besideIn es i t) i - sumTo (besideIn es i t) first)
-    + (sumTo (besideIn es i t) (last + 1) - sumTo (besideIn es i t) (i + 1))
+    entryAt es i .wcet + b + sumTo (higherLevelIn es t) first
+    + (sumTo (sameLevelIn es i t) i - sumTo (sameLevelIn es i t) first)
+    + (sumTo (sameLevelIn es i t) (last + 1) - sumTo (sameLevelIn es i t) (i + 1))
 
 module _ (es : List Entry) (first last i : ℕ) (lv : ℕ → ℕ) (g : IsGroup (length es) first last i lv)
     (hf : first ≤ i) (hi : i ≤ last) (hl : last < length es) where
@@ -68,18 +68,18 @@ module _ (es : List Entry) (first last i : ℕ) (lv : ℕ → ℕ) (g : IsGroup 
       (λ p. omega (arith, g .inside j p u))
       (λ p. omega (arith, g .before j (omega arith)))
 
-  urgent-part : (t : ℕ) → sumTo (λ j. only (moreUrgent lv i j) (urgentIn es t j)) (length es) ≡ sumTo (urgentIn es t) first
-  urgent-part t =
-      let f : ℕ → ℕ = λ j. only (moreUrgent lv i j) (urgentIn es t j) in
-      let low = sumTo-between f (urgentIn es t) 0 first zero-le (λ j l u. rw (lt-ltb (lv j) (lv i) (g .before j u))) in
+  higher-level-part : (t : ℕ) → sumTo (λ j. only (moreUrgent lv i j) (higherLevelIn es t j)) (length es) ≡ sumTo (higherLevelIn es t) first
+  higher-level-part t =
+      let f : ℕ → ℕ = λ j. only (moreUrgent lv i j) (higherLevelIn es t j) in
+      let low = sumTo-between f (higherLevelIn es t) 0 first zero-le (λ j l u. rw (lt-ltb (lv j) (lv i) (g .before j u))) in
       let high = sumTo-flat f first (length es) (omega arith) (λ j l u. rw (le-ltb (lv j) (lv i) (not-below j l u))) in
-      omega (arith, sumTo-none f, sumTo-none (urgentIn es t))
+      omega (arith, sumTo-none f, sumTo-none (higherLevelIn es t))
 
-  beside-part : (t : ℕ) → sumTo (λ j. only (beside lv i j) (besideIn es i t j)) (length es)
-      ≡ (sumTo (besideIn es i t) i - sumTo (besideIn es i t) first) + (sumTo (besideIn es i t) (last + 1) - sumTo (besideIn es i t) (i + 1))
-  beside-part t =
-      let f : ℕ → ℕ = λ j. only (beside lv i j) (besideIn es i t j) in
-      let b = besideIn es i t in
+  same-level-part : (t : ℕ) → sumTo (λ j. only (sharesLevel lv i j) (sameLevelIn es i t j)) (length es)
+      ≡ (sumTo (sameLevelIn es i t) i - sumTo (sameLevelIn es i t) first) + (sumTo (sameLevelIn es i t) (last + 1) - sumTo (sameLevelIn es i t) (i + 1))
+  same-level-part t =
+      let f : ℕ → ℕ = λ j. only (sharesLevel lv i j) (sameLevelIn es i t j) in
+      let b = sameLevelIn es i t in
       let low = sumTo-flat f 0 first zero-le (λ j l u. rw (ne-eqb (lv j) (lv i) (λ e. omega (arith, g .before j u)))) in
       let left = sumTo-between f b first i hf
       (λ j l u. rw (eq-eqb (lv j) (lv i) (g .inside j l (omega arith)), ne-eqb j i (λ e. omega arith))) in
@@ -93,11 +93,11 @@ module _ (es : List Entry) (first last i : ℕ) (lv : ℕ → ℕ) (g : IsGroup 
 
   pub demand-in : (b t : ℕ) → demandWith b es lv i t ≡ demandIn b es first last i t
   unfolding demandWith
-  demand-in b t = omega (arith, urgent-part t, beside-part t)
+  demand-in b t = omega (arith, higher-level-part t, same-level-part t)
 
-  pub start-in : (b : ℕ) → startWith b es lv i ≡ b + sumTo (wcetIn es) (last + 1)
-  unfolding startWith
-  start-in b =
+  pub initial-in : (b : ℕ) → initialTimeWith b es lv i ≡ b + sumTo (wcetIn es) (last + 1)
+  unfolding initialTimeWith
+  initial-in b =
       let f : ℕ → ℕ = λ j. only (leb (lv j) (lv i)) (wcetIn es j) in
       let low = sumTo-between f (wcetIn es) 0 (last + 1) zero-le (λ j l u. rw (le-leb (lv j) (lv i) (not-above j (omega arith)))) in
       let high = sumTo-flat f (last + 1) (length es) (omega arith) (λ j l u. rw (lt-leb (lv j) (lv i) (g .after j (omega arith) u))) in

@@ -4,7 +4,7 @@ pub mod Sums
 pub mod Releases
 pub mod Iteration
 pub mod Rounds
-pub mod Shares
+pub mod Interference
 pub mod Groups
 pub mod Alike
 pub mod Words

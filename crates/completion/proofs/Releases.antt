@@ -5,8 +5,8 @@ use native.Mathlib.Nat.{zero-add, mul-zero, le-trans, le-antisymm, le-div-iff-mu
 use native.Mathlib.Omega.{arith}
 use Rattle.task_model.specs.declared.Entry.{Entry}
 use Rattle.task_model.specs.Limits.{mostTicks, TimesHold}
-use Rattle.completion.proofs.Bounds.{mostShare}
-use Rattle.completion.specs.Demand.{ceilDiv, releases, urgentShare, besideShare}
+use Rattle.completion.proofs.Bounds.{mostInterference}
+use Rattle.completion.specs.Demand.{ceilDiv, releases, higherLevelInterference, sameLevelInterference}
 
 -- more than k periods begin in t ticks exactly if k periods are shorter than t
 module _ (e : Entry) (h : 1 ≤ e .period) where
@@ -39,45 +39,45 @@ module _ (e : Entry) (h : TimesHold e) where
   periodic : 1 ≤ e .period
   periodic = omega arith
 
-  pub urgent-up : (s t : ℕ) → s ≤ t → urgentShare e s ≤ urgentShare e t
-  unfolding urgentShare
-  urgent-up s t l = mul-le-mul-left (e .wcet) (releases-up e periodic s t l)
+  pub higher-level-up : (s t : ℕ) → s ≤ t → higherLevelInterference e s ≤ higherLevelInterference e t
+  unfolding higherLevelInterference
+  higher-level-up s t l = mul-le-mul-left (e .wcet) (releases-up e periodic s t l)
 
-  pub beside-up : (calls s t : ℕ) → s ≤ t → besideShare e calls s ≤ besideShare e calls t
-  unfolding besideShare
-  beside-up calls s t l = mul-le-mul-left (e .wcet) (omega (arith, releases-up e periodic s t l))
+  pub same-level-up : (calls s t : ℕ) → s ≤ t → sameLevelInterference e calls s ≤ sameLevelInterference e calls t
+  unfolding sameLevelInterference
+  same-level-up calls s t l = mul-le-mul-left (e .wcet) (omega (arith, releases-up e periodic s t l))
 
   -- in the first tick, one run
-  pub urgent-first : urgentShare e 1 ≡ e .wcet
-  unfolding urgentShare
-  urgent-first = rw (releases-one e periodic 1 (omega arith) periodic) (mul-one (e .wcet))
+  pub higher-level-first : higherLevelInterference e 1 ≡ e .wcet
+  unfolding higherLevelInterference
+  higher-level-first = rw (releases-one e periodic 1 (omega arith) periodic) (mul-one (e .wcet))
 
-  pub beside-first : (calls : ℕ) → besideShare e calls 1 ≡ e .wcet
-  unfolding besideShare
-  beside-first calls =
+  pub same-level-first : (calls : ℕ) → sameLevelInterference e calls 1 ≡ e .wcet
+  unfolding sameLevelInterference
+  same-level-first calls =
       let m : min (releases e 1) (calls + 1) ≡ 1 = omega (arith, releases-one e periodic 1 (omega arith) periodic) in
       rw m (mul-one (e .wcet))
 
   -- at most t + T, since C is at most T
-  pub urgent-most : (t : ℕ) → t ≤ mostTicks → urgentShare e t ≤ mostShare
-  unfolding urgentShare releases ceilDiv
-  urgent-most t l =
+  pub higher-level-most : (t : ℕ) → t ≤ mostTicks → higherLevelInterference e t ≤ mostInterference
+  unfolding higherLevelInterference releases ceilDiv
+  higher-level-most t l =
       let q : ℕ = (t + (e .period - 1)) / e .period in
       let top : e .period * q ≤ t + (e .period - 1) = mul-div-le (t + (e .period - 1)) (e .period) in
       let less : e .wcet * q ≤ e .period * q = mul-le-mul-right q (le-trans (h .due) (h .periodic)) in
       omega arith
 
-  pub beside-most : (calls t : ℕ) → besideShare e calls t ≤ urgentShare e t
-  unfolding besideShare urgentShare
-  beside-most calls t = mul-le-mul-left (e .wcet) (min-le-left (releases e t) (calls + 1))
+  pub same-level-most : (calls t : ℕ) → sameLevelInterference e calls t ≤ higherLevelInterference e t
+  unfolding sameLevelInterference higherLevelInterference
+  same-level-most calls t = mul-le-mul-left (e .wcet) (min-le-left (releases e t) (calls + 1))
 
   -- past `calls` periods the count of runs on the own level is at its limit, and up to there it is that of releases
-  pub beside-limit : (calls t : ℕ) → e .period * calls < t → besideShare e calls t ≡ e .wcet * (calls + 1)
-  unfolding besideShare
-  beside-limit calls t l = rw (min-eq-right (releases-more e periodic t calls l))
+  pub same-level-limit : (calls t : ℕ) → e .period * calls < t → sameLevelInterference e calls t ≡ e .wcet * (calls + 1)
+  unfolding sameLevelInterference
+  same-level-limit calls t l = rw (min-eq-right (releases-more e periodic t calls l))
 
-  pub beside-all : (calls t : ℕ) → t ≤ e .period * calls → besideShare e calls t ≡ urgentShare e t
-  unfolding besideShare urgentShare
-  beside-all calls t l =
+  pub same-level-all : (calls t : ℕ) → t ≤ e .period * calls → sameLevelInterference e calls t ≡ higherLevelInterference e t
+  unfolding sameLevelInterference higherLevelInterference
+  same-level-all calls t l =
       let m : min (releases e t) (calls + 1) ≡ releases e t = omega (arith, releases-few e periodic t calls l) in
       rw m

@@ -11,19 +11,19 @@ use lib.ListN.{length}
 use lib.Dec.{ltb, eqb}
 use Rattle.task_model.specs.declared.Entry.{Entry}
 use Rattle.task_model.specs.Limits.{entryAt, AllHold}
-use Rattle.completion.specs.Demand.{sumTo, demandWith, startWith}
+use Rattle.completion.specs.Demand.{sumTo, demandWith, initialTimeWith}
 use Rattle.completion.specs.Group.{IsGroup, groupLevel}
 use Rattle.completion.specs.Test.{Completion, on-time, late, limit, testWith, isOnTime, roundsIn, roundsBound}
 use Rattle.completion.specs.Rounds.{iterates, FixedIn, LateIn}
 use Rattle.completion.specs.Right.{LeastTime, NoTime, RightWith}
 use Rattle.completion.proofs.Bounds.{limit-due}
 use Rattle.completion.proofs.Sums.{sumTo-eq, sumTo-up, part-le}
-use Rattle.completion.proofs.Releases.{beside-most}
+use Rattle.completion.proofs.Releases.{same-level-most}
 use Rattle.completion.proofs.Iteration.{Least, test-least}
 use Rattle.completion.proofs.Rounds.{iterates-ahead, fixed-in, late-in, rounds-due, rounds-bounded}
-use Rattle.completion.proofs.Shares.{demand-up, demand-some, start-first, later, later-up, later-strict}
-use Rattle.completion.proofs.Alike.{test-alike, start-alike, demand-alike, demandIn-same}
-use Rattle.completion.proofs.Groups.{urgentIn, besideIn, wcetIn, named-group, demand-in, start-in}
+use Rattle.completion.proofs.Interference.{demand-up, demand-some, initial-first, later, later-up, later-strict}
+use Rattle.completion.proofs.Alike.{test-alike, initial-alike, demand-alike, demandIn-same}
+use Rattle.completion.proofs.Groups.{higherLevelIn, sameLevelIn, wcetIn, named-group, demand-in, initial-in}
 
 -- an answer is on time or late
 module _ {A : Type 0} where
@@ -37,7 +37,7 @@ module _ (b : ℕ) (es : List Entry) (all : AllHold es) (level : ℕ → ℕ) (i
   w = demandWith b es level i
 
   abbrev begin : ℕ
-  begin = startWith b es level i
+  begin = initialTimeWith b es level i
 
   abbrev d : ℕ
   d = limit (entryAt es i)
@@ -49,13 +49,13 @@ module _ (b : ℕ) (es : List Entry) (all : AllHold es) (level : ℕ → ℕ) (i
   some = demand-some es all level i known b
 
   first : begin ≡ w 1
-  first = start-first es all level i known b
+  first = initial-first es all level i known b
 
   begins : begin ≤ w begin
   begins = rw first (up 1 (w 1) (some 1))
 
   -- a time whose demand is at most that time is not before the start
-  pub not-before : (t : ℕ) → demandWith b es level i t ≤ t → startWith b es level i ≤ t
+  pub not-before : (t : ℕ) → demandWith b es level i t ≤ t → initialTimeWith b es level i ≤ t
   not-before t h = rw first (le-trans (up 1 t (le-trans (some t) h)) h)
 
   least : Least w d up begin (testWith b es level i)
@@ -99,18 +99,18 @@ module _ (b : ℕ) (es : List Entry) (all : AllHold es) (level : ℕ → ℕ) (i
 
   -- While the test goes on, the demand is never below the time.
   pub never-below : (k : ℕ)
-      → iterates (demandWith b es level i) (startWith b es level i) k
-      ≤ demandWith b es level i (iterates (demandWith b es level i) (startWith b es level i) k)
+      → iterates (demandWith b es level i) (initialTimeWith b es level i) k
+      ≤ demandWith b es level i (iterates (demandWith b es level i) (initialTimeWith b es level i) k)
   never-below = iterates-ahead w d up begin begins
 
   -- What the rounds are, by the iterates of the demand from the start.
   pub on-time-rounds : (time rounds : ℕ) → testWith b es level i ≡ on-time time rounds
-      ↔ FixedIn (demandWith b es level i) (startWith b es level i) (limit (entryAt es i)) time rounds
+      ↔ FixedIn (demandWith b es level i) (initialTimeWith b es level i) (limit (entryAt es i)) time rounds
   unfolding testWith
   on-time-rounds = fixed-in w d up begin begins
 
   pub late-rounds : (rounds : ℕ) → testWith b es level i ≡ late rounds
-      ↔ LateIn (demandWith b es level i) (startWith b es level i) (limit (entryAt es i)) rounds
+      ↔ LateIn (demandWith b es level i) (initialTimeWith b es level i) (limit (entryAt es i)) rounds
   unfolding testWith
   late-rounds = late-in w d up begin begins
 
@@ -139,7 +139,7 @@ pub alike : (b : ℕ) (es : List Entry) (lv lv′ : ℕ → ℕ) (i : ℕ)
     → ((j : ℕ) → j < length es → (ltb (lv j) (lv i) ≡ ltb (lv′ j) (lv′ i)) × (eqb (lv j) (lv i) ≡ eqb (lv′ j) (lv′ i)))
     → testWith b es lv i ≡ testWith b es lv′ i
 alike b es lv lv′ i h =
-    test-alike b b es es lv lv′ i refl (start-alike b es lv lv′ i h) (λ t. demand-alike b es lv lv′ i h t)
+    test-alike b b es es lv lv′ i refl (initial-alike b es lv lv′ i h) (λ t. demand-alike b es lv lv′ i h t)
 
 -- The answer of an entry in a group depends only on C and T up to the group's last entry, and on its own limit, blocking and
 -- r: any two nodes that agree in these, each with the entry's group from `first` to `last`, give the same.
@@ -151,9 +151,9 @@ pub same-group : (b : ℕ) (es es′ : List Entry) (lv lv′ : ℕ → ℕ) (fir
     → testWith b es lv i ≡ testWith b es′ lv′ i
 same-group b es es′ lv lv′ first last i hf hi hl hl′ g g′ ct d r =
     test-alike b b es es′ lv lv′ i d
-    (start-in es first last i lv g hf hi hl b
+    (initial-in es first last i lv g hf hi hl b
     ∙ ap (λ x. b + x) (sumTo-eq (wcetIn es) (wcetIn es′) (last + 1) (λ j l. ct j (omega arith) .0))
-    ∙ sym (start-in es′ first last i lv′ g′ hf hi hl′ b))
+    ∙ sym (initial-in es′ first last i lv′ g′ hf hi hl′ b))
     (λ t.
     demand-in es first last i lv g hf hi hl b t ∙ demandIn-same es es′ first last i hf hi ct r b t
     ∙ sym (demand-in es′ first last i lv′ g′ hf hi hl′ b t))
@@ -176,7 +176,7 @@ shrink b es all first last last′ i hf hi hl known =
     (λ t some.
     let wide = demand-in es first last i (groupLevel first last) (named-group first last (length es) i hf (omega arith)) hf (omega arith) known b t in
     let small = demand-in es first last′ i (groupLevel first last′) (named-group first last′ (length es) i hf hi) hf hi (omega arith) b t in
-    omega (arith, wide, small, sumTo-up (besideIn es i t) (last′ + 1) (last + 1) (omega arith)))
+    omega (arith, wide, small, sumTo-up (sameLevelIn es i t) (last′ + 1) (last + 1) (omega arith)))
 
 -- and when more urgent entries just before its group join it.
 pub widen : (b : ℕ) (es : List Entry) → AllHold es → (first first′ last i : ℕ) → first′ ≤ first → first ≤ i → i ≤ last → last < length es
@@ -187,14 +187,14 @@ widen b es all first first′ last i le hf hi known =
     (λ t some.
     let narrow = demand-in es first last i (groupLevel first last) (named-group first last (length es) i hf hi) hf hi known b t in
     let wide = demand-in es first′ last i (groupLevel first′ last) (named-group first′ last (length es) i (omega arith) hi) (omega arith) hi known b t in
-    let less = part-le (besideIn es i t) (urgentIn es t) first′ first le
-    (λ j l. beside-most (entryAt es j) (all j (omega arith) .times) (entryAt es i .calls) t) in
+    let less = part-le (sameLevelIn es i t) (higherLevelIn es t) first′ first le
+    (λ j l. same-level-most (entryAt es j) (all j (omega arith) .times) (entryAt es i .calls) t) in
     omega (
       arith,
       wide,
       narrow,
       less,
-      sumTo-up (besideIn es i t) first′ first le,
-      sumTo-up (urgentIn es t) first′ first le,
-      sumTo-up (besideIn es i t) first i hf,
+      sumTo-up (sameLevelIn es i t) first′ first le,
+      sumTo-up (higherLevelIn es t) first′ first le,
+      sumTo-up (sameLevelIn es i t) first i hf,
     ))

@@ -9,20 +9,20 @@ use Rattle.task_model.specs.declared.Entry.{Entry}
 use Rattle.task_model.specs.Limits.{mostTicks, mostEntries, entryAt, TimesHold, AllHold}
 use Rattle.node_words.specs.Words.{entryOf, entriesOf}
 use Rattle.node_words.proofs.Entries.{length-entries, entry-of, all-at}
-use Rattle.completion.specs.Demand.{sumTo, urgentShare, besideShare, demandWith, startWith}
+use Rattle.completion.specs.Demand.{sumTo, higherLevelInterference, sameLevelInterference, demandWith, initialTimeWith}
 use Rattle.completion.specs.Group.{groupLevel}
 use Rattle.completion.specs.Test.{limit, testFrom, testWith}
-use Rattle.completion.proofs.Bounds.{mostShare, mostShares, mostRuns, limit-most, limit-run}
+use Rattle.completion.proofs.Bounds.{mostInterference, mostInterferences, mostRuns, limit-most, limit-run}
 use Rattle.completion.proofs.Sums.{sumTo-eq, sumTo-most}
-use Rattle.completion.proofs.Releases.{urgent-most, beside-most}
-use Rattle.completion.proofs.Shares.{demand-up, demand-some, start-first}
-use Rattle.completion.proofs.Groups.{besideIn, named-group, demand-in, start-in}
+use Rattle.completion.proofs.Releases.{higher-level-most, same-level-most}
+use Rattle.completion.proofs.Interference.{demand-up, demand-some, initial-first}
+use Rattle.completion.proofs.Groups.{sameLevelIn, named-group, demand-in, initial-in}
 
-abbrev pub urgentOf : List ℕ → ℕ → ℕ → ℕ
-urgentOf ws t j = urgentShare (entryOf ws j) t
+abbrev pub higherLevelOf : List ℕ → ℕ → ℕ → ℕ
+higherLevelOf ws t j = higherLevelInterference (entryOf ws j) t
 
-abbrev pub besideOf : List ℕ → ℕ → ℕ → ℕ → ℕ
-besideOf ws calls t j = besideShare (entryOf ws j) calls t
+abbrev pub sameLevelOf : List ℕ → ℕ → ℕ → ℕ → ℕ
+sameLevelOf ws calls t j = sameLevelInterference (entryOf ws j) calls t
 
 abbrev pub wcetOf : List ℕ → ℕ → ℕ
 wcetOf ws j = entryOf ws j .wcet
@@ -51,18 +51,18 @@ module _ (ws : List ℕ) (n : ℕ) where
     inside = omega (arith, length-entries ws 0 n)
 
     pub words-demand : (b t : ℕ) → demandWith b (entriesOf ws n) (groupLevel first last) i t
-        ≡ entryOf ws i .wcet + b + sumTo (urgentOf ws t) first
-        + (sumTo (besideOf ws (entryOf ws i .calls) t) i - sumTo (besideOf ws (entryOf ws i .calls) t) first)
-        + (sumTo (besideOf ws (entryOf ws i .calls) t) (last + 1) - sumTo (besideOf ws (entryOf ws i .calls) t) (i + 1))
+        ≡ entryOf ws i .wcet + b + sumTo (higherLevelOf ws t) first
+        + (sumTo (sameLevelOf ws (entryOf ws i .calls) t) i - sumTo (sameLevelOf ws (entryOf ws i .calls) t) first)
+        + (sumTo (sameLevelOf ws (entryOf ws i .calls) t) (last + 1) - sumTo (sameLevelOf ws (entryOf ws i .calls) t) (i + 1))
     words-demand b t =
         let es = entriesOf ws n in
         let own : entryAt es i ≡ entryOf ws i = entry-of ws n i (omega arith) in
-        let same : (m : ℕ) → m ≤ n → sumTo (besideIn es i t) m ≡ sumTo (besideOf ws (entryOf ws i .calls) t) m =
-        λ m h. in-words (λ e. besideShare e (entryAt es i .calls) t) m h
-        ∙ ap (λ (e : Entry). sumTo (besideOf ws (e .calls) t) m) own in
+        let same : (m : ℕ) → m ≤ n → sumTo (sameLevelIn es i t) m ≡ sumTo (sameLevelOf ws (entryOf ws i .calls) t) m =
+        λ m h. in-words (λ e. sameLevelInterference e (entryAt es i .calls) t) m h
+        ∙ ap (λ (e : Entry). sumTo (sameLevelOf ws (e .calls) t) m) own in
         demand-in es first last i (groupLevel first last) (named-group first last (length es) i hf hi) hf hi inside b t
         ∙ rw (
-          in-words (λ e. urgentShare e t) first (omega arith),
+          in-words (λ e. higherLevelInterference e t) first (omega arith),
           same i (omega arith),
           same first (omega arith),
           same (last + 1) (omega arith),
@@ -71,35 +71,35 @@ module _ (ws : List ℕ) (n : ℕ) where
         )
 
     -- the same from its parts, as code adds them up
-    pub words-parts : (b t : ℕ) (own : Entry) (urgent left right : ℕ) → own ≡ entryOf ws i → urgent ≡ sumTo (urgentOf ws t) first
-        → left ≡ sumTo (besideOf ws (own .calls) t) i - sumTo (besideOf ws (own .calls) t) first
-        → right ≡ sumTo (besideOf ws (own .calls) t) (last + 1) - sumTo (besideOf ws (own .calls) t) (i + 1)
+    pub words-parts : (b t : ℕ) (own : Entry) (urgent left right : ℕ) → own ≡ entryOf ws i → urgent ≡ sumTo (higherLevelOf ws t) first
+        → left ≡ sumTo (sameLevelOf ws (own .calls) t) i - sumTo (sameLevelOf ws (own .calls) t) first
+        → right ≡ sumTo (sameLevelOf ws (own .calls) t) (last + 1) - sumTo (sameLevelOf ws (own .calls) t) (i + 1)
         → own .wcet + b + urgent + left + right ≡ demandWith b (entriesOf ws n) (groupLevel first last) i t
     words-parts b t own urgent left right o u l r = rw (words-demand b t, u, l, r, o)
 
-    pub words-start : (b : ℕ) → startWith b (entriesOf ws n) (groupLevel first last) i ≡ b + sumTo (wcetOf ws) (last + 1)
-    words-start b =
+    pub words-initial : (b : ℕ) → initialTimeWith b (entriesOf ws n) (groupLevel first last) i ≡ b + sumTo (wcetOf ws) (last + 1)
+    words-initial b =
         let es = entriesOf ws n in
-        start-in es first last i (groupLevel first last) (named-group first last (length es) i hf hi) hf hi inside b
+        initial-in es first last i (groupLevel first last) (named-group first last (length es) i hf hi) hf hi inside b
         ∙ rw (in-words (λ e. e .wcet) (last + 1) (omega arith))
 
   -- the sums are small
   module _ (all : AllHold (entriesOf ws n)) (few : n ≤ mostEntries) where
-    pub urgent-small : (t m : ℕ) → t ≤ mostTicks → m ≤ n → sumTo (urgentOf ws t) m ≤ mostShares
-    urgent-small t m h l =
+    pub higher-level-small : (t m : ℕ) → t ≤ mostTicks → m ≤ n → sumTo (higherLevelOf ws t) m ≤ mostInterferences
+    higher-level-small t m h l =
         omega (
           arith,
-          sumTo-most (urgentOf ws t) mostShare m (λ j p. urgent-most _ (all-at ws n all j (omega arith) .times) t h),
+          sumTo-most (higherLevelOf ws t) mostInterference m (λ j p. higher-level-most _ (all-at ws n all j (omega arith) .times) t h),
         )
 
-    pub beside-small : (calls t m : ℕ) → t ≤ mostTicks → m ≤ n → sumTo (besideOf ws calls t) m ≤ mostShares
-    beside-small calls t m h l =
+    pub same-level-small : (calls t m : ℕ) → t ≤ mostTicks → m ≤ n → sumTo (sameLevelOf ws calls t) m ≤ mostInterferences
+    same-level-small calls t m h l =
         omega (
           arith,
-          sumTo-most (besideOf ws calls t) mostShare m
+          sumTo-most (sameLevelOf ws calls t) mostInterference m
               (λ j p.
               let k = all-at ws n all j (omega arith) .times in
-              le-trans (beside-most _ k calls t) (urgent-most _ k t h)),
+              le-trans (same-level-most _ k calls t) (higher-level-most _ k t h)),
         )
 
     pub wcet-small : (m : ℕ) → m ≤ n → sumTo (wcetOf ws) m ≤ mostRuns
@@ -119,7 +119,7 @@ module _ (ws : List ℕ) (n : ℕ) (all : AllHold (entriesOf ws n)) (first last 
   w = demandWith b (entriesOf ws n) (groupLevel first last) i
 
   abbrev begin : ℕ
-  begin = startWith b (entriesOf ws n) (groupLevel first last) i
+  begin = initialTimeWith b (entriesOf ws n) (groupLevel first last) i
 
   pub words-up : (s t : ℕ) → s ≤ t → w s ≤ w t
   words-up = demand-up (entriesOf ws n) all (groupLevel first last) i known b
@@ -127,7 +127,7 @@ module _ (ws : List ℕ) (n : ℕ) (all : AllHold (entriesOf ws n)) (first last 
   pub words-begin : (1 ≤ begin) × (begin ≤ w begin)
   words-begin =
       let some = demand-some (entriesOf ws n) all (groupLevel first last) i known b 1 in
-      rw (start-first (entriesOf ws n) all (groupLevel first last) i known b) (some, words-up 1 (w 1) some)
+      rw (initial-first (entriesOf ws n) all (groupLevel first last) i known b) (some, words-up 1 (w 1) some)
 
   -- the whole test, from what code has found of it before its loop
   pub words-test : (t d : ℕ) → t ≡ begin → limit (entryAt (entriesOf ws n) i) ≡ d

@@ -9,7 +9,7 @@ use Rattle.task_model.specs.declared.Entry.{Entry}
 use Rattle.task_model.specs.Limits.{entryAt}
 use Rattle.completion.specs.declared.Timing.{Timing}
 use Rattle.completion.specs.declared.Timing.the-variants.{OnTime, Late}
-use Rattle.completion.specs.Demand.{releases, sumTo, only, demandWith, startWith}
+use Rattle.completion.specs.Demand.{releases, sumTo, only, demandWith, initialTimeWith}
 
 -- The answer for an entry: on time, with its completion time and the rounds, or late, with the rounds alone. Rounds is
 -- the number of times that the demand was evaluated.
@@ -45,7 +45,7 @@ testFrom w d t rounds = iterate w d (d + 1 - t) t rounds
 
 -- The test of the entry at i, where less urgent work can hold it up for b ticks.
 unfoldable pub testWith : ℕ → List Entry → (ℕ → ℕ) → ℕ → Completion
-testWith b es level i = testFrom (demandWith b es level i) (limit (entryAt es i)) (startWith b es level i) 0
+testWith b es level i = testFrom (demandWith b es level i) (limit (entryAt es i)) (initialTimeWith b es level i) 0
 
 -- The completion time test of the entry at i: with its own B.
 abbrev pub completionTest : List Entry → (ℕ → ℕ) → ℕ → Completion

@@ -3,7 +3,7 @@ ghost use mathlib.Core.Path.{_≡_};
 ghost use Prim.Native.Nat.{_+_, _-_, _≤_, _<_};
 ghost use Rattle.task_model.specs.Limits.{mostTicks, mostEntries, AllHold, TimesHold};
 ghost use Rattle.node_words.specs.Words.{entryOf, entriesOf};
-ghost use Rattle.completion.specs.Demand.{releases, sumTo, urgentShare, besideShare, demandWith, startWith};
+ghost use Rattle.completion.specs.Demand.{releases, sumTo, higherLevelInterference, sameLevelInterference, demandWith, initialTimeWith};
 ghost use Rattle.completion.specs.Group.{groupLevel, InGroup};
 ghost use Rattle.completion.specs.Test.{completion, limit, testWith, completionTest, roundsIn, roundsBound};
 use node_words::NodeWords;
@@ -48,46 +48,46 @@ fn releases_in(e: Entry, t: u32) -> u32
 }
 
 // What an entry on a more urgent level runs in `t` ticks.
-fn urgent_share(e: Entry, t: u32) -> u64
+fn higher_level_interference(e: Entry, t: u32) -> u64
     requires { ⌜ TimesHold e ⌝ ∗ ⌜ (1 ≤ t) × (t ≤ mostTicks) ⌝ }
-    ensures { λ x. ⌜ x ≡ urgentShare e t ⌝ }
+    ensures { λ x. ⌜ x ≡ higherLevelInterference e t ⌝ }
 {
     e.wcet as u64 * releases_in(e, t) as u64
 }
 
 // What another entry on the level of an entry with `calls` remote calls runs in `t` ticks.
 // Past `calls` periods the count is at its limit, and no division is needed.
-fn beside_share(e: Entry, calls: u8, t: u32) -> u64
+fn same_level_interference(e: Entry, calls: u8, t: u32) -> u64
     requires { ⌜ TimesHold e ⌝ ∗ ⌜ (1 ≤ t) × (t ≤ mostTicks) ⌝ }
-    ensures { λ x. ⌜ x ≡ besideShare e calls t ⌝ }
+    ensures { λ x. ⌜ x ≡ sameLevelInterference e calls t ⌝ }
 {
     if e.period as u64 * (calls as u64) < t as u64 {
         return e.wcet as u64 * (calls as u64 + 1);
     }
-    urgent_share(e, t)
+    higher_level_interference(e, t)
 }
 
 // What the entries before position `end` run in `t` ticks on more urgent levels.
-fn urgent_sum(words: &NodeWords, end: usize, t: u32) -> u64
+fn higher_level_sum(words: &NodeWords, end: usize, t: u32) -> u64
     requires { ⌜ AllHold (entriesOf (now words) end) ⌝ ∗ ⌜ end ≤ mostEntries ⌝ ∗ ⌜ (1 ≤ t) × (t ≤ mostTicks) ⌝ }
-    ensures { λ x. ⌜ x ≡ sumTo (λ j. urgentShare (entryOf (now (words .entry)) j) t) end ⌝ }
+    ensures { λ x. ⌜ x ≡ sumTo (λ j. higherLevelInterference (entryOf (now (words .entry)) j) t) end ⌝ }
 {
     let mut sum = 0;
     for j in 0..end {
-        sum += urgent_share(entry_at(words, j), t);
+        sum += higher_level_interference(entry_at(words, j), t);
     }
     sum
 }
 
 // What the entries from position `begin` up to `end` run in `t` ticks beside an entry with `calls` remote calls.
-fn beside_sum(words: &NodeWords, begin: usize, end: usize, calls: u8, t: u32) -> u64
+fn same_level_sum(words: &NodeWords, begin: usize, end: usize, calls: u8, t: u32) -> u64
     requires { ⌜ AllHold (entriesOf (now words) end) ⌝ ∗ ⌜ (begin ≤ end) × (end ≤ mostEntries) ⌝ ∗ ⌜ (1 ≤ t) × (t ≤ mostTicks) ⌝ }
-    ensures { λ x. ⌜ x ≡ sumTo (λ j. besideShare (entryOf (now (words .entry)) j) calls t) end
-        - sumTo (λ j. besideShare (entryOf (now (words .entry)) j) calls t) begin ⌝ }
+    ensures { λ x. ⌜ x ≡ sumTo (λ j. sameLevelInterference (entryOf (now (words .entry)) j) calls t) end
+        - sumTo (λ j. sameLevelInterference (entryOf (now (words .entry)) j) calls t) begin ⌝ }
 {
     let mut sum = 0;
     for j in begin..end {
-        sum += beside_share(entry_at(words, j), calls, t);
+        sum += same_level_interference(entry_at(words, j), calls, t);
     }
     sum
 }
@@ -110,9 +110,9 @@ pub fn demand_at(
     let own = entry_at(words, i);
     own.wcet as u64
         + blocking as u64
-        + urgent_sum(words, first, t)
-        + beside_sum(words, first, i, own.calls, t)
-        + beside_sum(words, i + 1, last + 1, own.calls, t)
+        + higher_level_sum(words, first, t)
+        + same_level_sum(words, first, i, own.calls, t)
+        + same_level_sum(words, i + 1, last + 1, own.calls, t)
 }
 
 // The longest runs of the entries before position `end`, added up.
@@ -129,7 +129,7 @@ pub fn wcet_sum(words: &NodeWords, end: usize) -> u64
 }
 
 // Where the test of the entry at `i` starts, in the group from `first` to `last`.
-fn start_at(
+fn initial_time(
     words: &NodeWords,
     count: usize,
     first: usize,
@@ -138,7 +138,7 @@ fn start_at(
     blocking: u32,
 ) -> u64
     requires { ⌜ AllHold (entriesOf (now words) count) ⌝ ∗ ⌜ InGroup count first last i ⌝ }
-    ensures { λ x. ⌜ x ≡ startWith blocking (entriesOf (now (words .entry)) count) (groupLevel first last) i ⌝ }
+    ensures { λ x. ⌜ x ≡ initialTimeWith blocking (entriesOf (now (words .entry)) count) (groupLevel first last) i ⌝ }
 {
     blocking as u64 + wcet_sum(words, last + 1)
 }
@@ -159,7 +159,7 @@ fn test_with(
         ⌜ roundsIn (completion a) ≤ roundsBound (entriesOf (now (words .entry)) count) (groupLevel first last) i ⌝ }
 {
     let limit = limit_of(entry_at(words, i)) as u64;
-    let mut t = start_at(words, count, first, last, i, blocking);
+    let mut t = initial_time(words, count, first, last, i, blocking);
     let mut rounds = 0;
     while t <= limit {
         let time = t as u32;

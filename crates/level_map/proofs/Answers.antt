@@ -9,7 +9,7 @@ use Rattle.task_model.specs.Limits.{Node, NodeHolds}
 use Rattle.refusals.specs.Refusals.{at}
 use Rattle.refusals.specs.Answers.{Answer, gives, refuses, left}
 use Rattle.level_map.specs.Map.{theMap}
-use Rattle.level_map.specs.Answer.{heldAnswer, mapOf, NodeDemand3}
+use Rattle.level_map.specs.Answer.{heldAnswer, mapOf, NodeBestMapOrNone}
 use Rattle.level_map.specs.Cuts.{levelsOfCuts, CutsOf}
 use Rattle.level_map.proofs.Cutting.{length-levels}
 use Rattle.level_map.proofs.Theorems.{held-short, held-map, held-none, demand-three}
@@ -17,7 +17,7 @@ use Rattle.level_map.proofs.Theorems.{held-short, held-map, held-none, 
 -- The answer `a`, with the buffer `before` the call and `after` it, is right: by the definition, and so by promise 3.
 abbrev pub Right : Node → Answer ℕ → List ℕ → List ℕ → Type 0
 Right n a before after =
-    (a ≡ heldAnswer n (length before)) × ((after ≡ left a (mapOf n) before) × NodeDemand3 n before a after)
+    (a ≡ heldAnswer n (length before)) × ((after ≡ left a (mapOf n) before) × NodeBestMapOrNone n before a after)
 
 module _ (n : Node) (holds : NodeHolds n) (before : List ℕ) where
   right : (a : Answer ℕ) (after : List ℕ) → a ≡ heldAnswer n (length before) → after ≡ left a (mapOf n) before → Right n a before after

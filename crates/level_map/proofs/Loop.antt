@@ -21,13 +21,13 @@ use Rattle.level_map.proofs.Exact.{GroupTest, exact-cases}
 abbrev pub behind : List ℕ → Option (List ℕ) → Option (List ℕ)
 behind made x = Option·map (λ s. made ++ s) x
 
-behind-none : (x : Option (List ℕ)) → x ≡ behind [] x
-behind-none none = refl
-behind-none (some s) = refl
+past-none : (x : Option (List ℕ)) → x ≡ behind [] x
+past-none none = refl
+past-none (some s) = refl
 
-behind-onto : (made : List ℕ) (a : ℕ) (x : Option (List ℕ)) → behind made (onto a x) ≡ behind (made ++ (a ∷ [])) x
-behind-onto made a none = refl
-behind-onto made a (some s) = ap some (sym (append-assoc made (a ∷ []) s))
+past-onto : (made : List ℕ) (a : ℕ) (x : Option (List ℕ)) → behind made (onto a x) ≡ behind (made ++ (a ∷ [])) x
+past-onto made a none = refl
+past-onto made a (some s) = ap some (sym (append-assoc made (a ∷ []) s))
 
 -- one group of the search
 module _ (ok : ℕ → ℕ → ℕ → Bool) where
@@ -56,7 +56,7 @@ Reached ok most n cuts end groups = greedy ok most n ≡ behind (take groups cut
 
 module _ {n : ℕ} (t : GroupTest n) (most : ℕ) (cuts : List ℕ) where
   pub reached-first : Reached (t .ok) most n cuts n 0
-  reached-first = rw (sub-zero most) (behind-none (greedy (t .ok) most n))
+  reached-first = rw (sub-zero most) (past-none (greedy (t .ok) most n))
 
   -- no cuts, no map
   no-cuts : greedy (t .ok) most n ≡ none → firstOf (t .test) (maps most n) ≡ none
@@ -74,7 +74,7 @@ module _ {n : ℕ} (t : GroupTest n) (most : ℕ) (cuts : List ℕ) where
         reached
         ∙ ap (behind (take groups cuts))
         (greedy-next (t .ok) (most - groups) end a (omega arith) l (scan-some (t .ok) end a (s .0) (s .1) (s .2)))
-        ∙ behind-onto (take groups cuts) a (greedy (t .ok) (most - groups - 1) a)
+        ∙ past-onto (take groups cuts) a (greedy (t .ok) (most - groups - 1) a)
         ∙ rw (q, add-one groups, take-suc-set cuts groups a u)
 
     -- no level is left

@@ -17,7 +17,7 @@ use Rattle.refusals.specs.Answers.{gives, refuses, left}
 use Rattle.completion.specs.Test.{completionTest, isOnTime}
 use Rattle.level_map.specs.Assignments.{levelOf, Assignment, NoneLate, Passing, levelsUsed}
 use Rattle.level_map.specs.Map.{IsMap, Chosen, maps, mapsWith, firstOf, noneLateTo, passTest, theMap}
-use Rattle.level_map.specs.Answer.{mapOf, heldCheck, heldAnswer, Mapping, NodeDemand3}
+use Rattle.level_map.specs.Answer.{mapOf, heldCheck, heldAnswer, Mapping, NodeBestMapOrNone}
 use Rattle.level_map.specs.Groups.{added, onTimeIn}
 use Rattle.level_map.specs.Cuts.{levelsOfCuts, CutsOf}
 use Rattle.level_map.proofs.Tests.{by-test}
@@ -174,7 +174,7 @@ module _ (n : Node) (room : ℕ) where
 
 -- Promise 3 of docs/SPEC.md holds of the answer, and of what is read from the buffer's start.
 pub demand-three : (n : Node) → AllHold (n .entries) → (buffer : List ℕ)
-    → NodeDemand3 n buffer (heldAnswer n (length buffer)) (left (heldAnswer n (length buffer)) (mapOf n) buffer)
+    → NodeBestMapOrNone n buffer (heldAnswer n (length buffer)) (left (heldAnswer n (length buffer)) (mapOf n) buffer)
 demand-three n hold buffer fits =
     ⊎-elim
     (λ r.

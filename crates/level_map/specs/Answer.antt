@@ -57,11 +57,11 @@ pub record Mapping (es : List Entry) (most count : ℕ) (m : List ℕ) : Type 0 
 
 -- Promise 3 of an answer, with the map read from the buffer's start: refused exactly when no assignment lets every entry
 -- end by its deadline; and otherwise a map.
-pub record Demand3 (es : List Entry) (most : ℕ) (a : Answer ℕ) (m : List ℕ) : Type 0 where
+pub record BestMapOrNone (es : List Entry) (most : ℕ) (a : Answer ℕ) (m : List ℕ) : Type 0 where
   pub refusal : (a ≡ refuses (at 11 0 0)) ↔ ((l : List ℕ) → Passing es most l → ⊥)
   pub given : (a ≡ refuses (at 11 0 0)) ⊎ ((count : ℕ) × (a ≡ gives count) × Mapping es most count m)
 
 -- Promise 3 for a node that is mapped into a long enough buffer, with the map read from the buffer's start.
-abbrev pub NodeDemand3 : Node → List ℕ → Answer ℕ → List ℕ → Type 0
-NodeDemand3 n before a after =
-    length (n .entries) ≤ length before → Demand3 (n .entries) (n .levels) a (take (length (n .entries)) after)
+abbrev pub NodeBestMapOrNone : Node → List ℕ → Answer ℕ → List ℕ → Type 0
+NodeBestMapOrNone n before a after =
+    length (n .entries) ≤ length before → BestMapOrNone (n .entries) (n .levels) a (take (length (n .entries)) after)

@@ -8,7 +8,7 @@ use lib.ListN.{length}
 use lib.Dec.{leb}
 use Rattle.task_model.specs.declared.Entry.{Entry}
 use Rattle.task_model.specs.Limits.{entryAt, NodeHolds}
-use Rattle.completion.specs.Demand.{sumTo, only, moreUrgent, beside, urgentShare, demand, start}
+use Rattle.completion.specs.Demand.{sumTo, only, moreUrgent, sharesLevel, higherLevelInterference, demand, initialTime}
 use Rattle.completion.specs.Test.{Completion, on-time, late, testFrom, completionTest}
 use Rattle.level_map.specs.Assignments.{levelOf, levelsUsed}
 use Rattle.level_map.specs.Map.{theMap}
@@ -77,15 +77,15 @@ times es a = map timeIn (answers es a)
 unfoldable pub floorDemand : List Entry → (ℕ → ℕ) → ℕ → ℕ → ℕ
 floorDemand es level i t =
     entryAt es i .wcet + entryAt es i .blocking
-    + sumTo (λ j. only (moreUrgent level i j) (urgentShare (entryAt es j) t)) (length es)
-    + sumTo (λ j. only (beside level i j) (entryAt es j .wcet * min (t / entryAt es j .period) (entryAt es i .calls + 1))) (length es)
+    + sumTo (λ j. only (moreUrgent level i j) (higherLevelInterference (entryAt es j) t)) (length es)
+    + sumTo (λ j. only (sharesLevel level i j) (entryAt es j .wcet * min (t / entryAt es j .period) (entryAt es i .calls + 1))) (length es)
 
 -- Another: one run only of each other entry of the own level.
 unfoldable pub oneRunDemand : List Entry → (ℕ → ℕ) → ℕ → ℕ → ℕ
 oneRunDemand es level i t =
     entryAt es i .wcet + entryAt es i .blocking
-    + sumTo (λ j. only (moreUrgent level i j) (urgentShare (entryAt es j) t)) (length es)
-    + sumTo (λ j. only (beside level i j) (entryAt es j .wcet)) (length es)
+    + sumTo (λ j. only (moreUrgent level i j) (higherLevelInterference (entryAt es j) t)) (length es)
+    + sumTo (λ j. only (sharesLevel level i j) (entryAt es j .wcet)) (length es)
 
 -- The least of n times from t on whose demand is at most the time.
 unfoldable pub leastFrom : (ℕ → ℕ) → ℕ → ℕ → Option ℕ
@@ -123,11 +123,11 @@ Holds (timed es a ts) = times es a ≡ ts
 Holds (answered-at es a i c) = completionTest es (levelOf a) i ≡ c
 Holds (would-take es a i t) =
     (timeIn (completionTest es (levelOf a) i) ≡ none)
-    × (timeIn (testFrom (demand es (levelOf a) i) t (start es (levelOf a) i) 0) ≡ some t)
+    × (timeIn (testFrom (demand es (levelOf a) i) t (initialTime es (levelOf a) i) 0) ≡ some t)
 Holds (late-at es a i) = timeIn (completionTest es (levelOf a) i) ≡ none
 Holds (floor-at es a i t) = leastFrom (floorDemand es (levelOf a) i) (entryAt es i .deadline) 1 ≡ some t
 Holds (one-run-at es a i t) =
-    (timeIn (testFrom (oneRunDemand es (levelOf a) i) (entryAt es i .deadline) (start es (levelOf a) i) 0) ≡ some t)
+    (timeIn (testFrom (oneRunDemand es (levelOf a) i) (entryAt es i .deadline) (initialTime es (levelOf a) i) 0) ≡ some t)
     × (t < demand es (levelOf a) i t)
 
 abbrev pub All : List Claim → Type 0

@@ -7,15 +7,15 @@ ghost use Rattle.task_model.specs.Limits.{mostTicks, mostEntries, AllHold, Node
 ghost use Rattle.refusals.specs.Answers.{left};
 ghost use Rattle.node_words.specs.Words.{entriesOf, nodeOf};
 ghost use Rattle.level_map.specs.Map.{theMap};
-ghost use Rattle.level_map.specs.Answer.{answer, heldAnswer, mapOf, NodeDemand3};
+ghost use Rattle.level_map.specs.Answer.{answer, heldAnswer, mapOf, NodeBestMapOrNone};
 ghost use Rattle.level_map.specs.Groups.{GroupPasses, LeastStart};
 ghost use Rattle.level_map.specs.Cuts.{Falling, levelsOfCuts, CutAnswer};
 use completion::wcet_sum;
 use node_words::NodeWords;
 use node_words::entry_at;
-use on_time::Ending;
-use on_time::behind_late;
+use on_time::Deadline;
 use on_time::ends_on_time;
+use on_time::start_bound;
 use refusals::Refusal;
 use task_model::MOST_ENTRIES;
 
@@ -46,13 +46,13 @@ fn least_start(words: &NodeWords, count: usize, end: usize, added: u32) -> Start
     ensures { λ a. ⌜ LeastStart (GroupPasses (entriesOf (now (words .entry)) count) added end) end a ⌝ }
 {
     let runs = wcet_sum(words, end);
-    let mut start = behind_late(words, count, end, runs);
+    let mut start = start_bound(words, count, end, runs);
     'starts: while start < end {
         let mut i = end;
         while start < i {
             let own = entry_at(words, i - 1);
             let blocking = own.blocking + added;
-            let Ending::OnTime = ends_on_time(words, count, start, end - 1, i - 1, blocking, runs)
+            let Deadline::Met = ends_on_time(words, count, start, end - 1, i - 1, blocking, runs)
             else {
                 start = i;
                 continue 'starts;
@@ -135,7 +135,7 @@ pub fn map_held(words: &NodeWords, count: usize, levels: u8, out: &mut [u8]) -> 
     requires { ⌜ NodeHolds (nodeOf (now words) count levels) ⌝ }
     ensures answered { λ a. ⌜ answer a ≡ heldAnswer (nodeOf (now (words .entry)) count levels) (length (now (out .entry))) ⌝ }
     ensures written { λ a. ⌜ now (out .exit) ≡ left (answer a) (mapOf (nodeOf (now (words .entry)) count levels)) (now (out .entry)) ⌝ }
-    ensures best { λ a. ⌜ NodeDemand3 (nodeOf (now (words .entry)) count levels) (now (out .entry)) (answer a) (now (out .exit)) ⌝ }
+    ensures best { λ a. ⌜ NodeBestMapOrNone (nodeOf (now (words .entry)) count levels) (now (out .entry)) (answer a) (now (out .exit)) ⌝ }
 {
     if out.len() < count {
         return MappedNode::Refused(Refusal::ShortBuffer);

@@ -4,7 +4,7 @@ use Rattle.text.specs.Text.{text}
 use Rattle.text.specs.Decimal.{digits, decimal}
 use Rattle.task_model.specs.Checks.{kindTest, timesTest, entryCheck, entriesCheck, sizeTest}
 use Rattle.node_words.specs.Words.{entryFrom}
-use Rattle.completion.specs.Demand.{ceilDiv, releases, sumTo, urgentShare, besideShare, demandWith, startWith}
+use Rattle.completion.specs.Demand.{ceilDiv, releases, sumTo, higherLevelInterference, sameLevelInterference, demandWith, initialTimeWith}
 use Rattle.completion.specs.Test.{limit, iterate, testFrom, testWith}
 use Rattle.plan_file.specs.Plan.{entryCount, rowOf}
 use Rattle.plan_file.specs.Check.{openingTest, countTest, zerosTest, rowTest, contentsCheck, nodesCheck, headerCheck, layoutCheck, fileCheck}
@@ -18,5 +18,5 @@ use Rattle.listing.specs.Listing.{entryText, entriesText, nodeText, node
 
 pub listing-P : listing caseP
     ≡ text "plan 1\nnode 7 levels 2 of 2\nentry 1 level 1 time 20 rounds 1\nentry 2 level 2 time 138 rounds 2\nentry 3 level 2 time 138 rounds 2\n"
-unfolding listing planText nodesText nodeText entriesText entryText planLine nodeLine noMapLine entryLine refusedLine theMap passTest noneLateTo firstOf maps mapsWith fromLongest nodeOfRow entriesAt rowsFrom wordsFrom wordAt fileCheck layoutCheck headerCheck nodesCheck contentsCheck rowTest zerosTest countTest openingTest rowOf entryCount testWith limit testFrom iterate startWith demandWith besideShare urgentShare sumTo releases ceilDiv entryFrom sizeTest entriesCheck entryCheck timesTest kindTest decimal digits
+unfolding listing planText nodesText nodeText entriesText entryText planLine nodeLine noMapLine entryLine refusedLine theMap passTest noneLateTo firstOf maps mapsWith fromLongest nodeOfRow entriesAt rowsFrom wordsFrom wordAt fileCheck layoutCheck headerCheck nodesCheck contentsCheck rowTest zerosTest countTest openingTest rowOf entryCount testWith limit testFrom iterate initialTimeWith demandWith sameLevelInterference higherLevelInterference sumTo releases ceilDiv entryFrom sizeTest entriesCheck entryCheck timesTest kindTest decimal digits
 listing-P = refl

@@ -14,7 +14,7 @@ use Rattle.refusals.proofs.Outcomes.{either, not-both}
 use Rattle.completion.proofs.Iteration.{le-or-lt}
 use Rattle.plan_file.specs.declared.Row.{Row}
 use Rattle.plan_file.specs.Plan.{rowOf}
-use Rattle.plan_file.specs.Encoding.{rowLength, headerLength, entryLength, opening, bodiesStart}
+use Rattle.plan_file.specs.Encoding.{rowLength, headerLength, entryLength, openingBytes, bodiesStart}
 use Rattle.plan_file.specs.Check.{opensAt, openingTest, countTest, zerosTest, rowTest, contentsCheck, headerCheck, layoutCheck, fileCheck}
 use Rattle.byte_words.specs.Bytes.{wordAt}
 use Rattle.plan_file.specs.Decoding.{nodeCount, rowsFrom}
@@ -23,7 +23,7 @@ use Rattle.plan_file.proofs.Limits.{long-layout}
 use Rattle.plan_file.proofs.File.{layout-holds}
 use Rattle.plan_file.proofs.Theorems.{file-sizes}
 use Rattle.plan_file.proofs.Header.{header-holds}
-use Rattle.plan_file.proofs.Handed.{count-hold}
+use Rattle.plan_file.proofs.WriterChecks.{count-hold}
 use Rattle.task_model.proofs.Tests.{and-true}
 use Rattle.listing.specs.Listing.{listing}
 use Rattle.listing.proofs.Texts.{listing-refused}
@@ -31,7 +31,7 @@ use Rattle.listing.proofs.Texts.{listing-refused}
 -- two inputs that are longer than any plan, and agree in what a header with 32 rows takes
 module _ (f g : List ℕ) (lf : 41224 < length f) (lg : 41224 < length g) (same : (k : ℕ) → k < 264 → getD g k 0 ≡ getD f k 0) where
   opens : (k : ℕ) → k < 264 → opensAt g k ≡ opensAt f k
-  opens k h = ap (λ x. eqb x (getD opening k 0)) (same k h)
+  opens k h = ap (λ x. eqb x (getD openingBytes k 0)) (same k h)
 
   opening-same : openingTest g ≡ openingTest f
   unfolding openingTest

@@ -11,14 +11,14 @@ use Rattle.task_model.specs.Limits.{mostEntries}
 use Rattle.node_words.specs.Words.{entrySize, nodeSize, entryWords, wordsOf, entriesFrom, entriesOf, WordsFit}
 use Rattle.node_words.proofs.Entries.{length-entries}
 use Rattle.node_words.proofs.Words.{words-append, write-entries, write-entries-from, length-words, length-entry, entries-take, entries-drop}
-use Rattle.node_words.specs.Lists.{zeros, filled, insertAt, removeAt, replaceAt}
+use Rattle.node_words.specs.Lists.{zeros, zeroPadded, insertAt, removeAt, replaceAt}
 use Rattle.node_words.proofs.Copying.{room-filled}
 use Rattle.node_words.proofs.Lists.{size-inserted, size-removed, size-replaced}
 
 -- words that begin with those of a list, once every word beyond them is zero
 cleared : (es : List Entry) (w rest : List ℕ) (k : ℕ) → w ≡ wordsOf es ++ rest → length w ≡ nodeSize → k ≡ length es * entrySize
-    → take k w ++ zeros (length w - k) ≡ filled (wordsOf es)
-unfolding filled
+    → take k w ++ zeros (length w - k) ≡ zeroPadded (wordsOf es)
+unfolding zeroPadded
 cleared es w rest k p size e =
     let l : length (wordsOf es) ≡ k = length-words es ∙ sym e in
     let n : length w - k ≡ nodeSize - length (wordsOf es) = omega arith in
@@ -46,7 +46,7 @@ module _ (ws : List ℕ) (fit : WordsFit ws) (size : length ws ≡ nodeSize) (co
   around e p q hp hq = words-append (take p es) (e ∷ drop q es) ∙ rw (front p hp, back q hq)
 
   module _ (after : List ℕ) where
-    pub list-kept : after ≡ take (count * entrySize) ws ++ zeros (length ws - count * entrySize) → after ≡ filled (wordsOf es)
+    pub list-kept : after ≡ take (count * entrySize) ws ++ zeros (length ws - count * entrySize) → after ≡ zeroPadded (wordsOf es)
     list-kept p =
         p
         ∙ cleared es ws (drop (count * entrySize) ws) (count * entrySize)
@@ -57,7 +57,7 @@ module _ (ws : List ℕ) (fit : WordsFit ws) (size : length ws ≡ nodeSize) (co
     module _ (p : ℕ) (w : List ℕ) where
       pub list-removed : p < count → w ≡ paste ws (p * entrySize) (drop (p * entrySize + entrySize) ws) ((count - p - 1) * entrySize)
           → after ≡ take ((count - 1) * entrySize) w ++ zeros (length w - (count - 1) * entrySize)
-          → after ≡ filled (wordsOf (removeAt p es))
+          → after ≡ zeroPadded (wordsOf (removeAt p es))
       list-removed h moved q =
           let k : ℕ = p * entrySize in
           let m : ℕ = (count - p - 1) * entrySize in
@@ -72,7 +72,7 @@ module _ (ws : List ℕ) (fit : WordsFit ws) (size : length ws ≡ nodeSize) (co
       module _ (e : Entry) where
         pub list-replaced : p < count → w ≡ sets ws (p * entrySize) (entryWords e)
             → after ≡ take (count * entrySize) w ++ zeros (length w - count * entrySize)
-            → after ≡ filled (wordsOf (replaceAt p e es))
+            → after ≡ zeroPadded (wordsOf (replaceAt p e es))
         list-replaced h stored q =
             let k : ℕ = p * entrySize in
             let m : ℕ = (count - suc p) * entrySize in
@@ -90,7 +90,7 @@ module _ (ws : List ℕ) (fit : WordsFit ws) (size : length ws ≡ nodeSize) (co
             → m ≡ paste ws (p * entrySize + entrySize) (drop (p * entrySize) ws) ((count - p) * entrySize)
             → w ≡ sets m (p * entrySize) (entryWords e)
             → after ≡ take ((count + 1) * entrySize) w ++ zeros (length w - (count + 1) * entrySize)
-            → after ≡ filled (wordsOf (insertAt p e es))
+            → after ≡ zeroPadded (wordsOf (insertAt p e es))
         list-inserted h room m moved stored q =
             let k : ℕ = p * entrySize in
             let n : ℕ = (count - p) * entrySize in

@@ -20,5 +20,5 @@ abbrev pub zeros : ℕ → List ℕ
 zeros n = replicate n 0
 
 -- Words from the start on, and zero in every slot beyond them.
-unfoldable pub filled : List ℕ → List ℕ
-filled ws = ws ++ zeros (nodeSize - length ws)
+unfoldable pub zeroPadded : List ℕ → List ℕ
+zeroPadded ws = ws ++ zeros (nodeSize - length ws)

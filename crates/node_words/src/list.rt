@@ -10,7 +10,7 @@ ghost use lib.ListN.{length, take, drop};
 ghost use lib.Seq.{paste};
 ghost use Rattle.task_model.specs.Limits.{mostEntries};
 ghost use Rattle.node_words.specs.Words.{entrySize, nodeSize, wordsOf, entriesOf};
-ghost use Rattle.node_words.specs.Lists.{zeros, filled, insertAt, removeAt, replaceAt};
+ghost use Rattle.node_words.specs.Lists.{zeros, zeroPadded, insertAt, removeAt, replaceAt};
 
 // Moves `n` words up by one entry, from word `at` on, the last of them first.
 fn move_up(words: &mut [u32], at: usize, n: usize)
@@ -48,7 +48,7 @@ pub fn clear_from(words: &mut [u32], at: usize)
 // Keeps a list of `count` entries, and nothing beyond it.
 pub fn keep_list(words: &mut [u32], count: usize)
     requires { ⌜ (length (now words) ≡ nodeSize) × (count ≤ mostEntries) ⌝ }
-    ensures { λ _. ⌜ now (words .exit) ≡ filled (wordsOf (entriesOf (now (words .entry)) count)) ⌝ }
+    ensures { λ _. ⌜ now (words .exit) ≡ zeroPadded (wordsOf (entriesOf (now (words .entry)) count)) ⌝ }
 {
     clear_from(words, count * ENTRY_WORDS);
 }
@@ -56,7 +56,7 @@ pub fn keep_list(words: &mut [u32], count: usize)
 // Inserts an entry before a position of a list of `count` entries.
 pub fn insert_at(words: &mut [u32], count: usize, position: usize, e: Entry)
     requires { ⌜ (length (now words) ≡ nodeSize) × (position ≤ count) × (count < mostEntries) ⌝ }
-    ensures { λ _. ⌜ now (words .exit) ≡ filled (wordsOf (insertAt position e (entriesOf (now (words .entry)) count))) ⌝ }
+    ensures { λ _. ⌜ now (words .exit) ≡ zeroPadded (wordsOf (insertAt position e (entriesOf (now (words .entry)) count))) ⌝ }
 {
     move_up(
         words,
@@ -70,7 +70,7 @@ pub fn insert_at(words: &mut [u32], count: usize, position: usize, e: Entry)
 // Removes the entry at a position of a list of `count` entries.
 pub fn remove_at(words: &mut [u32], count: usize, position: usize)
     requires { ⌜ (length (now words) ≡ nodeSize) × (position < count) × (count ≤ mostEntries) ⌝ }
-    ensures { λ _. ⌜ now (words .exit) ≡ filled (wordsOf (removeAt position (entriesOf (now (words .entry)) count))) ⌝ }
+    ensures { λ _. ⌜ now (words .exit) ≡ zeroPadded (wordsOf (removeAt position (entriesOf (now (words .entry)) count))) ⌝ }
 {
     move_down(
         words,
@@ -83,7 +83,7 @@ pub fn remove_at(words: &mut [u32], count: usize, position: usize)
 // Replaces the entry at a position of a list of `count` entries.
 pub fn replace_at(words: &mut [u32], count: usize, position: usize, e: Entry)
     requires { ⌜ (length (now words) ≡ nodeSize) × (position < count) × (count ≤ mostEntries) ⌝ }
-    ensures { λ _. ⌜ now (words .exit) ≡ filled (wordsOf (replaceAt position e (entriesOf (now (words .entry)) count))) ⌝ }
+    ensures { λ _. ⌜ now (words .exit) ≡ zeroPadded (wordsOf (replaceAt position e (entriesOf (now (words .entry)) count))) ⌝ }
 {
     store_entry(words, position * ENTRY_WORDS, e);
     clear_from(words, count * ENTRY_WORDS);

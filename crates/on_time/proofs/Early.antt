@@ -9,20 +9,20 @@ use lib.ListN.{length}
 use Rattle.task_model.specs.Limits.{entryAt, AllHold}
 use Rattle.node_words.specs.Words.{entryOf, entriesOf}
 use Rattle.node_words.proofs.Entries.{length-entries, all-at}
-use Rattle.completion.specs.Demand.{sumTo, demandWith, startWith}
+use Rattle.completion.specs.Demand.{sumTo, demandWith, initialTimeWith}
 use Rattle.completion.specs.Group.{groupLevel}
 use Rattle.completion.specs.Test.{limit, testWith, isOnTime}
-use Rattle.on_time.specs.Load.{one, recurringLoad, recurringRun}
+use Rattle.on_time.specs.Utilisation.{fullUtilisation, recurringUtilisation, recurringWcet}
 use Rattle.completion.proofs.Sums.{sumTo-up, sumTo-more}
-use Rattle.completion.proofs.Words.{in-words, wcetOf, words-start}
+use Rattle.completion.proofs.Words.{in-words, wcetOf, words-initial}
 use Rattle.completion.proofs.Theorems.{not-before, on-time-some, late-none}
-use Rattle.on_time.proofs.Load.{fits-by-load}
+use Rattle.on_time.proofs.Utilisation.{fits-by-utilisation}
 
-abbrev pub loadOf : ℕ → List ℕ → ℕ → ℕ
-loadOf d ws j = recurringLoad d (entryOf ws j)
+abbrev pub utilisationOf : ℕ → List ℕ → ℕ → ℕ
+utilisationOf d ws j = recurringUtilisation d (entryOf ws j)
 
 abbrev pub runOf : ℕ → List ℕ → ℕ → ℕ
-runOf d ws j = recurringRun d (entryOf ws j)
+runOf d ws j = recurringWcet d (entryOf ws j)
 
 -- a quotient that is rounded up is the least whose product is enough
 pub ceil-least : (x f t : ℕ) → 1 ≤ f → x ≤ f * t → (x + (f - 1)) / f ≤ t
@@ -37,22 +37,22 @@ module _ (ws : List ℕ) (n : ℕ) (all : AllHold (entriesOf ws n)) (first last 
   known = omega (arith, length-entries ws 0 n)
 
   -- late from the start
-  pub late-start : (s : ℕ) → s ≡ startWith b (entriesOf ws n) (groupLevel first last) i → d < s
+  pub late-initial : (s : ℕ) → s ≡ initialTimeWith b (entriesOf ws n) (groupLevel first last) i → d < s
       → isOnTime (testWith b (entriesOf ws n) (groupLevel first last) i) ≡ false
-  late-start s p h =
+  late-initial s p h =
       let i-known : i < length (entriesOf ws n) = omega (arith, known) in
       late-none b (entriesOf ws n) all (groupLevel first last) i i-known .1
       (λ t l w. omega (arith, due, not-before b (entriesOf ws n) all (groupLevel first last) i i-known t w))
 
   -- where the test starts
-  pub start-runs : (runs : ℕ) → runs ≡ sumTo (wcetOf ws) (last + 1)
-      → b + runs ≡ startWith b (entriesOf ws n) (groupLevel first last) i
-  start-runs runs p = omega (arith, p, words-start ws n first last i hf hi hl b)
+  pub initial-runs : (runs : ℕ) → runs ≡ sumTo (wcetOf ws) (last + 1)
+      → b + runs ≡ initialTimeWith b (entriesOf ws n) (groupLevel first last) i
+  initial-runs runs p = omega (arith, p, words-initial ws n first last i hf hi hl b)
 
   -- no time at which the demand is met is before a bound by the load
-  pub not-earlier : (s x : ℕ) → s ≡ startWith b (entriesOf ws n) (groupLevel first last) i
+  pub not-earlier : (s x : ℕ) → s ≡ initialTimeWith b (entriesOf ws n) (groupLevel first last) i
       → ((t : ℕ) → s ≤ t
-      → one * (s - sumTo (runOf d ws) first) ≤ (one - sumTo (loadOf d ws) first) * t
+      → fullUtilisation * (s - sumTo (runOf d ws) first) ≤ (fullUtilisation - sumTo (utilisationOf d ws) first) * t
       → x ≤ t)
       → (t : ℕ) → demandWith b (entriesOf ws n) (groupLevel first last) i t ≤ t → x ≤ t
   not-earlier s x p h t w =
@@ -60,10 +60,10 @@ module _ (ws : List ℕ) (n : ℕ) (all : AllHold (entriesOf ws n)) (first last 
       (omega (arith, not-before b (entriesOf ws n) all (groupLevel first last) i (omega (arith, known)) t w))
       (rw (
         p,
-        sym (in-words ws n (recurringLoad d) first (omega arith)),
-        sym (in-words ws n (recurringRun d) first (omega arith)),
+        sym (in-words ws n (recurringUtilisation d) first (omega arith)),
+        sym (in-words ws n (recurringWcet d) first (omega arith)),
       )
-      (fits-by-load (entriesOf ws n) all first last i hf hi known b d t w))
+      (fits-by-utilisation (entriesOf ws n) all first last i hf hi known b d t w))
 
   -- late where the demand is met at no time up to the limit
   pub late-after : (t : ℕ) → d < t → ((u : ℕ) → demandWith b (entriesOf ws n) (groupLevel first last) i u ≤ u → t ≤ u)
@@ -80,11 +80,11 @@ module _ (ws : List ℕ) (n : ℕ) (all : AllHold (entriesOf ws n)) (first last 
       (t, omega (arith, due), omega (arith, p))
 
   -- the start is above the runs of the entries before the timed one
-  pub runs-below : (s m : ℕ) → s ≡ startWith b (entriesOf ws n) (groupLevel first last) i → m ≤ i → sumTo (wcetOf ws) m < s
+  pub runs-below : (s m : ℕ) → s ≡ initialTimeWith b (entriesOf ws n) (groupLevel first last) i → m ≤ i → sumTo (wcetOf ws) m < s
   runs-below s m p h =
       omega (
         arith,
-        words-start ws n first last i hf hi hl b,
+        words-initial ws n first last i hf hi hl b,
         sumTo-up (wcetOf ws) m i h,
         sumTo-more (wcetOf ws) i,
         sumTo-up (wcetOf ws) (i + 1) (last + 1) (omega arith),

@@ -1,4 +1,4 @@
 -- Laws by which an answer needs fewer rounds.
-pub mod Load
+pub mod Utilisation
 pub mod Early
-pub mod Behind
+pub mod StartBound

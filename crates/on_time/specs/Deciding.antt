@@ -1,9 +1,9 @@
--- What the code says of an entry where it gives no time.
+-- The verdict of `ends_on_time`.
 use mathlib.Core.Bool.{Bool, true, false}
-use Rattle.on_time.specs.declared.Ending.{Ending}
-use Rattle.on_time.specs.declared.Ending.the-variants.{OnTime, Late}
+use Rattle.on_time.specs.declared.Deadline.{Deadline}
+use Rattle.on_time.specs.declared.Deadline.the-variants.{Met, Missed}
 
--- The entry ends by its deadline.
-abbrev pub endsOnTime : Ending → Bool
-endsOnTime OnTime = true
-endsOnTime Late = false
+-- The verdict says that the deadline is met.
+abbrev pub isMet : Deadline → Bool
+isMet Met = true
+isMet Missed = false

@@ -1,5 +1,5 @@
 -- What a reader must believe.
 pub mod Deciding
 -- Need no belief: they name what the code adds up and skips to spare rounds.
-pub mod Load
-pub mod Behind
+pub mod Utilisation
+pub mod StartBound

@@ -1,6 +1,6 @@
-// Whether an entry ends by its limit, without its rounds where less decides. A small plan can have entries of 10^9
-// rounds, and a search asks about many of them. A demand is met at a time t if it is at most t then; an entry is on time
-// exactly if its demand is met by its limit.
+// Does an entry meet its deadline? The answer without its completion time takes far fewer rounds than the test: a small
+// plan can have entries of 10^9 rounds, and a search asks about many of them. An entry is on time exactly if its demand is
+// at most t at some time t up to its limit ('met at t' below).
 use completion::demand_at;
 use completion::limit_of;
 use node_words::NodeWords;
@@ -13,35 +13,38 @@ ghost use Rattle.node_words.specs.Words.{entryOf, entriesOf};
 ghost use Rattle.completion.specs.Demand.{sumTo, demandWith};
 ghost use Rattle.completion.specs.Group.{groupLevel, InGroup};
 ghost use Rattle.completion.specs.Test.{testWith, isOnTime};
-ghost use Rattle.on_time.specs.Deciding.{endsOnTime};
-ghost use Rattle.on_time.specs.Load.{one, recurringLoad, recurringRun};
-ghost use Rattle.on_time.specs.Behind.{behindLate};
+ghost use Rattle.on_time.specs.Deciding.{isMet};
+ghost use Rattle.on_time.specs.Utilisation.{fullUtilisation, recurringUtilisation, recurringWcet};
+ghost use Rattle.on_time.specs.StartBound.{startBound};
 
-// Whether an entry ends by its deadline, and no more.
-pub enum Ending {
-    OnTime,
-    Late,
+// The verdict without a completion time.
+pub enum Deadline {
+    Met,
+    Missed,
 }
 
-// A load of 1. Loads are in units of 2^-34: with a finer power of 2 the numbers of `earliest` would not fit in 64 bits.
-const ONE: u64 = 17179869184;
+// A utilisation of 1, in units of 2^-34. With a finer unit the numbers of `completion_bound` would not fit in 64 bits.
+const FULL_UTILISATION: u64 = 17179869184;
 
-// Of entries with periods shorter than a limit: their loads, and their runs, added up.
+// Sums over the entries with periods shorter than a limit, which are released again before it: C / T and C of each.
 struct Recurring {
-    load: u64,
+    utilisation: u64,
     runs: u64,
 }
 
-// What one entry adds to these sums.
+// What one entry adds to the sums.
 fn recurring_part(e: Entry, limit: u32) -> Recurring
     requires { ⌜ TimesHold e ⌝ }
-    ensures { λ r. ⌜ (r .load ≡ recurringLoad limit e) × (r .runs ≡ recurringRun limit e) ⌝ }
+    ensures { λ r. ⌜ (r .utilisation ≡ recurringUtilisation limit e) × (r .runs ≡ recurringWcet limit e) ⌝ }
 {
     if limit <= e.period {
-        return Recurring { load: 0, runs: 0 };
+        return Recurring {
+            utilisation: 0,
+            runs: 0,
+        };
     }
     Recurring {
-        load: ONE * e.wcet as u64 / e.period as u64,
+        utilisation: FULL_UTILISATION * e.wcet as u64 / e.period as u64,
         runs: e.wcet as u64,
     }
 }
@@ -50,54 +53,54 @@ fn recurring_part(e: Entry, limit: u32) -> Recurring
 fn recurring_sum(words: &NodeWords, end: usize, limit: u32) -> Recurring
     requires { ⌜ AllHold (entriesOf (now words) end) ⌝ ∗ ⌜ end ≤ mostEntries ⌝ }
     ensures { λ r.
-        ⌜ (r .load ≡ sumTo (λ j. recurringLoad limit (entryOf (now (words .entry)) j)) end)
-        × (r .runs ≡ sumTo (λ j. recurringRun limit (entryOf (now (words .entry)) j)) end) ⌝ }
+        ⌜ (r .utilisation ≡ sumTo (λ j. recurringUtilisation limit (entryOf (now (words .entry)) j)) end)
+        × (r .runs ≡ sumTo (λ j. recurringWcet limit (entryOf (now (words .entry)) j)) end) ⌝ }
 {
-    let mut load = 0;
+    let mut utilisation = 0;
     let mut runs = 0;
     for j in 0..end {
         let r = recurring_part(entry_at(words, j), limit);
-        load += r.load;
+        utilisation += r.utilisation;
         runs += r.runs;
     }
-    Recurring { load, runs }
+    Recurring { utilisation, runs }
 }
 
-// What a load leaves of the processor.
-fn free_share(load: u64) -> u64
-    ensures { λ x. ⌜ x ≡ one - load ⌝ }
+// What a utilisation leaves of the processor.
+fn spare_utilisation(utilisation: u64) -> u64
+    ensures { λ x. ⌜ x ≡ fullUtilisation - utilisation ⌝ }
 {
-    if ONE <= load {
+    if FULL_UTILISATION <= utilisation {
         return 0;
     }
-    ONE - load
+    FULL_UTILISATION - utilisation
 }
 
-// A time before which the demand of an entry is not met: where its test starts, `start`, or later by the load of the more
-// urgent entries, those before `first`. Before that time their load leaves too little free for what runs once; a load of 1
-// leaves nothing at any time, and then a time behind the limit is as good as any.
-fn earliest(words: &NodeWords, first: usize, limit: u32, start: u64) -> u64
+// A lower bound on the completion time of an entry: its initial time, or later if the entries on higher levels, those
+// before `first`, use much of the processor. What they leave must do for the work that is released once. If they leave
+// nothing, the demand is never met, and any time past the limit will do.
+fn completion_bound(words: &NodeWords, first: usize, limit: u32, initial: u64) -> u64
     requires { ⌜ AllHold (entriesOf (now words) first) ⌝ ∗ ⌜ first ≤ mostEntries ⌝
-        ∗ ⌜ (sumTo (λ j. entryOf (now words) j .wcet) first < start) × (start ≤ limit) × (limit ≤ mostTicks) ⌝ }
+        ∗ ⌜ (sumTo (λ j. entryOf (now words) j .wcet) first < initial) × (initial ≤ limit) × (limit ≤ mostTicks) ⌝ }
     ensures { λ x.
-        ⌜ (start ≤ x) × ((t : ℕ) → start ≤ t
-        → one * (start - sumTo (λ j. recurringRun limit (entryOf (now (words .entry)) j)) first)
-        ≤ (one - sumTo (λ j. recurringLoad limit (entryOf (now (words .entry)) j)) first) * t
+        ⌜ (initial ≤ x) × ((t : ℕ) → initial ≤ t
+        → fullUtilisation * (initial - sumTo (λ j. recurringWcet limit (entryOf (now (words .entry)) j)) first)
+        ≤ (fullUtilisation - sumTo (λ j. recurringUtilisation limit (entryOf (now (words .entry)) j)) first) * t
         → x ≤ t) ⌝ }
 {
     let r = recurring_sum(words, first, limit);
-    let free = free_share(r.load);
-    if free == 0 {
+    let spare = spare_utilisation(r.utilisation);
+    if spare == 0 {
         return limit as u64 + 1;
     }
-    let by_load = (ONE * (start - r.runs) + (free - 1)) / free;
-    if by_load < start {
-        return start;
+    let by_utilisation = (FULL_UTILISATION * (initial - r.runs) + (spare - 1)) / spare;
+    if by_utilisation < initial {
+        return initial;
     }
-    by_load
+    by_utilisation
 }
 
-// Whether the demand of the entry at `i` is met by its limit, by rounds from a time before which it is not met.
+// Follows the rounds of the entry at `i` from `begin` on. Before `begin` its demand is not met.
 fn met_from(
     words: &NodeWords,
     count: usize,
@@ -106,29 +109,28 @@ fn met_from(
     i: usize,
     blocking: u32,
     begin: u64,
-) -> Ending
+) -> Deadline
     requires { ⌜ AllHold (entriesOf (now words) count) ⌝ ∗ ⌜ InGroup count first last i ⌝
         ∗ ⌜ 1 ≤ begin ⌝
         ∗ ⌜ ((t : ℕ) → demandWith blocking (entriesOf (now words) count) (groupLevel first last) i t ≤ t → begin ≤ t) ⌝ }
     ensures { λ a.
-        ⌜ endsOnTime a ≡ isOnTime (testWith blocking (entriesOf (now (words .entry)) count) (groupLevel first last) i) ⌝ }
+        ⌜ isMet a ≡ isOnTime (testWith blocking (entriesOf (now (words .entry)) count) (groupLevel first last) i) ⌝ }
 {
     let limit = limit_of(entry_at(words, i)) as u64;
     let mut t = begin;
     while t <= limit {
         let next = demand_at(words, count, first, last, i, blocking, t as u32);
         if next <= t {
-            return Ending::OnTime;
+            return Deadline::Met;
         }
         t = next;
     }
-    Ending::Late
+    Deadline::Missed
 }
 
-// Whether the entry at `i` of a node ends by its limit, in the group from `first` to `last`, where less urgent work can hold
-// it up for `blocking` ticks; the entries before the group are more urgent. Its rounds are followed only where its demand at
-// the limit does not decide, and from as late as the load allows. `runs` is the sum of the runs up to `last`, which a search
-// needs many times.
+// Does the entry at `i` end by its limit, in the group from `first` to `last`, with a blocking of `blocking` ticks? The
+// entries before the group are on higher levels. `runs` is the sum of C up to `last`, which a search needs many times.
+// Rounds are followed only if the demand at the limit does not decide, and from the lower bound on.
 pub fn ends_on_time(
     words: &NodeWords,
     count: usize,
@@ -137,39 +139,38 @@ pub fn ends_on_time(
     i: usize,
     blocking: u32,
     runs: u64,
-) -> Ending
+) -> Deadline
     requires { ⌜ AllHold (entriesOf (now words) count) ⌝ ∗ ⌜ InGroup count first last i ⌝
         ∗ ⌜ runs ≡ sumTo (λ j. entryOf (now words) j .wcet) (last + 1) ⌝ }
     ensures { λ a.
-        ⌜ endsOnTime a ≡ isOnTime (testWith blocking (entriesOf (now (words .entry)) count) (groupLevel first last) i) ⌝ }
+        ⌜ isMet a ≡ isOnTime (testWith blocking (entriesOf (now (words .entry)) count) (groupLevel first last) i) ⌝ }
 {
     let limit = limit_of(entry_at(words, i));
-    let start = blocking as u64 + runs;
-    if (limit as u64) < start {
-        return Ending::Late;
+    let initial = blocking as u64 + runs;
+    if (limit as u64) < initial {
+        return Deadline::Missed;
     }
     if demand_at(words, count, first, last, i, blocking, limit) <= limit as u64 {
-        return Ending::OnTime;
+        return Deadline::Met;
     }
-    let begin = earliest(words, first, limit, start);
+    let begin = completion_bound(words, first, limit, initial);
     met_from(words, count, first, last, i, blocking, begin)
 }
 
-// The position behind the last entry before `end` whose limit is shorter than its blocking and a run of every entry
-// before `end`, or 0. Such an entry is late in each group that ends just before `end` and has it. `runs` is the sum of
-// these runs.
-pub fn behind_late(words: &NodeWords, count: usize, end: usize, runs: u64) -> usize
+// One past the last entry i < end with D < B + runs, or 0, where `runs` is the sum of C before `end`. That entry is late in
+// every group that ends just before `end` and contains it.
+pub fn start_bound(words: &NodeWords, count: usize, end: usize, runs: u64) -> usize
     requires { ⌜ AllHold (entriesOf (now words) count) ⌝ ∗ ⌜ (end ≤ count) × (count ≤ mostEntries) ⌝
         ∗ ⌜ runs ≡ sumTo (λ j. entryOf (now words) j .wcet) end ⌝ }
-    ensures { λ s. ⌜ s ≡ behindLate (entriesOf (now (words .entry)) count) end ⌝ }
+    ensures { λ s. ⌜ s ≡ startBound (entriesOf (now (words .entry)) count) end ⌝ }
 {
-    let mut behind: usize = 0;
+    let mut bound: usize = 0;
     for i in 0..end {
         let e = entry_at(words, i);
         if e.blocking as u64 + runs <= limit_of(e) as u64 {
             continue;
         }
-        behind = i + 1;
+        bound = i + 1;
     }
-    behind
+    bound
 }

@@ -25,7 +25,7 @@ use Rattle.plan_file.proofs.Words.{row-bytes, bodies-bytes, entries-in-
 use Rattle.plan_file.proofs.Encoding.{length-encoding}
 use Rattle.plan_file.proofs.Header.{header-accepted}
 use Rattle.plan_file.proofs.File.{file-bodies}
-use Rattle.plan_file.proofs.Handed.{HandedHolds, handed-holds}
+use Rattle.plan_file.proofs.WriterChecks.{HandedHolds, writer-holds}
 
 -- what stands in a file from byte `k` on: the bytes `s`, and then `rest`
 module _ (f : List ℕ) (k : ℕ) where
@@ -151,7 +151,7 @@ plan-same p q = cc
 -- a plan within the checks
 module _ (p : Plan) (a : planCheck p ≡ accepted) (fits : PlanFits p) where
   held : HandedHolds (p .rows) (p .entries) (length (p .entries) * entrySize)
-  held = handed-holds _ _ _ a
+  held = writer-holds _ _ _ a
 
   nodes : nodeCount (encoding p) ≡ length (p .rows)
   unfolding encoding headerBytes low

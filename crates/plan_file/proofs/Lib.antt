@@ -14,7 +14,7 @@ pub mod Memory
 pub mod Encoding
 pub mod Rows
 pub mod Listed
-pub mod Handed
+pub mod WriterChecks
 -- What the reader, the finder and the writer answer.
 pub mod Finding
 pub mod Reading

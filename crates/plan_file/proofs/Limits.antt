@@ -23,7 +23,7 @@ use Rattle.plan_file.specs.Find.{rowIn, nodeOfRow}
 use Rattle.plan_file.specs.Limits.{PlanHolds}
 use Rattle.plan_file.proofs.Tests.{RowHolds, row-true, row-holds}
 use Rattle.plan_file.proofs.Nodes.{count-split}
-use Rattle.plan_file.proofs.Handed.{handed-holds, handed-nodes, count-true}
+use Rattle.plan_file.proofs.WriterChecks.{writer-holds, writer-nodes, count-true}
 use Rattle.plan_file.proofs.Finding.{not-below}
 use Rattle.plan_file.proofs.Contents.{length-rows}
 use Rattle.plan_file.proofs.Encoded.{contents-rows}
@@ -103,7 +103,7 @@ module _ (p : Plan) where
   pub plan-holds : planCheck p ≡ accepted → PlanHolds p
   unfolding nodeOfRow
   plan-holds a =
-      let h = handed-holds (p .rows) (p .entries) (length (p .entries) * entrySize) a in
+      let h = writer-holds (p .rows) (p .entries) (length (p .entries) * entrySize) a in
       let e : entryCount (p .rows) ≡ length (p .entries) = omega (arith, h .counts) in
       record {
         some = h .some;
@@ -135,14 +135,14 @@ module _ (p : Plan) where
         fewEntries = omega (arith, length-node (h .counts) i l, n .fewEntries);
       })
       (h .rising) in
-      handed-nodes (p .rows) (p .entries) (length (p .entries) * entrySize) (count-true (length (p .rows)) (h .some) (h .few))
+      writer-nodes (p .rows) (p .entries) (length (p .entries) * entrySize) (count-true (length (p .rows)) (h .some) (h .few))
       (then-accepted _ _ rows ∙ mustHold-accepts _ _ (eq-eqb (length (p .entries) * entrySize) (entryCount (p .rows) * entrySize) (omega (arith, h .counts))))
       ∙ nodes-accepted 0 (p .rows) (p .entries) (λ i l. h .nodes i l .each)
 
 -- words that are accepted hold a plan that is
 pub words-plan : (rs ws : List ℕ) → wordsCheck rs ws ≡ accepted → planCheck (planOf rs ws) ≡ accepted
 words-plan rs ws a =
-    let n : length ws / entrySize * entrySize ≡ length ws = omega (arith, handed-holds _ _ _ a .counts) in
+    let n : length ws / entrySize * entrySize ≡ length ws = omega (arith, writer-holds _ _ _ a .counts) in
     rw (length-entries ws 0 (length ws / entrySize), n) a
 
 -- accepted rows end too early for a file that is longer than any plan's

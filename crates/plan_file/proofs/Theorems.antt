@@ -21,7 +21,7 @@ use Rattle.plan_file.specs.Plan.{mostNodes, Plan, entryCount, rowWord, r
 use Rattle.plan_file.specs.Encoding.{headerLength, rowLength, bodiesStart, encoding}
 use Rattle.byte_words.specs.Bytes.{Bytes, wordAt, wordsFrom}
 use Rattle.plan_file.specs.Decoding.{nodeCount, rowAt, offsetAt, rowsIn, entryIn, entriesIn, planIn}
-use Rattle.plan_file.specs.Check.{countTest, rowTest, rowsCheck, contentsCheck, nodesCheck, headerCheck, fileCheck, handedCheck, planCheck, wordsCheck}
+use Rattle.plan_file.specs.Check.{countTest, rowTest, rowsCheck, contentsCheck, nodesCheck, headerCheck, fileCheck, writerCheck, planCheck, wordsCheck}
 use Rattle.plan_file.specs.Find.{rowIn, nodeOfRow, rowOfNumber, findCheck, nodeFound}
 use Rattle.plan_file.specs.Limits.{PlanHolds, IsPlanFile, IsPlanInMemory}
 use Rattle.byte_words.proofs.Words.{length-words}
@@ -31,7 +31,7 @@ use Rattle.plan_file.proofs.Bodies.{length-entries-at}
 use Rattle.plan_file.proofs.Encoding.{length-encoding}
 use Rattle.plan_file.proofs.Header.{header-holds}
 use Rattle.plan_file.proofs.File.{file-layout, file-holds}
-use Rattle.plan_file.proofs.Handed.{handed-holds, count-true, handed-nodes}
+use Rattle.plan_file.proofs.WriterChecks.{writer-holds, count-true, writer-nodes}
 use Rattle.plan_file.proofs.Memory.{words-of-entries, entries-of-words}
 use Rattle.plan_file.proofs.Encoded.{same-bytes, contents-rows}
 use Rattle.plan_file.proofs.Decoded.{same-plan, encoding-accepted, few-entries, plan-same}
@@ -54,7 +54,7 @@ plan-accepted f a =
     let h = file-holds f a in
     let n = length-rows f 0 (nodeCount f) in
     let e = length-entries-at f (bodiesStart (nodeCount f)) (entryCount (rowsIn f)) in
-    handed-nodes (rowsIn f) (entriesIn f) (length (entriesIn f) * entrySize)
+    writer-nodes (rowsIn f) (entriesIn f) (length (entriesIn f) * entrySize)
     (rw n (count-true (nodeCount f) (h .header .counted .some) (h .header .counted .few)))
     (rw (contents-rows f 0 0 _ (rowsIn f) (h .contents), e)
     (mustHold-accepts _ _ (eq-eqb (entryCount (rowsIn f) * entrySize) (entryCount (rowsIn f) * entrySize) refl)))
@@ -83,10 +83,10 @@ file-limits f = (
 pub words-limits : (rs ws : List ℕ) → wordsCheck rs ws ≡ accepted ↔ IsPlanInMemory rs ws
 words-limits rs ws =
     let n = length-entries ws 0 (length ws / entrySize) in (
-      λ a. (plan-holds (planOf rs ws) (words-plan rs ws a), omega (arith, handed-holds _ _ _ a .counts)),
+      λ a. (plan-holds (planOf rs ws) (words-plan rs ws a), omega (arith, writer-holds _ _ _ a .counts)),
       λ h.
           let whole : length ws / entrySize * entrySize ≡ length ws = omega (arith, h .1) in
-          ap (handedCheck (planOf rs ws .rows) (planOf rs ws .entries)) (sym (ap (λ k. k * entrySize) n ∙ whole))
+          ap (writerCheck (planOf rs ws .rows) (planOf rs ws .entries)) (sym (ap (λ k. k * entrySize) n ∙ whole))
           ∙ holds-accepted (planOf rs ws) (h .0),
     )
 
@@ -106,8 +106,8 @@ pub read-write-memory : (f : List ℕ) → Bytes f → fileCheck f ≡ accepted
     → (wordsCheck (map rowWord (planIn f .rows)) (wordsOf (planIn f .entries)) ≡ accepted)
     × (encoding (planOf (map rowWord (planIn f .rows)) (wordsOf (planIn f .entries))) ≡ f)
 read-write-memory f b a = (
-  ap (λ (p : Plan). handedCheck (p .rows) (p .entries) (length (wordsOf (entriesIn f)))) (read-holds f b)
-      ∙ ap (handedCheck (rowsIn f) (entriesIn f)) (length-words-of (entriesIn f))
+  ap (λ (p : Plan). writerCheck (p .rows) (p .entries) (length (wordsOf (entriesIn f)))) (read-holds f b)
+      ∙ ap (writerCheck (rowsIn f) (entriesIn f)) (length-words-of (entriesIn f))
       ∙ plan-accepted f a,
   ap encoding (read-holds f b) ∙ same-bytes f b a,
 )
@@ -118,7 +118,7 @@ pub write-read-memory : (rs ws : List ℕ) → WordsFit rs → WordsFit ws → w
     × (map rowWord (planIn (encoding (planOf rs ws)) .rows) ≡ rs)
     × (wordsOf (planIn (encoding (planOf rs ws)) .entries) ≡ ws)
 write-read-memory rs ws hr hw a =
-    let h = handed-holds _ _ _ a in
+    let h = writer-holds _ _ _ a in
     let n : length ws / entrySize * entrySize ≡ length ws = omega (arith, h .counts) in
     let fits : PlanFits (planOf rs ws) = record { rows = words-fit-rows rs; entries = entries-fit ws hw 0 (length ws / entrySize) } in
     let ok = words-plan rs ws a in
@@ -221,7 +221,7 @@ pub smallest : Plan
 smallest = record { rows = record { number = 0; levels = 1; count = 0 } ∷ []; entries = [] }
 
 pub smallest-accepted : (planCheck smallest ≡ accepted) × (length (encoding smallest) ≡ 16)
-unfolding smallest handedCheck countTest rowsCheck rowTest sizeTest nodesCheck entriesCheck entryCount
+unfolding smallest writerCheck countTest rowsCheck rowTest sizeTest nodesCheck entriesCheck entryCount
 smallest-accepted = (refl, length-encoding smallest)
 
 -- 32 nodes of 64 levels and 64 entries: the largest.
@@ -247,5 +247,5 @@ largest =
     }
 
 pub largest-accepted : (planCheck largest ≡ accepted) × (length (encoding largest) ≡ 41224)
-unfolding largest rowsTo handedCheck countTest rowsCheck rowTest sizeTest nodesCheck entriesCheck entryCheck kindTest timesTest entryCount
+unfolding largest rowsTo writerCheck countTest rowsCheck rowTest sizeTest nodesCheck entriesCheck entryCheck kindTest timesTest entryCount
 largest-accepted = (refl, length-encoding largest)

@@ -19,13 +19,13 @@ use Rattle.refusals.specs.Answers.{gives, refuses}
 use Rattle.byte_words.proofs.Buffers.{over-next}
 use Rattle.plan_file.proofs.Words.{bodies-bytes}
 use Rattle.plan_file.proofs.Encoding.{length-header, length-contents, length-encoding}
-use Rattle.plan_file.proofs.Handed.{handed-holds}
+use Rattle.plan_file.proofs.WriterChecks.{writer-holds}
 
 module _ (rs ws : List ℕ) where
   -- the words of whole entries are their bytes
   words-stored : wordsCheck rs ws ≡ accepted → bytesOf (take (length ws) ws) ≡ bodiesBytes (entriesOf ws (length ws / entrySize))
   words-stored a =
-      let n : length ws / entrySize * entrySize ≡ length ws = omega (arith, handed-holds _ _ _ a .counts) in
+      let n : length ws / entrySize * entrySize ≡ length ws = omega (arith, writer-holds _ _ _ a .counts) in
       sym (bodies-bytes (length ws / entrySize) ws (omega arith) ∙ ap (λ k. bytesOf (take k ws)) n)
 
   -- the three stores are the encoding
@@ -58,7 +58,7 @@ module _ (rs ws : List ℕ) where
           length-encoding (planOf rs ws)
           ∙ omega (
             arith,
-            handed-holds _ _ _ a .counts,
+            writer-holds _ _ _ a .counts,
             length-map rs rowOf,
             length-entries ws 0 (length ws / entrySize),
           )

@@ -10,12 +10,12 @@ use Rattle.task_model.specs.Checks.{sizeTest, entriesCheck}
 use Rattle.node_words.specs.Words.{entrySize}
 use Rattle.plan_file.specs.declared.Row.{Row}
 use Rattle.plan_file.specs.Plan.{mostNodes, Plan, entryCount, planOf}
-use Rattle.plan_file.specs.Encoding.{opening, headerLength, entryLength, bodiesStart}
+use Rattle.plan_file.specs.Encoding.{openingBytes, headerLength, entryLength, bodiesStart}
 use Rattle.plan_file.specs.Decoding.{nodeCount, offsetAt, rowsIn, entriesIn}
 
 -- Byte `i` of a file is that of the opening.
 abbrev pub opensAt : List ℕ → ℕ → Bool
-opensAt f i = eqb (getD f i 0) (getD opening i 0)
+opensAt f i = eqb (getD f i 0) (getD openingBytes i 0)
 
 -- The four opening bytes.
 unfoldable pub openingTest : List ℕ → Bool
@@ -74,8 +74,8 @@ fileCheck f =
 
 -- The writer, on rows and on entries that lie in `words` words: node count (3), row by row 4, more or fewer entries
 -- than the rows count (6; a part of an entry is 6 too), entry by entry 7 and 8.
-unfoldable pub handedCheck : List Row → List Entry → ℕ → Outcome
-handedCheck rows entries words =
+unfoldable pub writerCheck : List Row → List Entry → ℕ → Outcome
+writerCheck rows entries words =
     mustHold (countTest (length rows)) (at 3 0 0)
     andThen rowsCheck 0 0 rows
     andThen mustHold (eqb words (entryCount rows * entrySize)) (at 6 0 0)
@@ -83,8 +83,8 @@ handedCheck rows entries words =
 
 -- A plan is accepted exactly when the writer's checks find nothing to refuse.
 abbrev pub planCheck : Plan → Outcome
-planCheck p = handedCheck (p .rows) (p .entries) (length (p .entries) * entrySize)
+planCheck p = writerCheck (p .rows) (p .entries) (length (p .entries) * entrySize)
 
 -- The same of a plan as it lies in memory.
 abbrev pub wordsCheck : List ℕ → List ℕ → Outcome
-wordsCheck rows words = handedCheck (planOf rows words .rows) (planOf rows words .entries) (length words)
+wordsCheck rows words = writerCheck (planOf rows words .rows) (planOf rows words .entries) (length words)

@@ -8,12 +8,12 @@ use Rattle.plan_file.specs.declared.Row.{Row}
 use Rattle.plan_file.specs.Plan.{Plan}
 
 -- The four bytes that a file opens with.
-abbrev pub opening : List ℕ
-opening = 0x4C ∷ 0x4D ∷ 0x50 ∷ 0x31 ∷ []
+abbrev pub openingBytes : List ℕ
+openingBytes = 0x4C ∷ 0x4D ∷ 0x50 ∷ 0x31 ∷ []
 
 -- The opening bytes, one byte with the node count, three zero bytes.
 unfoldable pub headerBytes : ℕ → List ℕ
-headerBytes nodes = opening ++ low 1 nodes ++ (0 ∷ 0 ∷ 0 ∷ [])
+headerBytes nodes = openingBytes ++ low 1 nodes ++ (0 ∷ 0 ∷ 0 ∷ [])
 
 -- A row: node number (2), levels (1), entry count (1), offset of its body from the file's start (4).
 unfoldable pub rowBytes : ℕ → Row → List ℕ

@@ -2,7 +2,7 @@
 use super::ENTRY_BYTES;
 use super::HEADER_BYTES;
 use super::MOST_NODES;
-use super::OPENING;
+use super::OPENING_BYTES;
 use super::ROW_BYTES;
 use super::Row;
 use super::node_count;
@@ -50,16 +50,16 @@ fn opens(file: &[u8]) -> bool
     requires { ⌜ headerLength ≤ length (now file) ⌝ }
     ensures { λ a. ⌜ a ≡ openingTest (now (file .entry)) ⌝ }
 {
-    if file[0] != OPENING[0] {
+    if file[0] != OPENING_BYTES[0] {
         return false;
     }
-    if file[1] != OPENING[1] {
+    if file[1] != OPENING_BYTES[1] {
         return false;
     }
-    if file[2] != OPENING[2] {
+    if file[2] != OPENING_BYTES[2] {
         return false;
     }
-    file[3] == OPENING[3]
+    file[3] == OPENING_BYTES[3]
 }
 
 // Whether there are 1 to 32 nodes, and the three bytes after their count are zero.

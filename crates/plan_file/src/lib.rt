@@ -40,7 +40,7 @@ ghost use Rattle.plan_file.specs.RoundTrips.{WrittenAgain, ReadAgain};
 ghost use Rattle.refusals.specs.Answers.{left};
 
 // The four bytes that a plan file opens with.
-const OPENING: [u8; 4] = *b"LMP1";
+const OPENING_BYTES: [u8; 4] = *b"LMP1";
 
 // The bytes before the contents, of a row of the contents, and of an entry.
 const HEADER_BYTES: usize = 8;

@@ -1,7 +1,7 @@
 // Stores the parts of a plan file into a buffer.
 use super::ENTRY_BYTES;
 use super::HEADER_BYTES;
-use super::OPENING;
+use super::OPENING_BYTES;
 use super::ROW_BYTES;
 use super::read::row_of;
 use byte_words::put_word;
@@ -27,10 +27,10 @@ pub(crate) fn put_header(file: &mut [u8], nodes: usize)
     requires { ⌜ headerLength ≤ length (now file) ⌝ }
     ensures { λ _. ⌜ now (file .exit) ≡ over (now (file .entry)) 0 (headerBytes nodes) ⌝ }
 {
-    file[0] = OPENING[0];
-    file[1] = OPENING[1];
-    file[2] = OPENING[2];
-    file[3] = OPENING[3];
+    file[0] = OPENING_BYTES[0];
+    file[1] = OPENING_BYTES[1];
+    file[2] = OPENING_BYTES[2];
+    file[3] = OPENING_BYTES[3];
     file[4] = (nodes % 256) as u8;
     file[5] = 0;
     file[6] = 0;

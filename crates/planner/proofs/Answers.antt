@@ -9,7 +9,7 @@ use Rattle.task_model.specs.Limits.{Node}
 use Rattle.refusals.proofs.Outcomes.{giving-refuses, giving-gives, not-both}
 use Rattle.plan_file.specs.Answers.{Shape, findAnswer}
 use Rattle.plan_file.specs.Find.{findCheck, nodeFound}
-use Rattle.level_map.specs.Answer.{mapOf, heldAnswer, NodeDemand3}
+use Rattle.level_map.specs.Answer.{mapOf, heldAnswer, NodeBestMapOrNone}
 use Rattle.level_map.proofs.Answers.{Right}
 use Rattle.planner.specs.Mapping.{fileAnswer}
 
@@ -37,7 +37,7 @@ module _ (f : List ℕ) (number : ℕ) where
     Promise a after =
         (a ≡ fileAnswer f number (length buffer))
         × ((after ≡ left a (mapOf (nodeFound f number)) buffer)
-        × (findCheck f number ≡ accepted → NodeDemand3 (nodeFound f number) buffer a after))
+        × (findCheck f number ≡ accepted → NodeBestMapOrNone (nodeFound f number) buffer a after))
 
     pub refused-promise : (r : Numbered) → refuses r ≡ findAnswer f number → Promise (refuses r) buffer
     refused-promise r p =

@@ -4,7 +4,7 @@ ghost use lib.ListN.{length};
 ghost use Rattle.refusals.specs.Refusals.{accepted};
 ghost use Rattle.refusals.specs.Answers.{left};
 ghost use Rattle.plan_file.specs.Find.{findCheck, nodeFound};
-ghost use Rattle.level_map.specs.Answer.{answer, mapOf, NodeDemand3};
+ghost use Rattle.level_map.specs.Answer.{answer, mapOf, NodeBestMapOrNone};
 ghost use Rattle.planner.specs.Mapping.{fileAnswer};
 use level_map::MappedNode;
 use level_map::map_held;
@@ -18,7 +18,7 @@ pub fn map_node(file: &[u8], number: u16, out: &mut [u8]) -> MappedNode
     ensures { λ a. ⌜ now (out .exit) ≡ left (answer a) (mapOf (nodeFound (now (file .entry)) number)) (now (out .entry)) ⌝ }
     ensures { λ a.
         ⌜ (findCheck (now (file .entry)) number ≡ accepted →
-        NodeDemand3 (nodeFound (now (file .entry)) number) (now (out .entry)) (answer a) (now (out .exit))) ⌝ }
+        NodeBestMapOrNone (nodeFound (now (file .entry)) number) (now (out .entry)) (answer a) (now (out .exit))) ⌝ }
 {
     let mut words = [0u32; NODE_WORDS];
     let found = plan_file::find_node(file, number, &mut words);

@@ -7,7 +7,7 @@ use Rattle.refusals.specs.Refusals.{accepted}
 use Rattle.task_model.specs.Checks.{nodeCheck}
 use Rattle.refusals.specs.Answers.{left}
 use Rattle.level_map.specs.declared.MappedNode.{MappedNode}
-use Rattle.level_map.specs.Answer.{answer, mapOf, NodeDemand3}
+use Rattle.level_map.specs.Answer.{answer, mapOf, NodeBestMapOrNone}
 use Rattle.session.specs.declared.Session.{Session}
 use Rattle.session.specs.State.{nodeIn}
 use Rattle.session.specs.Mapping.{mapAnswer, Maps}
@@ -22,5 +22,5 @@ module _ {s : Session} (t : Session) (read : s ≡ t) (buffer : List ℕ) {a : M
   map-buffer = rw (h .answers, read) at (h .written)
 
   pub map-demand : nodeCheck 0 (nodeIn t) ≡ accepted
-      → NodeDemand3 (nodeIn t) buffer (mapAnswer (nodeIn t) (length buffer)) after
+      → NodeBestMapOrNone (nodeIn t) buffer (mapAnswer (nodeIn t) (length buffer)) after
   map-demand p = rw map-buffer (own-demand (nodeIn t) p buffer)

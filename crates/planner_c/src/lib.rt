@@ -20,10 +20,10 @@ ghost use Rattle.plan_file.specs.Limits.{IsPlanFile};
 ghost use Rattle.plan_file.specs.RoundTrips.{WrittenAgain, ReadAgain};
 ghost use Rattle.plan_file.specs.Plan.{rowWord, planOf};
 ghost use Rattle.node_words.specs.Words.{wordsOf};
-ghost use Rattle.level_map.specs.Answer.{mapOf, NodeDemand3};
+ghost use Rattle.level_map.specs.Answer.{mapOf, NodeBestMapOrNone};
 ghost use Rattle.planner.specs.Mapping.{fileAnswer};
 ghost use Rattle.listing.specs.Listing.{listing, listAnswer};
-ghost use Rattle.planner_c.specs.Returned.{returned, back, given, checked, filled, sized};
+ghost use Rattle.planner_c.specs.Returned.{returned, back, given, checked, zeroPadded, sized};
 use level_map::MappedNode;
 use listing::Listed;
 use plan_file::ReadPlan;
@@ -79,7 +79,7 @@ pub extern "C" fn maiplur_read(
 ) -> u32
     ensures { λ a.
         ⌜ returned a (now (values .exit)) ≡
-        filled (readAnswer (now (file .entry)) (length (now (rows .entry))) (length (now (entries .entry)))) ⌝ }
+        zeroPadded (readAnswer (now (file .entry)) (length (now (rows .entry))) (length (now (entries .entry)))) ⌝ }
     ensures { λ a.
         ⌜ now (rows .exit) ≡
         left (readAnswer (now (file .entry)) (length (now (rows .entry))) (length (now (entries .entry))))
@@ -147,7 +147,7 @@ pub extern "C" fn maiplur_map(
         (mapOf (nodeFound (now (file .entry)) number)) (now (levels .entry)) ⌝ }
     ensures { λ a.
         ⌜ (findCheck (now (file .entry)) number ≡ accepted →
-        NodeDemand3 (nodeFound (now (file .entry)) number) (now (levels .entry))
+        NodeBestMapOrNone (nodeFound (now (file .entry)) number) (now (levels .entry))
         (fileAnswer (now (file .entry)) number (length (now (levels .entry)))) (now (levels .exit))) ⌝ }
 {
     let mapped = planner::map_node(file, number, levels);

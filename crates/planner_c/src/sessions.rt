@@ -16,7 +16,7 @@ ghost use Rattle.refusals.specs.Refusals.{accepted};
 ghost use Rattle.task_model.specs.Checks.{nodeCheck};
 ghost use Rattle.node_words.specs.Words.{entryFrom};
 ghost use Rattle.completion.specs.Test.{completion};
-ghost use Rattle.level_map.specs.Answer.{mapOf, NodeDemand3};
+ghost use Rattle.level_map.specs.Answer.{mapOf, NodeBestMapOrNone};
 ghost use Rattle.session.specs.State.{nodeIn};
 ghost use Rattle.session.specs.Operations.{changing, opening, inserting, removing, replacing, settingLevels};
 ghost use Rattle.session.specs.Timing.{timeAnswer};
@@ -150,7 +150,7 @@ pub extern "C" fn maiplur_session_map(
         (mapOf (nodeIn (sessionIn (now (words .entry))))) (now (levels .entry)) ⌝ }
     ensures { λ a.
         ⌜ (nodeCheck 0 (nodeIn (sessionIn (now (words .entry)))) ≡ accepted →
-        NodeDemand3 (nodeIn (sessionIn (now (words .entry)))) (now (levels .entry))
+        NodeBestMapOrNone (nodeIn (sessionIn (now (words .entry)))) (now (levels .entry))
         (mapAnswer (nodeIn (sessionIn (now (words .entry)))) (length (now (levels .entry)))) (now (levels .exit))) ⌝ }
 {
     let s = from_words(*words);

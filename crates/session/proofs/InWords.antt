@@ -14,7 +14,7 @@ use Rattle.node_words.specs.Words.{nodeSize, wordsOf, nodeOf}
 use Rattle.refusals.proofs.Outcomes.{either}
 use Rattle.session.specs.declared.Session.{Session}
 use Rattle.session.specs.State.{nodeIn, sessionOf}
-use Rattle.node_words.specs.Lists.{zeros, filled}
+use Rattle.node_words.specs.Lists.{zeros, zeroPadded}
 use Rattle.session.specs.Operations.{Change, Operation, changing, emptyNode, changed, stepCheck}
 use Rattle.session.specs.Steps.{sessionMade, sessionAfter, sessionAfterAll, Follows}
 use Rattle.session.specs.InWords.{sessionSize, sessionIn, wordsIn, wordsLeft, wordsAfter, wordsAfterAll, FollowsIn}
@@ -62,7 +62,7 @@ by-value o s written h read =
 -- opening clears every word but the first
 pub opened-words : (w : List ℕ) (levels : ℕ) → length w ≡ sessionSize → (cleared : List ℕ) → cleared ≡ take 1 w ++ zeros (length w - 1)
     → set cleared 0 levels ≡ wordsIn (sessionOf (emptyNode levels))
-unfolding sessionOf filled wordsOf
+unfolding sessionOf zeroPadded wordsOf
 opened-words [] levels h cleared p = absurd (omega arith)
 opened-words (x ∷ xs) levels h cleared p =
     let e : length (x ∷ xs) - 1 ≡ 1 + nodeSize = omega arith in

@@ -12,7 +12,7 @@ use Rattle.task_model.proofs.Theorems.{node-accepted}
 use Rattle.refusals.proofs.Outcomes.{not-both}
 use Rattle.level_map.specs.declared.MappedNode.{MappedNode}
 use Rattle.level_map.specs.declared.MappedNode.the-variants.{Refused}
-use Rattle.level_map.specs.Answer.{answer, mapOf, heldAnswer, NodeDemand3}
+use Rattle.level_map.specs.Answer.{answer, mapOf, heldAnswer, NodeBestMapOrNone}
 use Rattle.level_map.proofs.Theorems.{demand-three}
 use Rattle.level_map.proofs.Answers.{Right}
 use Rattle.session.specs.Operations.{asking, mapping, queryCheck, operationCheck, lentCheck}
@@ -29,7 +29,7 @@ module _ (n : Node) where
   own-answer p room = rw (lent-goes-on (asking (mapping room)) n p)
 
   pub own-demand : nodeCheck 0 n ≡ accepted → (buffer : List ℕ)
-      → NodeDemand3 n buffer (mapAnswer n (length buffer)) (left (mapAnswer n (length buffer)) (mapOf n) buffer)
+      → NodeBestMapOrNone n buffer (mapAnswer n (length buffer)) (left (mapAnswer n (length buffer)) (mapOf n) buffer)
   own-demand p buffer = rw (own-answer p (length buffer)) (demand-three n (node-accepted 0 n .0 p .each) buffer)
 
   -- a session that may not be lent is refused, and the buffer kept; one that may is mapped as a node at hand

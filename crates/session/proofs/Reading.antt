@@ -10,7 +10,7 @@ use Rattle.task_model.specs.Limits.{Node, entryAt, EntryHolds, NodeHolds}
 use Rattle.node_words.specs.Words.{EntryFits, EntriesFit}
 use Rattle.node_words.proofs.Words.{read-entries}
 use Rattle.session.specs.State.{nodeIn, sessionOf}
-use Rattle.node_words.specs.Lists.{filled}
+use Rattle.node_words.specs.Lists.{zeroPadded}
 
 -- a node within the limits, with numbers of 16 bits
 pub record Kept (n : Node) : Type 0 where
@@ -38,5 +38,5 @@ module _ (n : Node) (k : Kept n) where
   kept-fit = all-fit (n .entries) (λ j h. fits _ (k .holds .each j h) (k .numbers j h))
 
   pub read-back : nodeIn (sessionOf n) ≡ n
-  unfolding sessionOf filled
+  unfolding sessionOf zeroPadded
   read-back = ap (λ es. record { levels = n .levels; entries = es }) (read-entries (n .entries) _ kept-fit)

@@ -17,7 +17,7 @@ use Rattle.completion.specs.Group.{groupLevel}
 use Rattle.completion.specs.Test.{Completion, completionTest, on-time}
 use Rattle.completion.specs.Right.{RightTiming}
 use Rattle.completion.proofs.Theorems.{timing-right}
-use Rattle.level_map.specs.Answer.{mapOf, heldAnswer, NodeDemand3}
+use Rattle.level_map.specs.Answer.{mapOf, heldAnswer, NodeBestMapOrNone}
 use Rattle.session.specs.declared.Session.{Session}
 use Rattle.session.specs.State.{nodeIn, sessionOf, Sound, blankSession}
 use Rattle.node_words.specs.Lists.{zeros}
@@ -185,7 +185,7 @@ module _ (s : Session) (h : Sound s) where
 
   -- Promise 3 of docs/SPEC.md, into a buffer of a byte an entry or more.
   pub map-demand-three : (buffer : List ℕ)
-      → NodeDemand3 (nodeIn s) buffer (mapAnswer (nodeIn s) (length buffer))
+      → NodeBestMapOrNone (nodeIn s) buffer (mapAnswer (nodeIn s) (length buffer))
       (left (mapAnswer (nodeIn s) (length buffer)) (mapOf (nodeIn s)) buffer)
   map-demand-three buffer = own-demand (nodeIn s) within-checks buffer
 

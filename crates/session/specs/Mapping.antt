@@ -9,7 +9,7 @@ use Rattle.task_model.specs.Limits.{Node}
 use Rattle.task_model.specs.Checks.{nodeCheck}
 use Rattle.level_map.specs.declared.MappedNode.{MappedNode}
 use Rattle.level_map.specs.Assignments.{levelsUsed}
-use Rattle.level_map.specs.Answer.{answer, mapOf, NodeDemand3}
+use Rattle.level_map.specs.Answer.{answer, mapOf, NodeBestMapOrNone}
 use Rattle.session.specs.Operations.{asking, mapping, stepCheck}
 
 -- The checks, and then the count of the levels of the node's map.
@@ -22,4 +22,4 @@ mapAnswer n room = giving (stepCheck (asking (mapping room)) n) (levelsUsed (map
 pub record Maps (n : Node) (buffer : List ℕ) (a : MappedNode) (after : List ℕ) : Type 0 where
   pub answers : answer a ≡ mapAnswer n (length buffer)
   pub written : after ≡ left (answer a) (mapOf n) buffer
-  pub best : nodeCheck 0 n ≡ accepted → NodeDemand3 n buffer (answer a) after
+  pub best : nodeCheck 0 n ≡ accepted → NodeBestMapOrNone n buffer (answer a) after

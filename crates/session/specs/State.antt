@@ -2,7 +2,7 @@
 use mathlib.Core.Path.{_≡_}
 use lib.ListN.{length}
 use Rattle.task_model.specs.Limits.{Node, NodeHolds}
-use Rattle.node_words.specs.Lists.{zeros, filled}
+use Rattle.node_words.specs.Lists.{zeros, zeroPadded}
 use Rattle.node_words.specs.Words.{nodeSize, wordsOf, nodeOf}
 use Rattle.session.specs.declared.Session.{Session}
 
@@ -12,7 +12,7 @@ nodeIn s = nodeOf (s .words) (s .count) (s .levels)
 
 -- The session of a node. Nothing in it is left free.
 unfoldable pub sessionOf : Node → Session
-sessionOf n = record { levels = n .levels; count = length (n .entries); words = filled (wordsOf (n .entries)) }
+sessionOf n = record { levels = n .levels; count = length (n .entries); words = zeroPadded (wordsOf (n .entries)) }
 
 -- A sound session holds a node within the limits, and is the session of that node.
 pub record Sound (s : Session) : Type 0 where

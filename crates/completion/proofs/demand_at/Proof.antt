@@ -3,8 +3,8 @@ use native.Mathlib.Omega.{arith}
 use borrow.Author.Needs.{needs}
 use Rattle.task_model.specs.Limits.{mostTicks}
 use Rattle.node_words.proofs.Entries.{all-fewer}
-use Rattle.completion.proofs.Bounds.{mostShares}
-use Rattle.completion.proofs.Words.{words-times, words-parts, urgent-small, beside-small}
+use Rattle.completion.proofs.Bounds.{mostInterferences}
+use Rattle.completion.proofs.Words.{words-times, words-parts, higher-level-small, same-level-small}
 use Rattle.completion.proofs.demand_at.Statement.{statement}
 use Rattle.completion.proofs.demand_at.Tie as tie
 
@@ -17,8 +17,8 @@ cast-result c = search needs
 add-result : tie.Need-add-result
 add-result c = search needs
 
-urgent-sum-requires : tie.Need-urgent-sum-requires
-urgent-sum-requires c κs =
+higher-level-sum-requires : tie.Need-higher-level-sum-requires
+higher-level-sum-requires c κs =
     let p = c .before .before .pre in
     (all-fewer _ _ _ (omega arith) (p .0), (omega arith, p .1 .1))
 
@@ -29,61 +29,61 @@ few-own c =
     let h = words-times _ _ (s .pre .0) (s .args .i) (omega arith) _ (c .before .entry-at .ensures) in
     omega arith
 
-few-urgent : (c : tie.After-urgent-sum) → c .urgent-sum .result ≤ mostShares
-few-urgent c =
-    rw (c .urgent-sum .ensures)
-    (urgent-small _ _ (c .before .before .before .pre .0) (omega arith) _ _ (omega arith) (omega arith))
+few-higher : (c : tie.After-higher-level-sum) → c .higher-level-sum .result ≤ mostInterferences
+few-higher c =
+    rw (c .higher-level-sum .ensures)
+    (higher-level-small _ _ (c .before .before .before .pre .0) (omega arith) _ _ (omega arith) (omega arith))
 
-few-left : (c : tie.After-beside-sum) → c .beside-sum .result ≤ mostShares
+few-left : (c : tie.After-same-level-sum) → c .same-level-sum .result ≤ mostInterferences
 few-left c =
     let s = c .before .before .before .before in
     omega (
       arith,
-      c .beside-sum .ensures,
-      beside-small _ _ (s .pre .0) (omega arith) (c .before .before .before .entry-at .result .calls) (s .args .t) (s .args .i)
+      c .same-level-sum .ensures,
+      same-level-small _ _ (s .pre .0) (omega arith) (c .before .before .before .entry-at .result .calls) (s .args .t) (s .args .i)
           (omega arith) (omega arith),
     )
 
-few-right : (c : tie.After-beside-sum2) → c .beside-sum2 .result ≤ mostShares
+few-right : (c : tie.After-same-level-sum2) → c .same-level-sum2 .result ≤ mostInterferences
 few-right c =
     let s = c .before .before .before .before .before in
     omega (
       arith,
-      c .beside-sum2 .ensures,
-      beside-small _ _ (s .pre .0) (omega arith) (c .before .before .before .before .entry-at .result .calls) (s .args .t)
+      c .same-level-sum2 .ensures,
+      same-level-small _ _ (s .pre .0) (omega arith) (c .before .before .before .before .entry-at .result .calls) (s .args .t)
           (s .args .last + 1) (omega arith) (omega arith),
     )
 
 add-result-2 : tie.Need-add-result-2
-add-result-2 c = omega (arith, few-own (c .before), few-urgent c)
+add-result-2 c = omega (arith, few-own (c .before), few-higher c)
 
-beside-sum-requires : tie.Need-beside-sum-requires
-beside-sum-requires c κs =
+same-level-sum-requires : tie.Need-same-level-sum-requires
+same-level-sum-requires c κs =
     let p = c .before .before .before .pre in
     (all-fewer _ _ _ (omega arith) (p .0), ((omega arith, omega arith), p .1 .1))
 
 add-result-3 : tie.Need-add-result-3
-add-result-3 c = omega (arith, few-own (c .before .before), few-urgent (c .before), few-left c)
+add-result-3 c = omega (arith, few-own (c .before .before), few-higher (c .before), few-left c)
 
-add-beside-sum : tie.Need-add-beside-sum
-add-beside-sum c = omega arith
+add-same-level-sum : tie.Need-add-same-level-sum
+add-same-level-sum c = omega arith
 
-add-beside-sum-2 : tie.Need-add-beside-sum-2
-add-beside-sum-2 c = omega arith
+add-same-level-sum-2 : tie.Need-add-same-level-sum-2
+add-same-level-sum-2 c = omega arith
 
-beside-sum-requires-2 : tie.Need-beside-sum-requires-2
-beside-sum-requires-2 c κs =
+same-level-sum-requires-2 : tie.Need-same-level-sum-requires-2
+same-level-sum-requires-2 c κs =
     let p = c .before .before .before .before .pre in
     (all-fewer _ _ _ (omega arith) (p .0), ((omega arith, omega arith), p .1 .1))
 
 add-result-4 : tie.Need-add-result-4
 add-result-4 c =
-    omega (arith, few-own (c .before .before .before), few-urgent (c .before .before), few-left (c .before), few-right c)
+    omega (arith, few-own (c .before .before .before), few-higher (c .before .before), few-left (c .before), few-right c)
 
 returns : tie.Need-returns
 returns c =
     words-parts _ _ _ _ _ (omega arith) (omega arith) (omega arith) _ _ _ _ _ _ (c .before .before .before .before .entry-at .ensures)
-    (c .before .before .urgent-sum .ensures) (c .before .beside-sum .ensures) (c .beside-sum2 .ensures)
+    (c .before .before .higher-level-sum .ensures) (c .before .same-level-sum .ensures) (c .same-level-sum2 .ensures)
 
 pub demand-at-spec : {M : Type 1} → statement M
 demand-at-spec =
@@ -92,12 +92,12 @@ demand-at-spec =
     entry-at-requires
     cast-result
     add-result
-    urgent-sum-requires
+    higher-level-sum-requires
     add-result-2
-    beside-sum-requires
+    same-level-sum-requires
     add-result-3
-    add-beside-sum
-    add-beside-sum-2
-    beside-sum-requires-2
+    add-same-level-sum
+    add-same-level-sum-2
+    same-level-sum-requires-2
     add-result-4
     returns)

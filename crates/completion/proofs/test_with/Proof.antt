@@ -36,8 +36,8 @@ limit-of-requires c κs = words-times _ _ (c .before .pre .0) _ (omega arith) _ 
 cast-limit : tie.Need-cast-limit Inv-loop μ-loop
 cast-limit c = search needs
 
-start-at-requires : tie.Need-start-at-requires Inv-loop μ-loop
-start-at-requires c κs = (c .before .before .pre .0, c .before .before .pre .1)
+initial-time-requires : tie.Need-initial-time-requires Inv-loop μ-loop
+initial-time-requires c κs = (c .before .before .pre .0, c .before .before .pre .1)
 
 loop-holds : tie.Need-loop-holds Inv-loop μ-loop
 loop-holds c =
@@ -46,10 +46,10 @@ loop-holds c =
     let d = c .before .limit-of .ensures in
     let a = s .args in
     let begin = words-begin (a .words .now) (a .count) (s .pre .0) (a .first) (a .last) (a .i) (omega arith) (omega arith) (a .blocking) in (
-      rw (c .start-at .ensures) (begin .0),
+      rw (c .initial-time .ensures) (begin .0),
       words-limit _ _ (s .pre .0) _ (omega arith) _ e _ d .1,
-      rw (c .start-at .ensures) (begin .1),
-      words-test _ _ (s .pre .0) _ _ _ (omega arith) (omega arith) _ _ _ (c .start-at .ensures)
+      rw (c .initial-time .ensures) (begin .1),
+      words-test _ _ (s .pre .0) _ _ _ (omega arith) (omega arith) _ _ _ (c .initial-time .ensures)
           (words-due _ _ (s .pre .0) _ (omega arith) _ e _ d),
     )
 
@@ -122,7 +122,7 @@ test-with-spec =
     entry-at-requires
     limit-of-requires
     cast-limit
-    start-at-requires
+    initial-time-requires
     loop-holds
     cast-time
     demand-at-requires

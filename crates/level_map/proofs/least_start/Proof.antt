@@ -12,10 +12,10 @@ use Rattle.node_words.specs.Words.{entriesOf}
 use Rattle.node_words.proofs.Entries.{length-entries, entry-of, all-at, all-fewer}
 use Rattle.completion.specs.Group.{groupLevel}
 use Rattle.completion.specs.Test.{testWith, isOnTime}
-use Rattle.on_time.specs.Deciding.{endsOnTime}
-use Rattle.on_time.specs.Behind.{behindLate}
+use Rattle.on_time.specs.Deciding.{isMet}
+use Rattle.on_time.specs.StartBound.{startBound}
 use Rattle.completion.proofs.Theorems.{widen}
-use Rattle.on_time.proofs.Behind.{behind-most, behind-late}
+use Rattle.on_time.proofs.StartBound.{past-most, start-bound}
 use Rattle.level_map.specs.Groups.{onTimeIn, GroupPasses}
 use Rattle.level_map.proofs.least_start.Statement.{statement}
 use Rattle.level_map.proofs.least_start.Tie as tie
@@ -40,20 +40,20 @@ abbrev μ-starts : tie.MeasureT-starts
 wcet-sum-requires : tie.Need-wcet-sum-requires Inv-loop μ-loop Inv-starts μ-starts
 wcet-sum-requires c κs = (all-fewer _ _ _ (omega arith) (c .pre .0), omega arith)
 
-behind-late-requires : tie.Need-behind-late-requires Inv-loop μ-loop Inv-starts μ-starts
-behind-late-requires c κs = (c .before .pre .0, ((omega arith, omega arith), c .wcet-sum .ensures))
+start-bound-requires : tie.Need-start-bound-requires Inv-loop μ-loop Inv-starts μ-starts
+start-bound-requires c κs = (c .before .pre .0, ((omega arith, omega arith), c .wcet-sum .ensures))
 
 -- the entry before the first start is late in every group that starts no later than it
 starts-holds : tie.Need-starts-holds Inv-loop μ-loop Inv-starts μ-starts
 starts-holds c =
     let k = c .before .before in
     let es = entriesOf (k .args .words .now) (k .args .count) in
-    let s = c .behind-late .result in
-    let most : s ≤ k .args .end = omega (arith, c .behind-late .ensures, behind-most es (k .args .end)) in
+    let s = c .start-bound .result in
+    let most : s ≤ k .args .end = omega (arith, c .start-bound .ensures, past-most es (k .args .end)) in
     let known : k .args .end ≤ length es = omega (arith, length-entries (k .args .words .now) 0 (k .args .count)) in (
       λ b h g.
-          let e : behindLate es (k .args .end) ≡ (s - 1) + 1 = omega (arith, c .behind-late .ensures) in
-          let late = behind-late es (k .pre .0) (k .args .end) known (s - 1) b e (omega arith) (entryAt es (s - 1) .blocking + k .args .added) (omega arith) in
+          let e : startBound es (k .args .end) ≡ (s - 1) + 1 = omega (arith, c .start-bound .ensures) in
+          let late = start-bound es (k .pre .0) (k .args .end) known (s - 1) b e (omega arith) (entryAt es (s - 1) .blocking + k .args .added) (omega arith) in
           false≢true (sym late ∙ g (s - 1) (omega arith) (omega arith)),
       most,
     )
@@ -104,7 +104,7 @@ module _ (c : tie.After-ends-on-time Inv-loop μ-loop Inv-starts μ-starts) wher
   abbrev at-start : tie.Start Inv-loop μ-loop Inv-starts μ-starts
   at-start = at-loop .before .before .before .before .before
 
-  answered : endsOnTime (c .ends-on-time .result)
+  answered : isMet (c .ends-on-time .result)
       ≡ onTimeIn (entriesOf (at-start .args .words .now) (at-start .args .count)) (at-start .args .added) (at-loop .loop .i - 1)
       (at-loop .loop .start) (at-start .args .end)
   answered =
@@ -123,7 +123,7 @@ starts-again c =
     let k = at-start (c .before .before) in
     let l = at-loop (c .before .before) .loop in
     let s = at-loop (c .before .before) .before .before .starts in
-    let late = sym (ap endsOnTime (c .enum-told2 .given .1)) ∙ answered (c .before .before) in (
+    let late = sym (ap isMet (c .enum-told2 .given .1)) ∙ answered (c .before .before) in (
       λ b h g.
           by-cases (decLt b (l .start))
           (λ y. s .inv .0 b (omega arith) g)
@@ -147,7 +147,7 @@ loop-again c =
           by-cases (decLt j (l .i))
           (λ y.
           let e : j ≡ l .i - 1 = omega arith in
-          rw e (sym (answered (c .before .before)) ∙ ap endsOnTime (c .enum-told .given .1)))
+          rw e (sym (answered (c .before .before)) ∙ ap isMet (c .enum-told .given .1)))
           (λ z. l .inv .0 j (omega arith) hi),
       l .inv .1,
       omega arith,
@@ -173,7 +173,7 @@ least-start-spec =
     Inv-starts
     μ-starts
     wcet-sum-requires
-    behind-late-requires
+    start-bound-requires
     starts-holds
     loop-holds
     sub-entry-at

@@ -6,11 +6,11 @@ use borrow.Author.Needs.{needs}
 use Rattle.task_model.specs.Limits.{mostTicks, entryAt}
 use Rattle.node_words.specs.Words.{entriesOf}
 use Rattle.node_words.proofs.Entries.{all-fewer}
-use Rattle.completion.specs.Demand.{startWith}
+use Rattle.completion.specs.Demand.{initialTimeWith}
 use Rattle.completion.specs.Group.{groupLevel}
 use Rattle.completion.specs.Test.{limit}
 use Rattle.completion.proofs.Words.{words-times, words-limit, words-due, words-begin, wcet-small}
-use Rattle.on_time.proofs.Early.{start-runs, late-start, on-time-at, not-earlier, runs-below}
+use Rattle.on_time.proofs.Early.{initial-runs, late-initial, on-time-at, not-earlier, runs-below}
 use Rattle.on_time.proofs.ends_on_time.Statement.{statement}
 use Rattle.on_time.proofs.ends_on_time.Tie as tie
 
@@ -32,12 +32,12 @@ module _ (c : tie.After-limit-of) where
   due = words-due _ _ (at-start .pre .0) _ (omega arith) _ (c .before .entry-at .ensures) _ (c .limit-of .ensures)
 
   begins : at-start .args .blocking + at-start .args .runs
-      ≡ startWith (at-start .args .blocking) (entriesOf (at-start .args .words .now) (at-start .args .count))
+      ≡ initialTimeWith (at-start .args .blocking) (entriesOf (at-start .args .words .now) (at-start .args .count))
       (groupLevel (at-start .args .first) (at-start .args .last)) (at-start .args .i)
-  begins = start-runs _ _ (at-start .pre .0) _ _ _ (omega arith) (omega arith) (omega arith) _ _ due _ (at-start .pre .1 .1)
+  begins = initial-runs _ _ (at-start .pre .0) _ _ _ (omega arith) (omega arith) (omega arith) _ _ due _ (at-start .pre .1 .1)
 
-add-start : tie.Need-add-start
-add-start c =
+add-initial : tie.Need-add-initial
+add-initial c =
     let s = at-start c in
     let a = s .args in
     omega (arith, s .pre .1 .1, wcet-small (a .words .now) (a .count) (s .pre .0) (omega arith) (a .last + 1) (omega arith))
@@ -48,7 +48,7 @@ cast-if1 c = search needs
 returns : tie.Need-returns
 returns c =
     let k = c .before in
-    sym (late-start _ _ (at-start k .pre .0) _ _ _ (omega arith) (omega arith) (omega arith) _ _ (due k) _ (begins k) (c .if1 .taken))
+    sym (late-initial _ _ (at-start k .pre .0) _ _ _ (omega arith) (omega arith) (omega arith) _ _ (due k) _ (begins k) (c .if1 .taken))
 
 demand-at-requires : tie.Need-demand-at-requires
 demand-at-requires c κs =
@@ -64,8 +64,8 @@ returns-2 c =
     sym (on-time-at _ _ (at-start k .pre .0) _ _ _ (omega arith) (omega arith) (omega arith) _ _ (due k) _ _ (le-refl _)
     (c .before .demand-at .ensures) (c .if2 .taken))
 
-earliest-requires : tie.Need-earliest-requires
-earliest-requires c κs =
+completion-bound-requires : tie.Need-completion-bound-requires
+completion-bound-requires c κs =
     let k = c .before .before .before in
     let p = at-start k .pre in (
       all-fewer _ _ _ (omega arith) (p .0),
@@ -91,10 +91,10 @@ met-from-requires c κs =
           omega (
             arith,
             begins k,
-            c .earliest .ensures .0,
+            c .completion-bound .ensures .0,
             words-begin _ _ (p .0) (a .first) (a .last) (a .i) (omega arith) (omega arith) (a .blocking) .0,
           ),
-          not-earlier _ _ (p .0) _ _ _ (omega arith) (omega arith) (omega arith) _ _ (due k) _ _ (begins k) (c .earliest .ensures .1),
+          not-earlier _ _ (p .0) _ _ _ (omega arith) (omega arith) (omega arith) _ _ (due k) _ _ (begins k) (c .completion-bound .ensures .1),
         ),
       ),
     )
@@ -108,12 +108,12 @@ ends-on-time-spec =
     (tie.spec
     entry-at-requires
     limit-of-requires
-    add-start
+    add-initial
     cast-if1
     returns
     demand-at-requires
     cast-if2
     returns-2
-    earliest-requires
+    completion-bound-requires
     met-from-requires
     returns-3)

@@ -1,8 +1,8 @@
 use mathlib.Core.Path.{sym}
 use native.Mathlib.Omega.{arith}
 use borrow.Author.Needs.{needs}
-use Rattle.on_time.specs.Load.{load}
-use Rattle.on_time.proofs.Load.{recurs, recurs-not}
+use Rattle.on_time.specs.Utilisation.{utilisation}
+use Rattle.on_time.proofs.Utilisation.{recurs, recurs-not}
 use Rattle.on_time.proofs.recurring_part.Statement.{statement}
 use Rattle.on_time.proofs.recurring_part.Tie as tie
 
@@ -27,7 +27,7 @@ cast-t8 : tie.Need-cast-t8
 cast-t8 c = search needs
 
 returns-2 : tie.Need-returns-2
-unfolding load
+unfolding utilisation
 returns-2 c =
     let s = c .before .before .before .before .before in
     let r = recurs (s .args .limit) (s .args .e) (omega arith) in

@@ -5,20 +5,20 @@ use Rattle.task_model.specs.Limits.{mostTicks}
 use Rattle.node_words.specs.Words.{entryOf}
 use Rattle.node_words.proofs.Entries.{all-at}
 use Rattle.completion.specs.Demand.{sumTo}
-use Rattle.on_time.specs.Load.{one, recurringLoad, recurringRun}
+use Rattle.on_time.specs.Utilisation.{fullUtilisation, recurringUtilisation, recurringWcet}
 use Rattle.completion.proofs.Sums.{sumTo-none, sumTo-step, sumTo-all}
-use Rattle.on_time.proofs.Load.{recurring-load-most, run-most}
+use Rattle.on_time.proofs.Utilisation.{recurring-utilisation-most, run-most}
 use Rattle.on_time.proofs.recurring_sum.Statement.{statement}
 use Rattle.on_time.proofs.recurring_sum.Tie as tie
 
 abbrev Inv-loop : tie.InvT-loop
-Inv-loop words end limit load₀ runs₀ j₀ load runs j =
-    (j ≤ end) × (load ≤ one * j) × (runs ≤ mostTicks * j)
-    × (load ≡ sumTo (λ k. recurringLoad limit (entryOf words k)) j)
-    × (runs ≡ sumTo (λ k. recurringRun limit (entryOf words k)) j)
+Inv-loop words end limit load₀ runs₀ j₀ utilisation runs j =
+    (j ≤ end) × (utilisation ≤ fullUtilisation * j) × (runs ≤ mostTicks * j)
+    × (utilisation ≡ sumTo (λ k. recurringUtilisation limit (entryOf words k)) j)
+    × (runs ≡ sumTo (λ k. recurringWcet limit (entryOf words k)) j)
 
 abbrev μ-loop : tie.MeasureT-loop
-μ-loop words end limit load₀ runs₀ j₀ load runs j = end - j
+μ-loop words end limit load₀ runs₀ j₀ utilisation runs j = end - j
 
 loop-holds : tie.Need-loop-holds Inv-loop μ-loop
 loop-holds c = (omega arith, omega arith, omega arith, sym (sumTo-none _), sym (sumTo-none _))
@@ -38,21 +38,21 @@ module _ (c : tie.After-recurring-part Inv-loop μ-loop) where
   abbrev at-loop : tie.At-loop Inv-loop μ-loop
   at-loop = c .before .before .before
 
-  added : (c .recurring-part .result .load
-      ≡ recurringLoad (at-start .args .limit) (entryOf (at-start .args .words .now) (at-loop .loop .j)))
+  added : (c .recurring-part .result .utilisation
+      ≡ recurringUtilisation (at-start .args .limit) (entryOf (at-start .args .words .now) (at-loop .loop .j)))
       × (c .recurring-part .result .runs
-      ≡ recurringRun (at-start .args .limit) (entryOf (at-start .args .words .now) (at-loop .loop .j)))
+      ≡ recurringWcet (at-start .args .limit) (entryOf (at-start .args .words .now) (at-loop .loop .j)))
   added = rw (c .before .entry-at .ensures) at (c .recurring-part .ensures)
 
-  few : (c .recurring-part .result .load ≤ one) × (c .recurring-part .result .runs ≤ mostTicks)
+  few : (c .recurring-part .result .utilisation ≤ fullUtilisation) × (c .recurring-part .result .runs ≤ mostTicks)
   few =
       let e = entryOf (at-start .args .words .now) (at-loop .loop .j) in
       let ok = all-at _ _ (at-start .pre .0) _ (c .before .before .loop-test .taken) .times in
       let d = at-start .args .limit in
-      (omega (arith, added .0, recurring-load-most d e ok), omega (arith, added .1, run-most d e, ok))
+      (omega (arith, added .0, recurring-utilisation-most d e ok), omega (arith, added .1, run-most d e, ok))
 
-add-load : tie.Need-add-load Inv-loop μ-loop
-add-load c = omega (arith, few (c .before))
+add-utilisation : tie.Need-add-utilisation Inv-loop μ-loop
+add-utilisation c = omega (arith, few (c .before))
 
 add-runs : tie.Need-add-runs Inv-loop μ-loop
 add-runs c = omega (arith, few (c .before .before))
@@ -86,7 +86,7 @@ recurring-sum-spec =
     loop-holds
     entry-at-requires
     recurring-part-requires
-    add-load
+    add-utilisation
     add-runs
     add-j
     loop-less

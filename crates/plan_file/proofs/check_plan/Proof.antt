@@ -10,7 +10,7 @@ use Rattle.refusals.specs.Refusals.{outcome}
 use Rattle.refusals.specs.declared.Checked.{Checked}
 use Rattle.plan_file.specs.Check.{countTest}
 use Rattle.plan_file.specs.Plan.{entryCount, rowOf}
-use Rattle.plan_file.proofs.Handed.{tally, tally-holds, count-true, count-false, handed-count, handed-tally, handed-nodes}
+use Rattle.plan_file.proofs.WriterChecks.{tally, tally-holds, count-true, count-false, writer-count, writer-tally, writer-nodes}
 use Rattle.plan_file.proofs.Ensured.{plan-ensures}
 use Rattle.plan_file.proofs.check_plan.Statement.{statement}
 use Rattle.plan_file.proofs.check_plan.Tie as tie
@@ -24,13 +24,13 @@ told : (c : tie.After-check-rows) (o : Checked) → c .check-rows .result ≡ o
 told c o p = sym (c .check-rows .ensures) ∙ ap outcome p
 
 returns : tie.Need-returns
-returns c = plan-ensures (c .before .before .before .args .rows .now) (c .before .before .before .args .entries .now) (sym (handed-count _ _ _ (count-false _ (λ h1 h2. omega (arith, length-map (c .before .before .before .args .rows .now) rowOf)))))
+returns c = plan-ensures (c .before .before .before .args .rows .now) (c .before .before .before .args .entries .now) (sym (writer-count _ _ _ (count-false _ (λ h1 h2. omega (arith, length-map (c .before .before .before .args .rows .now) rowOf)))))
 
 cast-if2 : tie.Need-cast-if2
 cast-if2 c = search needs
 
 returns-2 : tie.Need-returns-2
-returns-2 c = plan-ensures (c .before .before .before .before .args .rows .now) (c .before .before .before .before .args .entries .now) (sym (handed-count _ _ _ (count-false _ (λ h1 h2. omega (arith, length-map (c .before .before .before .before .args .rows .now) rowOf)))))
+returns-2 c = plan-ensures (c .before .before .before .before .args .rows .now) (c .before .before .before .before .args .entries .now) (sym (writer-count _ _ _ (count-false _ (λ h1 h2. omega (arith, length-map (c .before .before .before .before .args .rows .now) rowOf)))))
 
 check-rows-requires : tie.Need-check-rows-requires
 check-rows-requires c κs = search needs
@@ -45,7 +45,7 @@ returns-3 : tie.Need-returns-3
 returns-3 c =
     plan-ensures (c .before .before .before .before .before .before .before .args .rows .now) (c .before .before .before .before .before .before .before .args .entries .now)
     (ap outcome (c .enum-told2 .given .1)
-    ∙ sym (handed-tally _ _ _ (counted (c .before .before)) _ (told (c .before .before) _ (c .enum-told2 .given .1))))
+    ∙ sym (writer-tally _ _ _ (counted (c .before .before)) _ (told (c .before .before) _ (c .enum-told2 .given .1))))
 
 check-nodes-requires : tie.Need-check-nodes-requires
 check-nodes-requires c κs = omega (arith, tally-holds _ _ (told (c .before .before) _ (c .enum-told .given .1)) .1)
@@ -56,7 +56,7 @@ returns-4 c =
     let e : length (c .before .before .before .before .before .before .before .before .args .entries .now) / entrySize ≡ entryCount (map rowOf (c .before .before .before .before .before .before .before .before .args .rows .now)) = omega arith in
     plan-ensures (c .before .before .before .before .before .before .before .before .args .rows .now) (c .before .before .before .before .before .before .before .before .args .entries .now)
     (rw (← e) at (c .check-nodes .ensures)
-    ∙ sym (handed-nodes _ _ _ (counted (c .before .before .before)) (told (c .before .before .before) _ (c .before .enum-told .given .1))))
+    ∙ sym (writer-nodes _ _ _ (counted (c .before .before .before)) (told (c .before .before .before) _ (c .before .enum-told .given .1))))
 
 pub check-plan-spec : {M : Type 1} → statement M
 check-plan-spec =

@@ -7,7 +7,7 @@ use Rattle.refusals.specs.Refusals.{outcome, accepted}
 use Rattle.plan_file.specs.Check.{wordsCheck}
 use Rattle.plan_file.specs.Plan.{mostNodes, rowOf}
 use Rattle.plan_file.proofs.Writing.{written, write-refused, write-short, write-fits}
-use Rattle.plan_file.proofs.Handed.{handed-holds}
+use Rattle.plan_file.proofs.WriterChecks.{writer-holds}
 use Rattle.byte_words.proofs.Buffers.{over-start}
 use Rattle.plan_file.proofs.Ensured.{write-ensures}
 use Rattle.plan_file.proofs.write_plan.Statement.{statement}
@@ -24,7 +24,7 @@ told : (c : tie.After-enum-told) → wordsCheck (c .before .before .before .befo
 told c = sym (c .before .before .check-plan .ensures .0) ∙ ap outcome (c .enum-told .given .1)
 
 few : (c : tie.After-enum-told) → length (c .before .before .before .before .before .before .args .rows .now) ≤ mostNodes
-few c = omega (arith, handed-holds _ _ _ (told c) .few, length-map (c .before .before .before .before .before .before .args .rows .now) rowOf)
+few c = omega (arith, writer-holds _ _ _ (told c) .few, length-map (c .before .before .before .before .before .before .args .rows .now) rowOf)
 
 returns : tie.Need-returns
 returns c = (

@@ -1,6 +1,6 @@
 use mathlib.Core.Path.{_∙_, ap, sym}
 use Rattle.plan_file.specs.Answers.{readGives}
-use Rattle.planner_c.specs.Returned.{filled}
+use Rattle.planner_c.specs.Returned.{zeroPadded}
 use borrow.Author.Needs.{needs}
 use Rattle.planner_c.proofs.maiplur_read.Statement.{statement}
 use Rattle.planner_c.proofs.maiplur_read.Tie as tie
@@ -29,7 +29,7 @@ same-length-2 c = search needs
 returns : tie.Need-returns
 returns c =
     let e = c .before .before .before .before .before .before .before .before .before .read-plan .ensures in (
-      c .give .ensures ∙ ap filled (sym (ap readGives (c .before .before .before .read .given .1)) ∙ e .0 .answer),
+      c .give .ensures ∙ ap zeroPadded (sym (ap readGives (c .before .before .before .read .given .1)) ∙ e .0 .answer),
       (rw (e .0 .answer) at (e .0 .rowsThere), (rw (e .0 .answer) at (e .0 .wordsThere), rw (e .0 .answer) at (e .1))),
     )
 
@@ -42,7 +42,7 @@ same-length-4 c = search needs
 returns-2 : tie.Need-returns-2
 returns-2 c =
     let e = c .before .before .before .before .before .before .before .before .before .read-plan .ensures in (
-      c .refuse .ensures ∙ ap filled (sym (ap readGives (c .before .before .before .read2 .given .1)) ∙ e .0 .answer),
+      c .refuse .ensures ∙ ap zeroPadded (sym (ap readGives (c .before .before .before .read2 .given .1)) ∙ e .0 .answer),
       (rw (e .0 .answer) at (e .0 .rowsThere), (rw (e .0 .answer) at (e .0 .wordsThere), rw (e .0 .answer) at (e .1))),
     )
 

@@ -4,9 +4,9 @@ use native.Mathlib.Nat.{mul-le-mul}
 use native.Mathlib.Omega.{arith}
 use borrow.Author.Needs.{needs}
 use Rattle.task_model.specs.Limits.{mostTicks}
-use Rattle.completion.proofs.Releases.{beside-limit, beside-all}
-use Rattle.completion.proofs.beside_share.Statement.{statement}
-use Rattle.completion.proofs.beside_share.Tie as tie
+use Rattle.completion.proofs.Releases.{same-level-limit, same-level-all}
+use Rattle.completion.proofs.same_level_interference.Statement.{statement}
+use Rattle.completion.proofs.same_level_interference.Tie as tie
 
 product : (x y : ℕ) → x ≤ mostTicks → y ≤ 256 → x * y ≤ mostTicks * 256
 product x y p q = mul-le-mul p q
@@ -30,17 +30,17 @@ mul-result c =
 
 returns : tie.Need-returns
 returns c =
-    sym (beside-limit _ (c .before .before .before .pre .0) _ _ (c .before .if1 .taken))
+    sym (same-level-limit _ (c .before .before .before .pre .0) _ _ (c .before .if1 .taken))
 
-urgent-share-requires : tie.Need-urgent-share-requires
-urgent-share-requires c κs = search needs
+higher-level-interference-requires : tie.Need-higher-level-interference-requires
+higher-level-interference-requires c κs = search needs
 
 returns-2 : tie.Need-returns-2
 returns-2 c =
-    c .urgent-share .ensures ∙ sym (beside-all _ (c .before .before .before .pre .0) _ _ (c .before .if1 .left))
+    c .higher-level-interference .ensures ∙ sym (same-level-all _ (c .before .before .before .pre .0) _ _ (c .before .if1 .left))
 
-pub beside-share-spec : {M : Type 1} → statement M
-beside-share-spec =
+pub same-level-interference-spec : {M : Type 1} → statement M
+same-level-interference-spec =
     tie.close
     (tie.spec
     cast-if1
@@ -49,5 +49,5 @@ beside-share-spec =
     add-result
     mul-result
     returns
-    urgent-share-requires
+    higher-level-interference-requires
     returns-2)

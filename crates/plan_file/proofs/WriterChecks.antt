@@ -12,7 +12,7 @@ use Rattle.refusals.specs.Refusals.{Numbered, at, Outcome, accepted, refused, _
 use Rattle.task_model.proofs.Tests.{and-true, decided}
 use Rattle.plan_file.specs.declared.Row.{Row}
 use Rattle.plan_file.specs.Plan.{mostNodes, entryCount}
-use Rattle.plan_file.specs.Check.{countTest, rowsCheck, nodesCheck, handedCheck}
+use Rattle.plan_file.specs.Check.{countTest, rowsCheck, nodesCheck, writerCheck}
 use Rattle.refusals.proofs.Outcomes.{both-accepted, then-assoc, demanded}
 
 pub count-true : (n : ℕ) → 1 ≤ n → n ≤ mostNodes → countTest n ≡ true
@@ -36,20 +36,20 @@ tally-holds rows words p =
     let q = both-accepted (rowsCheck 0 0 rows) _ p in (q .0, eqb-true _ _ (demanded _ _ (q .1)))
 
 module _ (rows : List Row) (entries : List Entry) (words : ℕ) where
-  regrouped : handedCheck rows entries words
+  regrouped : writerCheck rows entries words
       ≡ mustHold (countTest (length rows)) (at 3 0 0) andThen (tally rows words andThen nodesCheck 0 rows entries)
-  unfolding handedCheck
+  unfolding writerCheck
   regrouped = ap (λ o. mustHold (countTest (length rows)) (at 3 0 0) andThen o) (sym (then-assoc (rowsCheck 0 0 rows) _ _))
 
-  pub handed-count : countTest (length rows) ≡ false → handedCheck rows entries words ≡ refused (at 3 0 0)
-  handed-count p = regrouped ∙ rw p
+  pub writer-count : countTest (length rows) ≡ false → writerCheck rows entries words ≡ refused (at 3 0 0)
+  writer-count p = regrouped ∙ rw p
 
   module _ (h : countTest (length rows) ≡ true) where
-    pub handed-tally : (r : Numbered) → tally rows words ≡ refused r → handedCheck rows entries words ≡ refused r
-    handed-tally r p = regrouped ∙ rw (h, p)
+    pub writer-tally : (r : Numbered) → tally rows words ≡ refused r → writerCheck rows entries words ≡ refused r
+    writer-tally r p = regrouped ∙ rw (h, p)
 
-    pub handed-nodes : tally rows words ≡ accepted → handedCheck rows entries words ≡ nodesCheck 0 rows entries
-    handed-nodes p = regrouped ∙ rw (h, p)
+    pub writer-nodes : tally rows words ≡ accepted → writerCheck rows entries words ≡ nodesCheck 0 rows entries
+    writer-nodes p = regrouped ∙ rw (h, p)
 
   pub record HandedHolds : Type 0 where
     pub some : 1 ≤ length rows
@@ -58,8 +58,8 @@ module _ (rows : List Row) (entries : List Entry) (words : ℕ) where
     pub counts : words ≡ entryCount rows * entrySize
     pub nodes : nodesCheck 0 rows entries ≡ accepted
 
-  pub handed-holds : handedCheck rows entries words ≡ accepted → HandedHolds
-  handed-holds p =
+  pub writer-holds : writerCheck rows entries words ≡ accepted → HandedHolds
+  writer-holds p =
       let p1 = both-accepted (mustHold (countTest (length rows)) (at 3 0 0)) _ (sym regrouped ∙ p) in
       let p2 = both-accepted (tally rows words) _ (p1 .1) in
       let n = count-hold _ (demanded _ _ (p1 .0)) in

@@ -3,19 +3,19 @@ use mathlib.Core.Path.{_≡_, _∙_, sym}
 use native.Mathlib.Omega.{arith}
 use borrow.Author.Needs.{needs}
 use Rattle.node_words.specs.Words.{entriesOf}
-use Rattle.on_time.specs.Behind.{lateByRuns, behindLast, behindLate}
+use Rattle.on_time.specs.StartBound.{lateByRuns, pastLast, startBound}
 use Rattle.completion.proofs.Bounds.{mostRuns}
 use Rattle.completion.proofs.Words.{words-times, wcet-small}
-use Rattle.on_time.proofs.Behind.{last-none, last-found, last-kept, runs-late, runs-fit}
-use Rattle.on_time.proofs.behind_late.Statement.{statement}
-use Rattle.on_time.proofs.behind_late.Tie as tie
+use Rattle.on_time.proofs.StartBound.{last-none, last-found, last-kept, runs-late, runs-fit}
+use Rattle.on_time.proofs.start_bound.Statement.{statement}
+use Rattle.on_time.proofs.start_bound.Tie as tie
 
 abbrev Inv-loop : tie.InvT-loop
-Inv-loop words count end runs behind₀ i₀ behind i =
-    (behind ≡ behindLast (lateByRuns (entriesOf words count) end) i) × (i ≤ end) × (runs ≤ mostRuns)
+Inv-loop words count end runs behind₀ i₀ bound i =
+    (bound ≡ pastLast (lateByRuns (entriesOf words count) end) i) × (i ≤ end) × (runs ≤ mostRuns)
 
 abbrev μ-loop : tie.MeasureT-loop
-μ-loop words count end runs behind₀ i₀ behind i = end - i
+μ-loop words count end runs behind₀ i₀ bound i = end - i
 
 loop-holds : tie.Need-loop-holds Inv-loop μ-loop
 loop-holds c =
@@ -59,8 +59,8 @@ loop-again c =
       l .inv .2,
     )
 
-add-behind : tie.Need-add-behind Inv-loop μ-loop
-add-behind c = omega arith
+add-bound : tie.Need-add-bound Inv-loop μ-loop
+add-bound c = omega arith
 
 add-i-2 : tie.Need-add-i-2 Inv-loop μ-loop
 add-i-2 c = omega arith
@@ -80,14 +80,14 @@ loop-again-2 c =
     )
 
 returns : tie.Need-returns Inv-loop μ-loop
-unfolding behindLate
+unfolding startBound
 returns c =
     let l = c .before .loop in
     let e : l .i ≡ c .before .before .args .end = omega arith in
     rw e at (l .inv .0)
 
-pub behind-late-spec : {M : Type 1} → statement M
-behind-late-spec =
+pub start-bound-spec : {M : Type 1} → statement M
+start-bound-spec =
     tie.close
     (tie.spec
     Inv-loop
@@ -101,7 +101,7 @@ behind-late-spec =
     add-i
     loop-less
     loop-again
-    add-behind
+    add-bound
     add-i-2
     loop-less-2
     loop-again-2

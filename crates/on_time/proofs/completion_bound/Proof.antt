@@ -5,26 +5,26 @@ use native.Mathlib.Omega.{arith}
 use borrow.Author.Needs.{needs}
 use Rattle.node_words.specs.Words.{entryOf}
 use Rattle.completion.specs.Demand.{sumTo}
-use Rattle.on_time.specs.Load.{one}
+use Rattle.on_time.specs.Utilisation.{fullUtilisation}
 use Rattle.completion.proofs.Sums.{sumTo-le}
 use Rattle.completion.proofs.Words.{wcetOf}
-use Rattle.on_time.proofs.Load.{run-most}
-use Rattle.on_time.proofs.Early.{loadOf, runOf, ceil-least}
-use Rattle.on_time.proofs.earliest.Statement.{statement}
-use Rattle.on_time.proofs.earliest.Tie as tie
+use Rattle.on_time.proofs.Utilisation.{run-most}
+use Rattle.on_time.proofs.Early.{utilisationOf, runOf, ceil-least}
+use Rattle.on_time.proofs.completion_bound.Statement.{statement}
+use Rattle.on_time.proofs.completion_bound.Tie as tie
 
 recurring-sum-requires : tie.Need-recurring-sum-requires
 recurring-sum-requires c κs = search needs
 
-free-share-requires : tie.Need-free-share-requires
-free-share-requires c κs = search needs
+spare-utilisation-requires : tie.Need-spare-utilisation-requires
+spare-utilisation-requires c κs = search needs
 
 add-result : tie.Need-add-result
 add-result c = search needs
 
 -- the load never stands for all that the test starts with
 module _ (c : tie.After-recurring-sum) where
-  less : c .recurring-sum .result .runs + 1 ≤ c .before .args .start
+  less : c .recurring-sum .result .runs + 1 ≤ c .before .args .initial
   less =
       let d = c .before .args .limit in
       let ws = c .before .args .words .now in
@@ -39,26 +39,26 @@ returns : tie.Need-returns
 returns c = (
   omega arith,
   λ t h w.
-      let none : one - sumTo (loadOf (c .before .before .before .args .limit) (c .before .before .before .args .words .now))
+      let none : fullUtilisation - sumTo (utilisationOf (c .before .before .before .args .limit) (c .before .before .before .args .words .now))
       (c .before .before .before .args .first) ≡ 0 =
-      omega (arith, c .if1 .taken, c .before .free-share .ensures, c .before .before .recurring-sum .ensures .0) in
+      omega (arith, c .if1 .taken, c .before .spare-utilisation .ensures, c .before .before .recurring-sum .ensures .0) in
       absurd (omega (arith, less (c .before .before), c .before .before .recurring-sum .ensures .1, rw (none, zero-mul t) at w)),
 )
 
-sub-by-load : tie.Need-sub-by-load
-sub-by-load c = omega (arith, less (c .before .before .before))
+sub-by-utilisation : tie.Need-sub-by-utilisation
+sub-by-utilisation c = omega (arith, less (c .before .before .before))
 
-mul-by-load : tie.Need-mul-by-load
-mul-by-load c = search needs
+mul-by-utilisation : tie.Need-mul-by-utilisation
+mul-by-utilisation c = search needs
 
-sub-by-load-2 : tie.Need-sub-by-load-2
-sub-by-load-2 c = search needs
+sub-by-utilisation-2 : tie.Need-sub-by-utilisation-2
+sub-by-utilisation-2 c = search needs
 
-add-by-load : tie.Need-add-by-load
-add-by-load c = search needs
+add-by-utilisation : tie.Need-add-by-utilisation
+add-by-utilisation c = search needs
 
-div-by-load : tie.Need-div-by-load
-div-by-load c = search needs
+div-by-utilisation : tie.Need-div-by-utilisation
+div-by-utilisation c = search needs
 
 returns-2 : tie.Need-returns-2
 returns-2 c = search needs
@@ -69,24 +69,24 @@ returns-3 c = (
   λ t h w.
       ceil-least _ _ t (omega (arith, c .before .before .if1 .left))
       (rw (
-        c .before .before .before .free-share .ensures,
+        c .before .before .before .spare-utilisation .ensures,
         c .before .before .before .before .recurring-sum .ensures .0,
         c .before .before .before .before .recurring-sum .ensures .1,
       ) w),
 )
 
-pub earliest-spec : {M : Type 1} → statement M
-earliest-spec =
+pub completion-bound-spec : {M : Type 1} → statement M
+completion-bound-spec =
     tie.close
     (tie.spec
     recurring-sum-requires
-    free-share-requires
+    spare-utilisation-requires
     add-result
     returns
-    sub-by-load
-    mul-by-load
-    sub-by-load-2
-    add-by-load
-    div-by-load
+    sub-by-utilisation
+    mul-by-utilisation
+    sub-by-utilisation-2
+    add-by-utilisation
+    div-by-utilisation
     returns-2
     returns-3)

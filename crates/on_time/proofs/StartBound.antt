@@ -16,32 +16,32 @@ use Rattle.task_model.proofs.Tests.{true-or-false}
 use Rattle.completion.specs.Demand.{sumTo}
 use Rattle.completion.specs.Group.{groupLevel}
 use Rattle.completion.specs.Test.{limit, testWith, isOnTime}
-use Rattle.on_time.specs.Behind.{lateByRuns, behindLast, behindLate}
-use Rattle.completion.proofs.Groups.{wcetIn, named-group, start-in}
+use Rattle.on_time.specs.StartBound.{lateByRuns, pastLast, startBound}
+use Rattle.completion.proofs.Groups.{wcetIn, named-group, initial-in}
 use Rattle.completion.proofs.Words.{in-words, wcetOf}
 use Rattle.completion.proofs.Theorems.{not-before, late-none}
 
 module _ (test : ℕ → Bool) where
-  pub last-none : behindLast test 0 ≡ 0
-  unfolding behindLast
+  pub last-none : pastLast test 0 ≡ 0
+  unfolding pastLast
   last-none = refl
 
-  suc-found : (n : ℕ) → test n ≡ true → behindLast test (suc n) ≡ suc n
-  unfolding behindLast
-  suc-found n p = rw (p, behindLast)
+  suc-found : (n : ℕ) → test n ≡ true → pastLast test (suc n) ≡ suc n
+  unfolding pastLast
+  suc-found n p = rw (p, pastLast)
 
-  suc-kept : (n : ℕ) → test n ≡ false → behindLast test (suc n) ≡ behindLast test n
-  unfolding behindLast
-  suc-kept n p = rw (p, behindLast)
+  suc-kept : (n : ℕ) → test n ≡ false → pastLast test (suc n) ≡ pastLast test n
+  unfolding pastLast
+  suc-kept n p = rw (p, pastLast)
 
   -- one position more, at which the test holds or does not
-  pub last-found : (n : ℕ) → test n ≡ true → behindLast test (n + 1) ≡ n + 1
+  pub last-found : (n : ℕ) → test n ≡ true → pastLast test (n + 1) ≡ n + 1
   last-found n p = rw add-one (suc-found n p)
 
-  pub last-kept : (n : ℕ) → test n ≡ false → behindLast test (n + 1) ≡ behindLast test n
+  pub last-kept : (n : ℕ) → test n ≡ false → pastLast test (n + 1) ≡ pastLast test n
   last-kept n p = rw add-one (suc-kept n p)
 
-  last-most : (n : ℕ) → behindLast test n ≤ n
+  last-most : (n : ℕ) → pastLast test n ≤ n
   last-most zero = omega (arith, last-none)
   last-most (suc n) =
       ⊎-elim
@@ -50,7 +50,7 @@ module _ (test : ℕ → Bool) where
       (true-or-false (test n))
 
   -- it is behind a position at which the test holds
-  last-holds : (n i : ℕ) → behindLast test n ≡ suc i → test i ≡ true
+  last-holds : (n i : ℕ) → pastLast test n ≡ suc i → test i ≡ true
   last-holds zero i e = absurd (omega (arith, last-none))
   last-holds (suc n) i e =
       ⊎-elim
@@ -59,23 +59,23 @@ module _ (test : ℕ → Bool) where
       (true-or-false (test n))
 
 -- It is not behind `end`,
-pub behind-most : (es : List Entry) (end : ℕ) → behindLate es end ≤ end
-unfolding behindLate
-behind-most es end = last-most (lateByRuns es end) end
+pub past-most : (es : List Entry) (end : ℕ) → startBound es end ≤ end
+unfolding startBound
+past-most es end = last-most (lateByRuns es end) end
 
 -- and the entry before it is late in each group that ends just before `end` and has it, with its own B or more.
-pub behind-late : (es : List Entry) → AllHold es → (end : ℕ) → end ≤ length es
-    → (i first : ℕ) → behindLate es end ≡ i + 1 → first ≤ i → (b : ℕ) → entryAt es i .blocking ≤ b
+pub start-bound : (es : List Entry) → AllHold es → (end : ℕ) → end ≤ length es
+    → (i first : ℕ) → startBound es end ≡ i + 1 → first ≤ i → (b : ℕ) → entryAt es i .blocking ≤ b
     → isOnTime (testWith b es (groupLevel first (end - 1)) i) ≡ false
-unfolding behindLate lateByRuns
-behind-late es all end h i first e hf b more =
-    let l : i < end = omega (arith, behind-most es end) in
+unfolding startBound lateByRuns
+start-bound es all end h i first e hf b more =
+    let l : i < end = omega (arith, past-most es end) in
     let short : limit (entryAt es i) < entryAt es i .blocking + sumTo (wcetIn es) end =
     ltb-true _ _ (last-holds (lateByRuns es end) end i (rw add-one at e)) in
     let known : i < length es = omega arith in
     let level = groupLevel first (end - 1) in
     let group = named-group first (end - 1) (length es) i hf (omega arith) in
-    let begin = start-in es first (end - 1) i level group hf (omega arith) (omega arith) b in
+    let begin = initial-in es first (end - 1) i level group hf (omega arith) (omega arith) b in
     let whole : (end - 1) + 1 ≡ end = omega arith in
     late-none b es all level i known .1 (λ t due w. omega (arith, rw whole at begin, not-before b es all level i known t w))
 

@@ -13,24 +13,24 @@ use lib.Dec.{ltb, leb, eqb}
 use borrow.Author.Tests.{lt-ltb, le-ltb, le-leb, lt-leb, eq-eqb, ne-eqb}
 use Rattle.task_model.specs.declared.Entry.{Entry}
 use Rattle.task_model.specs.Limits.{entryAt, TimesHold, AllHold}
-use Rattle.completion.specs.Demand.{releases, sumTo, only, moreUrgent, beside, urgentShare, besideShare, demandWith, startWith}
+use Rattle.completion.specs.Demand.{releases, sumTo, only, moreUrgent, sharesLevel, higherLevelInterference, sameLevelInterference, demandWith, initialTimeWith}
 use Rattle.task_model.proofs.Tests.{true-or-false}
 use Rattle.completion.proofs.Sums.{sumTo-le, sumTo-eq, sumTo-add, sumTo-strict, sumTo-one}
-use Rattle.completion.proofs.Releases.{releases-up, releases-some, urgent-up, beside-up, urgent-first, beside-first}
+use Rattle.completion.proofs.Releases.{releases-up, releases-some, higher-level-up, same-level-up, higher-level-first, same-level-first}
 
 -- What the entry at j adds to the demand at t of the entry at i.
 abbrev pub share : List Entry → (ℕ → ℕ) → ℕ → ℕ → ℕ → ℕ
 share es lv i t j =
-    only (moreUrgent lv i j) (urgentShare (entryAt es j) t) + only (beside lv i j) (besideShare (entryAt es j) (entryAt es i .calls) t)
+    only (moreUrgent lv i j) (higherLevelInterference (entryAt es j) t) + only (sharesLevel lv i j) (sameLevelInterference (entryAt es j) (entryAt es i .calls) t)
 
-pub demand-shares : (b : ℕ) (es : List Entry) (lv : ℕ → ℕ) (i t : ℕ)
+pub demand-interferences : (b : ℕ) (es : List Entry) (lv : ℕ → ℕ) (i t : ℕ)
     → demandWith b es lv i t ≡ entryAt es i .wcet + b + sumTo (share es lv i t) (length es)
 unfolding demandWith
-demand-shares b es lv i t =
+demand-interferences b es lv i t =
     omega (
       arith,
-      sumTo-add (λ j. only (moreUrgent lv i j) (urgentShare (entryAt es j) t))
-          (λ j. only (beside lv i j) (besideShare (entryAt es j) (entryAt es i .calls) t)) (length es),
+      sumTo-add (λ j. only (moreUrgent lv i j) (higherLevelInterference (entryAt es j) t))
+          (λ j. only (sharesLevel lv i j) (sameLevelInterference (entryAt es j) (entryAt es i .calls) t)) (length es),
     )
 
 only-le : (b : Bool) (x y : ℕ) → x ≤ y → only b x ≤ only b y
@@ -92,37 +92,37 @@ module _ (es : List Entry) (all : AllHold es) (lv : ℕ → ℕ) (i : ℕ) (hi :
   demand-up c a b l =
       omega (
         arith,
-        demand-shares c es lv i a,
-        demand-shares c es lv i b,
+        demand-interferences c es lv i a,
+        demand-interferences c es lv i b,
         sumTo-le (share es lv i a) (share es lv i b) (length es)
             (λ j h.
             omega (
               arith,
-              only-le (moreUrgent lv i j) _ _ (urgent-up (entryAt es j) (times j h) a b l),
-              only-le (beside lv i j) _ _ (beside-up (entryAt es j) (times j h) (entryAt es i .calls) a b l),
+              only-le (moreUrgent lv i j) _ _ (higher-level-up (entryAt es j) (times j h) a b l),
+              only-le (sharesLevel lv i j) _ _ (same-level-up (entryAt es j) (times j h) (entryAt es i .calls) a b l),
             )),
       )
 
   -- It is at least the entry's own run.
   pub demand-some : (b t : ℕ) → 1 ≤ demandWith b es lv i t
-  demand-some b t = omega (arith, demand-shares b es lv i t, times i hi)
+  demand-some b t = omega (arith, demand-interferences b es lv i t, times i hi)
 
   -- The test starts at the demand of the first tick.
-  pub start-first : (b : ℕ) → startWith b es lv i ≡ demandWith b es lv i 1
-  unfolding startWith
-  start-first b =
+  pub initial-first : (b : ℕ) → initialTimeWith b es lv i ≡ demandWith b es lv i 1
+  unfolding initialTimeWith
+  initial-first b =
       let n = length es in
       let urgent : ℕ → ℕ = λ j. only (moreUrgent lv i j) (entryAt es j .wcet) in
-      let other : ℕ → ℕ = λ j. only (beside lv i j) (entryAt es j .wcet) in
+      let other : ℕ → ℕ = λ j. only (sharesLevel lv i j) (entryAt es j .wcet) in
       let own : ℕ → ℕ = λ j. only (eqb j i) (entryAt es j .wcet) in
       let parts = sumTo-eq (λ j. only (leb (lv j) (lv i)) (entryAt es j .wcet)) (λ j. urgent j + other j + own j) n
       (λ j h. split (lv j) (lv i) j i (entryAt es j .wcet) (λ e. ap lv e)) in
       let shares = sumTo-eq (share es lv i 1) (λ j. urgent j + other j) n
-      (λ j h. ap₂ (λ x y. only (moreUrgent lv i j) x + only (beside lv i j) y)
-      (urgent-first (entryAt es j) (times j h)) (beside-first (entryAt es j) (times j h) (entryAt es i .calls))) in
+      (λ j h. ap₂ (λ x y. only (moreUrgent lv i j) x + only (sharesLevel lv i j) y)
+      (higher-level-first (entryAt es j) (times j h)) (same-level-first (entryAt es j) (times j h) (entryAt es i .calls))) in
       omega (
         arith,
-        demand-shares b es lv i 1,
+        demand-interferences b es lv i 1,
         shares,
         parts,
         sumTo-add (λ j. urgent j + other j) own n,
@@ -137,14 +137,14 @@ module _ (es : List Entry) (all : AllHold es) (lv : ℕ → ℕ) (i : ℕ) (hi :
 
   rises : (a b : ℕ) → 1 ≤ a → a ≤ b → (j : ℕ) → j < length es
       → (later es lv i a j < later es lv i b j) ⊎ ((later es lv i a j ≡ later es lv i b j) × (share es lv i a j ≡ share es lv i b j))
-  unfolding urgentShare besideShare
+  unfolding higherLevelInterference sameLevelInterference
   rises a b p l j h =
       ⊎-elim
       (λ e.
       inr (
         ap (λ x. only (leb (lv j) (lv i) && not (eqb j i)) (x - 1)) e,
         ap
-            (λ x. only (moreUrgent lv i j) (entryAt es j .wcet * x) + only (beside lv i j) (entryAt es j .wcet * min x (entryAt es i .calls + 1)))
+            (λ x. only (moreUrgent lv i j) (entryAt es j .wcet * x) + only (sharesLevel lv i j) (entryAt es j .wcet * min x (entryAt es i .calls + 1)))
             e,
       ))
       (λ (k : releases (entryAt es j) a < releases (entryAt es j) b).
@@ -161,5 +161,5 @@ module _ (es : List Entry) (all : AllHold es) (lv : ℕ → ℕ) (i : ℕ) (hi :
   later-strict c a b p l h =
       ⊎-elim
       (λ k. k)
-      (λ k. absurd (omega (arith, demand-shares c es lv i a, demand-shares c es lv i b)))
+      (λ k. absurd (omega (arith, demand-interferences c es lv i a, demand-interferences c es lv i b)))
       (sumTo-strict (later es lv i a) (later es lv i b) (share es lv i a) (share es lv i b) (length es) (rises a b p l))

@@ -3,16 +3,16 @@ use mathlib.Core.Path.{_≡_, sym}
 use native.Mathlib.Omega.{arith}
 use Rattle.node_words.specs.Words.{entryOf}
 use Rattle.node_words.proofs.Entries.{all-at}
-use Rattle.completion.specs.Demand.{sumTo, urgentShare}
-use Rattle.completion.proofs.Bounds.{mostShare}
+use Rattle.completion.specs.Demand.{sumTo, higherLevelInterference}
+use Rattle.completion.proofs.Bounds.{mostInterference}
 use Rattle.completion.proofs.Sums.{sumTo-none, sumTo-step, sumTo-all}
-use Rattle.completion.proofs.Releases.{urgent-most}
-use Rattle.completion.proofs.urgent_sum.Statement.{statement}
-use Rattle.completion.proofs.urgent_sum.Tie as tie
+use Rattle.completion.proofs.Releases.{higher-level-most}
+use Rattle.completion.proofs.higher_level_sum.Statement.{statement}
+use Rattle.completion.proofs.higher_level_sum.Tie as tie
 
 abbrev Inv-loop : tie.InvT-loop
 Inv-loop words end t sum₀ j₀ sum j =
-    (j ≤ end) × (sum ≤ mostShare * j) × (sum ≡ sumTo (λ k. urgentShare (entryOf words k) t) j)
+    (j ≤ end) × (sum ≤ mostInterference * j) × (sum ≡ sumTo (λ k. higherLevelInterference (entryOf words k) t) j)
 
 abbrev μ-loop : tie.MeasureT-loop
 μ-loop words end t sum₀ j₀ sum j = end - j
@@ -23,26 +23,26 @@ loop-holds c = (omega arith, omega arith, sym (sumTo-none _))
 entry-at-requires : tie.Need-entry-at-requires Inv-loop μ-loop
 entry-at-requires c κs = omega arith
 
-urgent-share-requires : tie.Need-urgent-share-requires Inv-loop μ-loop
-urgent-share-requires c κs =
+higher-level-interference-requires : tie.Need-higher-level-interference-requires Inv-loop μ-loop
+higher-level-interference-requires c κs =
     let p = c .before .before .before .pre in
     (rw (c .entry-at .ensures) (all-at _ _ (p .0) _ (c .before .loop-test .taken) .times), p .1 .1)
 
 -- the share of the entry at hand
-module _ (c : tie.After-urgent-share Inv-loop μ-loop) where
+module _ (c : tie.After-higher-level-interference Inv-loop μ-loop) where
   abbrev at-start : tie.Start Inv-loop μ-loop
   at-start = c .before .before .before .before
 
   abbrev at-loop : tie.At-loop Inv-loop μ-loop
   at-loop = c .before .before .before
 
-  shared : c .urgent-share .result ≡ urgentShare (entryOf (at-start .args .words .now) (at-loop .loop .j)) (at-start .args .t)
-  shared = rw (c .before .entry-at .ensures) at (c .urgent-share .ensures)
+  shared : c .higher-level-interference .result ≡ higherLevelInterference (entryOf (at-start .args .words .now) (at-loop .loop .j)) (at-start .args .t)
+  shared = rw (c .before .entry-at .ensures) at (c .higher-level-interference .ensures)
 
-  few : c .urgent-share .result ≤ mostShare
+  few : c .higher-level-interference .result ≤ mostInterference
   few =
       rw shared
-      (urgent-most _ (all-at _ _ (at-start .pre .0) _ (c .before .before .loop-test .taken) .times) _ (omega arith))
+      (higher-level-most _ (all-at _ _ (at-start .pre .0) _ (c .before .before .loop-test .taken) .times) _ (omega arith))
 
 add-sum : tie.Need-add-sum Inv-loop μ-loop
 add-sum c = omega (arith, few c)
@@ -59,15 +59,15 @@ loop-again c = (omega arith, omega (arith, few c), sumTo-step _ _ _ _ (c .before
 returns : tie.Need-returns Inv-loop μ-loop
 returns c = sumTo-all _ _ _ _ (c .before .loop .inv .2) (omega arith)
 
-pub urgent-sum-spec : {M : Type 1} → statement M
-urgent-sum-spec =
+pub higher-level-sum-spec : {M : Type 1} → statement M
+higher-level-sum-spec =
     tie.close
     (tie.spec
     Inv-loop
     μ-loop
     loop-holds
     entry-at-requires
-    urgent-share-requires
+    higher-level-interference-requires
     add-sum
     add-j
     loop-less

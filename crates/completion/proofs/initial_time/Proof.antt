@@ -2,9 +2,9 @@ use Prim.Native.Nat.{_+_}
 use mathlib.Core.Path.{_∙_, ap, sym}
 use native.Mathlib.Omega.{arith}
 use Rattle.node_words.proofs.Entries.{all-fewer}
-use Rattle.completion.proofs.Words.{words-start, wcet-small}
-use Rattle.completion.proofs.start_at.Statement.{statement}
-use Rattle.completion.proofs.start_at.Tie as tie
+use Rattle.completion.proofs.Words.{words-initial, wcet-small}
+use Rattle.completion.proofs.initial_time.Statement.{statement}
+use Rattle.completion.proofs.initial_time.Tie as tie
 
 add-wcet-sum : tie.Need-add-wcet-sum
 add-wcet-sum c = omega arith
@@ -19,7 +19,7 @@ add-result c =
 returns : tie.Need-returns
 returns c =
     ap (λ x. c .before .args .blocking + x) (c .wcet-sum .ensures)
-    ∙ sym (words-start _ _ _ _ _ (omega arith) (omega arith) (omega arith) _)
+    ∙ sym (words-initial _ _ _ _ _ (omega arith) (omega arith) (omega arith) _)
 
-pub start-at-spec : {M : Type 1} → statement M
-start-at-spec = tie.close (tie.spec add-wcet-sum wcet-sum-requires add-result returns)
+pub initial-time-spec : {M : Type 1} → statement M
+initial-time-spec = tie.close (tie.spec add-wcet-sum wcet-sum-requires add-result returns)

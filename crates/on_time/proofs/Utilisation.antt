@@ -1,0 +1,143 @@
+-- The load of the more urgent entries, as a bound on the time at which a demand can be met.
+use Prim.Native.Nat.{ℕ, zero, suc, _+_, _-_, _*_, _/_, _≤_, _<_, zero-le}
+use mathlib.Core.Path.{_≡_, refl, sym}
+use mathlib.Core.Logic.{by-cases}
+use mathlib.Core.List.{List}
+use native.Mathlib.Nat.{le-trans, zero-mul, add-mul, mul-assoc, mul-le-mul-left, mul-le-mul-right, div-mul-le-self, div-lt-iff-lt-mul}
+use native.Mathlib.Decide.{decLe, decLt}
+use native.Mathlib.Omega.{arith}
+use lib.ListN.{length}
+use borrow.Author.Tests.{lt-ltb, le-ltb}
+use Rattle.task_model.specs.declared.Entry.{Entry}
+use Rattle.task_model.specs.Limits.{entryAt, TimesHold, AllHold}
+use Rattle.completion.specs.Demand.{releases, sumTo, higherLevelInterference, demandWith, initialTimeWith}
+use Rattle.completion.specs.Group.{groupLevel}
+use Rattle.on_time.specs.Utilisation.{fullUtilisation, utilisation, recurringUtilisation, recurringWcet}
+use Rattle.completion.proofs.Releases.{releases-more, higher-level-first, higher-level-up, same-level-first, same-level-up}
+use Rattle.completion.proofs.Sums.{sumTo-none, sumTo-suc, sumTo-more, sumTo-up, sumTo-le, part-le}
+use Rattle.completion.proofs.Interference.{demand-some}
+use Rattle.completion.proofs.Groups.{higherLevelIn, sameLevelIn, wcetIn, named-group, demand-in, initial-in}
+
+-- t ticks are covered by the periods that begin in them
+covered : (e : Entry) → 1 ≤ e .period → (t : ℕ) → t ≤ e .period * releases e t
+covered e h t =
+    by-cases (decLe t (e .period * releases e t))
+    (λ p. p)
+    (λ p. absurd (omega (arith, releases-more e h t (releases e t) (omega arith))))
+
+utilisation-part : (e : Entry) → TimesHold e → (t : ℕ) → utilisation e * t ≤ fullUtilisation * higherLevelInterference e t
+unfolding utilisation higherLevelInterference
+utilisation-part e h t =
+    let q : ℕ = (fullUtilisation * e .wcet) / e .period in
+    let below : q * e .period ≤ fullUtilisation * e .wcet = div-mul-le-self (fullUtilisation * e .wcet) (e .period) in
+    let most : q * t ≤ q * (e .period * releases e t) = mul-le-mul-left q (covered e (omega arith) t) in
+    let runs : (q * e .period) * releases e t ≤ (fullUtilisation * e .wcet) * releases e t = mul-le-mul-right (releases e t) below in
+    omega (arith, sym (mul-assoc q (e .period) (releases e t)), mul-assoc fullUtilisation (e .wcet) (releases e t))
+
+-- no entry has a load above 1, since C is at most T
+utilisation-most : (e : Entry) → TimesHold e → utilisation e ≤ fullUtilisation
+unfolding utilisation
+utilisation-most e h =
+    let below : (fullUtilisation * e .wcet) / e .period < fullUtilisation + 1 =
+    div-lt-iff-lt-mul {k = e .period} {x = fullUtilisation * e .wcet} {y = fullUtilisation + 1} (omega arith) .1 (omega (arith, h .due, h .periodic)) in
+    omega arith
+
+-- what an entry adds to the sums of the code, by whether its period is shorter than the limit
+module _ (d : ℕ) (e : Entry) where
+  pub recurs : e .period < d → (recurringUtilisation d e ≡ utilisation e) × (recurringWcet d e ≡ e .wcet)
+  unfolding recurringUtilisation recurringWcet
+  recurs h = rw (lt-ltb (e .period) d h) (refl, refl)
+
+  pub recurs-not : d ≤ e .period → (recurringUtilisation d e ≡ 0) × (recurringWcet d e ≡ 0)
+  unfolding recurringUtilisation recurringWcet
+  recurs-not h = rw (le-ltb (e .period) d h) (refl, refl)
+
+  pub run-most : recurringWcet d e ≤ e .wcet
+  run-most =
+      by-cases (decLt (e .period) d)
+      (λ h. omega (arith, recurs h))
+      (λ h. omega (arith, recurs-not (omega arith)))
+
+  pub recurring-utilisation-most : TimesHold e → recurringUtilisation d e ≤ fullUtilisation
+  recurring-utilisation-most ok =
+      by-cases (decLt (e .period) d)
+      (λ h. omega (arith, recurs h, utilisation-most e ok))
+      (λ h. omega (arith, recurs-not (omega arith)))
+
+  -- one run, or the load times t, is no more than the share
+  recurring-runs : TimesHold e → (t : ℕ) → 1 ≤ t
+      → fullUtilisation * e .wcet + recurringUtilisation d e * t ≤ fullUtilisation * (higherLevelInterference e t + recurringWcet d e)
+  recurring-runs ok t p =
+      by-cases (decLt (e .period) d)
+      (λ h. rw (recurs h .0, recurs h .1) (omega (arith, utilisation-part e ok t)))
+      (λ h.
+      let no-utilisation = recurs-not (omega arith) in
+      rw (no-utilisation .0, no-utilisation .1, zero-mul t) (omega (arith, higher-level-first e ok, higher-level-up e ok 1 t p)))
+
+abbrev pub utilisationIn : ℕ → List Entry → ℕ → ℕ
+utilisationIn d es j = recurringUtilisation d (entryAt es j)
+
+abbrev pub runIn : ℕ → List Entry → ℕ → ℕ
+runIn d es j = recurringWcet d (entryAt es j)
+
+recurring-sum : (d : ℕ) (es : List Entry) (t n : ℕ) → 1 ≤ t → ((j : ℕ) → j < n → TimesHold (entryAt es j))
+    → fullUtilisation * sumTo (wcetIn es) n + sumTo (utilisationIn d es) n * t
+    ≤ fullUtilisation * (sumTo (higherLevelIn es t) n + sumTo (runIn d es) n)
+recurring-sum d es t zero p h =
+    rw (sumTo-none (wcetIn es), sumTo-none (utilisationIn d es), zero-mul t) zero-le
+recurring-sum d es t (suc n) p h =
+    let l = utilisationIn d es in
+    let more : (sumTo l n + l n) * t ≡ sumTo l n * t + l n * t = add-mul (sumTo l n) (l n) t in
+    rw (sumTo-suc l n)
+    (omega (
+      arith,
+      sumTo-suc (wcetIn es) n,
+      sumTo-suc (higherLevelIn es t) n,
+      sumTo-suc (runIn d es) n,
+      recurring-sum d es t n p (λ j k. h j (omega arith)),
+      recurring-runs d (entryAt es n) (h n (omega arith)) t p,
+    ))
+
+module _ (es : List Entry) (all : AllHold es) (first last i : ℕ) (hf : first ≤ i) (hi : i ≤ last) (hl : last < length es) where
+  once : (t a b : ℕ) → 1 ≤ t → a ≤ b → b ≤ last + 1
+      → sumTo (wcetIn es) b - sumTo (wcetIn es) a ≤ sumTo (sameLevelIn es i t) b - sumTo (sameLevelIn es i t) a
+  once t a b p ab l =
+      part-le (wcetIn es) (sameLevelIn es i t) a b ab
+      (λ j k.
+      let e = entryAt es j in
+      let ok = all j (omega arith) .times in
+      omega (arith, same-level-first e ok (entryAt es i .calls), same-level-up e ok (entryAt es i .calls) 1 t p))
+
+  -- The runs that the load stands for are among those that the test starts with.
+  pub runs-within : (d : ℕ) → sumTo (runIn d es) first ≤ sumTo (wcetIn es) first
+  runs-within d = sumTo-le (runIn d es) (wcetIn es) first (λ j k. run-most d (entryAt es j))
+
+  -- The demand is at least the start without those runs, and the load times t.
+  pub demand-utilisation : (b d t : ℕ) → 1 ≤ t
+      → fullUtilisation * (initialTimeWith b es (groupLevel first last) i - sumTo (runIn d es) first) + sumTo (utilisationIn d es) first * t
+      ≤ fullUtilisation * demandWith b es (groupLevel first last) i t
+  demand-utilisation b d t p =
+      let g = named-group first last (length es) i hf hi in
+      let named = demand-in es first last i (groupLevel first last) g hf hi hl b t in
+      let begin = initial-in es first last i (groupLevel first last) g hf hi hl b in
+      omega (
+        arith,
+        once t first i p hf (omega arith),
+        once t (i + 1) (last + 1) p (omega arith) (omega arith),
+        sumTo-more (wcetIn es) i,
+        sumTo-up (wcetIn es) first i hf,
+        sumTo-up (wcetIn es) (i + 1) (last + 1) (omega arith),
+        runs-within d,
+        recurring-sum d es t first p (λ j k. all j (omega arith) .times),
+      )
+
+  -- Where the demand is at most t, what runs once is at most what the load leaves free of t.
+  pub fits-by-utilisation : (b d t : ℕ) → demandWith b es (groupLevel first last) i t ≤ t
+      → fullUtilisation * (initialTimeWith b es (groupLevel first last) i - sumTo (runIn d es) first)
+      ≤ (fullUtilisation - sumTo (utilisationIn d es) first) * t
+  fits-by-utilisation b d t w =
+      let u = sumTo (utilisationIn d es) first in
+      let some : 1 ≤ t = le-trans (demand-some es all (groupLevel first last) i (omega arith) b t) w in
+      let both : ((fullUtilisation - u) + u) * t ≡ (fullUtilisation - u) * t + u * t = add-mul (fullUtilisation - u) u t in
+      let whole : fullUtilisation * t ≤ ((fullUtilisation - u) + u) * t = mul-le-mul-right t (omega arith) in
+      omega (arith, demand-utilisation b d t some)
