@@ -61,7 +61,7 @@ fn put_word(file: &mut [u8], at: usize, value: u32) {
     }
 }
 
-/// Copies a number's, a row's or an entry's length of bytes from the other file.
+/// Copies 4 bytes, or as many as a row or an entry has, from the other file.
 fn take_over(rng: &mut Rng, file: &mut [u8], other: &[u8]) {
     if other.is_empty() {
         return;

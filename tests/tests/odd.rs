@@ -16,10 +16,10 @@ use std::io::Write;
 /// round.
 ///
 /// For t ≤ D its demand W(t) is at least K + U t. K is its blocking, plus C of
-/// each entry of the group, plus C of each entry before the group with T ≥ D. U
-/// is the load of the other entries before the group. W(t) ≤ t gives K ≤ (1 -
-/// U) t. If U < 1, then K ≤ (1 - U) D; if U ≥ 1, this is impossible, since K >
-/// 0.
+/// each entry of the group, plus C of each entry before the group with T ≥ D.
+/// U is the load of the other entries before the group. So W(t) ≤ t gives
+/// K ≤ (1 - U) t. If U < 1, then K ≤ (1 - U) D. If U ≥ 1, there is no such t,
+/// because K > 0.
 fn surely_late(entries: &[Entry], start: usize, i: usize) -> bool {
     let own = &entries[i];
     let (short, long): (Vec<&Entry>, Vec<&Entry>) =
