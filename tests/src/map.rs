@@ -31,7 +31,7 @@ pub fn map_entries(entries: &[Entry], levels: u8) -> Option<Map> {
     }
 }
 
-/// Maps the node with this number: the whole file, then 9, 10 and 11.
+/// Maps the node with this number. Checks the whole file, then 9, 10 and 11.
 pub fn map_node(file: &[u8], number: u64, buffer: &mut [u8]) -> Result<u8, Refusal> {
     let plan = decode(file)?;
     let node = plan

@@ -16,7 +16,7 @@ pub struct Session {
 /// One operation on a session.
 #[derive(Clone, Copy, Debug, PartialEq, Eq)]
 pub enum Op {
-    /// Open anew with a level count, whatever the session holds.
+    /// Open again with a level count, whatever the session holds.
     Open(usize),
     /// Insert the entry before the position.
     Insert(usize, Entry),
