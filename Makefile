@@ -1,10 +1,10 @@
 PLAN ?= samples/p.plan
-# Through the environment, so that the shell takes any name as one word.
+# Passed through the environment, so that the shell takes any name as one word.
 export PLAN
 
 .PHONY: list test bench fuzz mutants wrong samples fmt
 
-# Proves and builds the listing program, if that was not done yet, and lists a plan file.
+# Proves and builds the listing program, unless that is already done, and lists a plan file.
 list:
 	@problem=; \
 	if test -z "$$PLAN"; then problem='PLAN is empty; name a plan file, as in PLAN=samples/p.plan'; \
@@ -21,27 +21,27 @@ list:
 test:
 	@bash .ci/run
 
-# Times of the proved library, of Rust tuned by hand and of plain Rust that do the same work (docs/BENCHMARKS.md).
+# Compares the speed of the proved library with tuned and with plain Rust that do the same work (docs/BENCHMARKS.md).
 # `make bench ONLY='list insert'` measures the rows with one of these words in their name.
 bench:
 	@cargo run --release --offline --quiet --manifest-path tests/Cargo.toml --bin bench -- $(ONLY)
 
-# Random files and rows of session operations against the second implementation, for MAIPLUR_SECONDS seconds (10); what it
-# finds goes to tests/corpus.
+# Compares the library with the second implementation on random files and sequences of session operations, for
+# MAIPLUR_SECONDS seconds (10 if unset). Inputs on which they differ go to tests/corpus.
 fuzz:
 	@cargo run --release --offline --quiet --manifest-path tests/Cargo.toml --bin fuzz
 
-# Small faults in the second implementation, one at a time, and the test that notices each (tests/mutants). All of them take
-# an hour or less; `make mutants ONLY='timing/ map/'` tries those with one of these in their name.
+# Makes small faults in the second implementation, one at a time, and names the test that notices each (tests/mutants). All
+# of them take an hour or less; `make mutants ONLY='timing/ map/'` tries those with one of these in their name.
 mutants:
 	@cargo run --release --offline --quiet --manifest-path tests/Cargo.toml --bin mutants -- $(ONLY)
 
-# The wrong programs that the prover must refuse, those of the gate and those beside it (docs/WRONG_PROGRAMS.md), tried in
-# a copy. All of them take half an hour; `make wrong ONLY='plan_file text'` tries those of some crates.
+# Tries all wrong programs, in a copy: the prover must refuse each (docs/WRONG_PROGRAMS.md). `make test` tries only some of
+# them. All take half an hour; `make wrong ONLY='plan_file text'` tries those of some crates.
 wrong:
 	@tools/wrong $(ONLY)
 
-# Writes samples/ anew.
+# Rewrites samples/.
 samples:
 	cargo run --release --quiet --manifest-path tests/Cargo.toml --bin samples samples
 

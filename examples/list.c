@@ -1,4 +1,4 @@
-/* Lists the plan file on standard input, and says of each of its nodes how many levels its map uses.
+/* Lists the plan file on standard input, and prints for each node how many levels its map uses.
  *
  * gcc -Iinclude examples/list.c target/staticlib/libplanner_c.a -o list && ./list < plan
  */
@@ -6,7 +6,7 @@
 
 #include <stdio.h>
 
-/* One byte more than a plan can have, so that a longer file is refused as such. */
+/* One byte more than the longest plan file, so that a longer input is refused for its length. */
 static uint8_t file[MAIPLUR_MOST_FILE + 1];
 static uint8_t text[MAIPLUR_MOST_TEXT];
 

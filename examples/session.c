@@ -1,5 +1,5 @@
-/* Tries changes to one controller: does it still map if its third task must end a little earlier, and if its second task
- * then goes elsewhere?
+/* Tries changes to one controller. Does it still have a map if its third task must end a little earlier? And if its
+ * second task then moves elsewhere?
  *
  * gcc -Iinclude examples/session.c target/staticlib/libplanner_c.a -o session && ./session
  */
@@ -24,7 +24,7 @@ static void show_map(const maiplur_session *session) {
     printf("\n");
 }
 
-/* The third entry on a level with the second, behind the first. */
+/* Times the third entry, on one level with the second and after the first. */
 static void show_time(const maiplur_session *session) {
     size_t values[2];
     uint32_t refused = maiplur_session_time(session, 1, 2, 2, values);
@@ -58,7 +58,7 @@ static void try_changes(maiplur_session *session) {
     show_time(session);
 }
 
-/* Changes that are turned back leave the session as it is. */
+/* Refused changes leave the session as it is. */
 static void try_refused(maiplur_session *session) {
     static const uint32_t long_run[5] = {TASK + 4, 6, 10, 5, 0};
     size_t values[2];

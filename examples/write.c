@@ -1,4 +1,4 @@
-/* Writes the plan file of case P (docs/SPEC.md) to standard output, once the library has checked it and read it back.
+/* Writes the plan file of case P (docs/SPEC.md) to standard output, after the library has checked it and read it back.
  *
  * gcc -Iinclude examples/write.c target/staticlib/libplanner_c.a -o write && ./write > p.plan
  */
@@ -9,12 +9,12 @@
 
 enum { TASK = 1, ENTRIES = 3, WORDS = 5 * ENTRIES };
 
-/* A row (number, levels, entry count), or the first word of an entry (number, kind, r). */
+/* Packs a row (number, levels, entry count), or the first word of an entry (number, kind, r). */
 static uint32_t packed(uint32_t number, uint32_t middle, uint32_t high) {
     return number | middle << 16 | high << 24;
 }
 
-/* A task that calls nothing and is not blocked. */
+/* Sets a task with r = 0 and B = 0. */
 static void set_task(uint32_t entry[5], uint32_t number, uint32_t run, uint32_t period, uint32_t deadline) {
     entry[0] = packed(number, TASK, 0);
     entry[1] = run;

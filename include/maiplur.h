@@ -2,25 +2,25 @@
  *
  * Link with target/staticlib/libplanner_c.a, which `rt staticlib planner_c` makes (x86-64 Linux).
  *
- * Every function returns a number: 0, or the number of a refusal (MAIPLUR_SHORT_FILE and so on), and leaves two values in
- * `values`. Where it refuses, these are the row and the entry position, both from 0, and every other lent buffer is
- * untouched. Otherwise they are what is said at the function.
+ * Every function returns 0, or the number of a refusal (MAIPLUR_SHORT_FILE and so on), and leaves two values in `values`. If
+ * it refuses, they are the row and the entry position, both from 0, and every other lent buffer is untouched. Otherwise the
+ * comment at the function says what they are.
  *
- * No function keeps a pointer, allocates, or has state of its own, and each returns on every input. The caller owes what
- * no function can check: each pointer points to as many elements as its length says (it is not NULL, even at length 0),
+ * No function keeps a pointer, allocates, or has state of its own, and each returns on every input. The caller must ensure
+ * what no function can check: each pointer points to as many elements as its length says (it is not NULL, even at length 0),
  * and nothing that a call writes overlaps anything else that it is lent.
  *
- * A level count is a uint8_t and a node number a uint16_t. C silently cuts a larger number before the call: 257 levels
+ * A level count is a uint8_t and a node number a uint16_t. C silently truncates a larger number before the call: 257 levels
  * arrive as 1.
  *
- * docs/SPEC.md says what is computed, in which terms, and in which order calls are checked.
+ * docs/SPEC.md defines the terms, what is computed, and the order of each call's checks.
  *
- * maiplur_list and maiplur_session_time follow every round of the completion time test, and an entry can have up to 10^9 of
- * them. A station's plan is listed in less than a millisecond. But one node of 64 levels with the tasks (C/T/D, with r and B
- * 0) 1/2/2, 1/3/3, 1/7/7, 1/43/43, 1/1807/1807 and 59 of 1/1000000000/1000000000 took half a minute, and by that figure a
- * plan of 32 such nodes takes a quarter of an hour. Maps are found without most rounds, but a node that misses by little can
- * take a second or two (docs/BENCHMARKS.md). No call can be stopped from within: a caller that takes plans from others makes
- * it in a process of its own.
+ * maiplur_list and maiplur_session_time make every round of the completion time test, and an entry can have up to 10^9
+ * rounds. A station's plan is listed in less than a millisecond. But one node of 64 levels with the tasks (C/T/D, with r and
+ * B 0) 1/2/2, 1/3/3, 1/7/7, 1/43/43, 1/1807/1807 and 59 of 1/1000000000/1000000000 took half a minute, so a plan of 32 such
+ * nodes would take a quarter of an hour. The search for a map skips most rounds, but a node whose entries miss their
+ * deadlines by little can take a second or two (docs/BENCHMARKS.md). A running call cannot be stopped: a caller that takes
+ * plans from others should make it in a process of its own.
  */
 #ifndef MAIPLUR_H
 #define MAIPLUR_H
@@ -58,8 +58,9 @@ enum {
     MAIPLUR_MOST_TEXT = 115625   /* bytes of a listing */
 };
 
-/* An entry is a task or a global critical section: a critical section of a task elsewhere that runs on this node. It has a
- * number from 0 to 65,535, a kind, 1 for a task and 2 for a section, and (times are in whole ticks, of any one length)
+/* An entry is a task, or a global critical section: a critical section of another node's task that runs on this node. It has
+ * a number from 0 to 65,535, a kind (1 for a task, 2 for a section), and the following. Times are whole ticks, of any one
+ * length.
  *
  *   C  the longest run (worst-case execution time)            1 <= C <= D
  *   T  the period                                             D <= T <= 1,000,000,000
@@ -70,50 +71,49 @@ enum {
  * A node is a controller: a number from 0 to 65,535, 1 to 64 priority levels, and up to 64 entries, most urgent first. A
  * plan is a row for each of 1 to 32 nodes, with rising numbers, and their entries.
  *
- * A plan in memory is words of 32 bits. A row is one word: the node number in its low 16 bits, then the levels and the
- * entry count in 8 bits each. An entry is five words: the number in the low 16 bits of the first, then the kind and r in
- * 8 bits each; then C, T, D and B. The entries of all nodes stand one after another, in the order of the rows.
+ * A plan in memory is words of 32 bits. A row is one word: the node number in its low 16 bits, then the levels and the entry
+ * count in 8 bits each. An entry is five words. The first has the number in its low 16 bits, then the kind and r in 8 bits
+ * each; the others are C, T, D and B. The entries of all nodes follow one another, in the order of the rows.
  */
 
-/* Accepts a plan file; refuses it (1 to 8) by the first of its checks that is met. Values: 0 and 0. It returns 0 exactly for
- * the files of plans within the limits.
+/* Accepts a plan file, or refuses it (1 to 8) with the first of its checks that is met. Values: 0 and 0. It returns 0
+ * exactly for the files of plans within the limits.
  */
 uint32_t maiplur_check(const uint8_t *file, size_t file_length, size_t values[2]);
 
-/* Reads a plan file into `rows` and `entries`, from their starts, and keeps what lies beyond. Values: how many rows and
- * how many entries. Refuses as maiplur_check does, then a buffer that is too short (10): `row_count` words must hold a
- * word for each row, `word_count` words five for each entry. What it filled, maiplur_write writes as the same bytes.
+/* Reads a plan file into `rows` and `entries`, from their starts, and keeps what lies beyond. Values: how many rows and how
+ * many entries. Refuses as maiplur_check does, then a buffer that is too short (10): `row_count` must be at least one word
+ * for each row, `word_count` at least five for each entry. maiplur_write turns what it filled into the same bytes again.
  */
 uint32_t maiplur_read(const uint8_t *file, size_t file_length, uint32_t *rows, size_t row_count, uint32_t *entries,
                       size_t word_count, size_t values[2]);
 
-/* Writes a plan as a file from the start of `file`, and keeps what lies beyond. Values: the file's length in bytes, and
- * 0. Refuses 3, 4 row by row, 6 where `word_count` is not five for each entry that the rows count, 7 and 8 entry by
- * entry, then a buffer that is too short (10). What it wrote, maiplur_read reads as the same words.
+/* Writes a plan as a file from the start of `file`, and keeps what lies beyond. Values: the file's length in bytes, and 0.
+ * Refuses 3, 4 row by row, 6 if `word_count` is not five for each entry that the rows count, 7 and 8 entry by entry, then a
+ * buffer that is too short (10). maiplur_read turns what it wrote into the same words again.
  */
 uint32_t maiplur_write(const uint32_t *rows, size_t row_count, const uint32_t *entries, size_t word_count, uint8_t *file,
                        size_t file_length, size_t values[2]);
 
-/* Maps the node with a number: fills `levels` from its start, one byte an entry, with the level of each, and keeps what
- * lies beyond. Values: how many levels the map uses, and 0. Refuses as maiplur_check does, then a number that the plan
- * does not have (9), a buffer with less than a byte an entry (10), and a node that has no map (11).
+/* Maps the node with the given number: fills `levels` from its start with the level of each entry, one byte per entry, and
+ * keeps what lies beyond. Values: how many levels the map uses, and 0. Refuses as maiplur_check does, then a number that the
+ * plan does not have (9), a buffer with less than one byte per entry (10), and a node that has no map (11).
  */
 uint32_t maiplur_map(const uint8_t *file, size_t file_length, uint16_t number, uint8_t *levels, size_t level_count,
                      size_t values[2]);
 
-/* Lists a plan file from the start of `text`, or writes the one line that the file is refused with, and keeps what lies
- * beyond; no zero byte follows. Values: the text's length in bytes, and 0. Refuses only a buffer that is too short for
- * the text (10). It takes less than 128 KiB of stack.
+/* Writes the listing of a plan file, or the one refusal line of a refused file, from the start of `text`, and keeps what
+ * lies beyond. No zero byte follows the text. Values: the text's length in bytes, and 0. Refuses only a buffer that is too
+ * short for the text (10). It takes less than 128 KiB of stack.
  */
 uint32_t maiplur_list(const uint8_t *file, size_t file_length, uint8_t *text, size_t text_length, size_t values[2]);
 
 /* A session: one node that is changed entry by entry. The caller owns the struct and lends it to each call. A zeroed
- * struct is a session that is not open, which every function but maiplur_session_open refuses (4).
+ * struct is a session that is not open: every function except maiplur_session_open refuses it (4).
  *
- * Each function but maiplur_session_open first checks the session as a node of a file: 4 where its level count or its
- * entry count is outside the limits, then 7 and 8 entry by entry, with row 0 and the entry's position. A session that was
- * opened and changed by these functions is never refused so. Then come the function's own checks, in the order in which
- * they stand at the function.
+ * Each function except maiplur_session_open first checks the session as a node of a file: 4 if its level count or its entry
+ * count is outside the limits, then 7 and 8 entry by entry, with row 0 and the entry's position. A session that was opened
+ * and changed by these functions always passes. Then come the function's own checks, in the order of its comment.
  */
 typedef struct {
     uint32_t levels;      /* 1 to 64 */
@@ -129,9 +129,9 @@ uint32_t maiplur_session_open(maiplur_session *session, uint8_t levels, size_t v
 /* Sets the level count. Values: 0 and 0. Refuses levels that are not 1 to 64 (4). */
 uint32_t maiplur_session_set_levels(maiplur_session *session, uint8_t levels, size_t values[2]);
 
-/* Inserts an entry, given by its five words, before a position; just after the last entry it appends. Values: 0 and 0.
- * Refuses a position past that (12), a list of 64 entries (13), then the entry (7, 8) with row 0 and the position.
- * `entry` lies outside the session: an entry of the session itself is copied first.
+/* Inserts an entry, given by its five words, before a position; the position just after the last entry appends. Values: 0
+ * and 0. Refuses a position beyond that (12), a list of 64 entries (13), then the entry (7, 8) with row 0 and the position.
+ * `entry` must lie outside the session: to insert one of its own entries, copy that entry first.
  */
 uint32_t maiplur_session_insert(maiplur_session *session, size_t position, const uint32_t entry[5], size_t values[2]);
 
@@ -144,13 +144,13 @@ uint32_t maiplur_session_remove(maiplur_session *session, size_t position, size_
 uint32_t maiplur_session_replace(maiplur_session *session, size_t position, const uint32_t entry[5], size_t values[2]);
 
 /* Times the entry at `i` in the group from `first` to `last`; the entries before the group are more urgent. Values: the
- * completion time, or 0 where the entry is late (no completion time is 0), and the rounds. Refuses anything but
+ * completion time, or 0 if the entry is late (no completion time is 0), and the rounds. Refuses anything but
  * first <= i <= last with `last` in the list (12).
  */
 uint32_t maiplur_session_time(const maiplur_session *session, size_t first, size_t last, size_t i, size_t values[2]);
 
-/* Maps the node as maiplur_map does. Values: how many levels the map uses, and 0. Refuses a buffer with less than a byte
- * an entry (10), and a node that has no map (11).
+/* Maps the node as maiplur_map does. Values: how many levels the map uses, and 0. Refuses a buffer with less than one byte
+ * per entry (10), and a node that has no map (11).
  */
 uint32_t maiplur_session_map(const maiplur_session *session, uint8_t *levels, size_t level_count, size_t values[2]);
 

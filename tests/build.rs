@@ -1,4 +1,4 @@
-//! Has `rt` prove and write the static library, and links it.
+//! Runs `rt` to prove and write the static library, and links it.
 
 use std::env;
 use std::path::{Path, PathBuf};
@@ -8,7 +8,8 @@ fn main() {
     let tests = PathBuf::from(env::var_os("CARGO_MANIFEST_DIR").expect("cargo says where"));
     let root = tests.parent().expect("tests/ lies in the repository");
     rt(root, &["staticlib", "planner_c"]);
-    // The program is linked by its check; without it, its tests are left out.
+    // The check of the program also builds it; without the program, its tests
+    // are left out.
     println!("cargo:rustc-check-cfg=cfg(list_plan)");
     if root.join("crates/list_plan").exists() {
         rt(root, &["check", "list_plan"]);

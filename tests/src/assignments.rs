@@ -1,7 +1,7 @@
 //! Assignments: levels that never fall, but may begin above 1 and may skip.
 //!
-//! The map answers for all of them: no assignment that passes uses fewer
-//! levels, and there is no map exactly if none passes.
+//! They check the map: no passing assignment uses fewer levels than the map,
+//! and there is no map exactly if no assignment passes.
 
 use crate::map::passes;
 use crate::model::Entry;
@@ -18,7 +18,7 @@ pub fn is_map(assignment: &[u8], levels: u8) -> bool {
     is_assignment(assignment, levels) && assignment.last().is_none_or(|&last| last == used)
 }
 
-/// How many different levels are used; equal ones must be neighbours.
+/// How many different levels are used; equal levels must be neighbours.
 pub fn different_levels(assignment: &[u8]) -> u8 {
     let mut levels = assignment.to_vec();
     levels.dedup();

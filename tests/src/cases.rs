@@ -86,7 +86,7 @@ pub fn u() -> Node {
     node(2, &entries)
 }
 
-/// Case V, with two levels so that both of its groupings fit.
+/// Case V, with two levels, so that both of its groupings are possible.
 pub fn v() -> Node {
     let entries = [
         Entry::task(1, 1, 5, 5),

@@ -1,8 +1,8 @@
-//! Holds each answer of the proved library against the second
-//! implementation's, with what both leave in lent buffers.
+//! Compares each answer of the proved library, and the contents of lent buffers
+//! after the call, with the second implementation.
 //!
-//! Each buffer is lent with known contents, so that a byte written beyond the
-//! result, or by a refused call, is a difference.
+//! Each buffer is lent with known contents, so a byte written beyond the
+//! result, or by a refused call, is found.
 
 pub mod session;
 
@@ -17,19 +17,21 @@ use crate::refusal::{Refusal, BUFFER};
 use crate::tally::Tally;
 use crate::words::{self, ENTRY_WORDS};
 
-/// Room for a result of `needed`: none, one too short, exact, and too long.
+/// Buffer lengths for a result of `needed`: 0, one too short, exact, and
+/// longer.
 pub fn rooms(needed: usize) -> [usize; 4] {
     [0, needed.saturating_sub(1), needed, needed + 9]
 }
 
-/// The check of a file.
+/// Compares the check of a file.
 pub fn check(tally: &mut Tally, file: &[u8]) -> Result<(), Refusal> {
     let due = tally.note(file::check(file));
     assert_eq!(ffi::check(file), due, "check of {}", hex(file));
     due
 }
 
-/// Reading a file into so many words for rows and for entries.
+/// Compares reading a file into `row_room` words for rows and `word_room` words
+/// for entries.
 pub fn read(tally: &mut Tally, file: &[u8], row_room: usize, word_room: usize) {
     let mut due_rows = vec![Row::default(); row_room];
     let mut due_entries = vec![Entry::default(); word_room / ENTRY_WORDS];
@@ -51,7 +53,7 @@ pub fn read(tally: &mut Tally, file: &[u8], row_room: usize, word_room: usize) {
     assert_eq!(entries, kept, "{}", lent());
 }
 
-/// Writing rows and entries into so many bytes.
+/// Compares writing rows and entries into `room` bytes.
 pub fn write(
     tally: &mut Tally,
     rows: &[Row],
@@ -71,7 +73,7 @@ pub fn write(
     due
 }
 
-/// Mapping the node with a number into so many bytes.
+/// Compares mapping the node with this number into `room` bytes.
 pub fn map(tally: &mut Tally, file: &[u8], number: u16, room: usize) {
     let mut due_buffer = known(room);
     let due = tally.note(map_node(file, u64::from(number), &mut due_buffer));
@@ -83,7 +85,7 @@ pub fn map(tally: &mut Tally, file: &[u8], number: u16, room: usize) {
     assert_eq!(buffer, due_buffer, "{}", lent());
 }
 
-/// The listing of a file into buffers of every kind of length.
+/// Compares the listing of a file in buffers of each length of [`rooms`].
 pub fn list(tally: &mut Tally, file: &[u8]) {
     let text = listing::list(file).into_bytes();
     for room in rooms(text.len()) {
@@ -91,7 +93,8 @@ pub fn list(tally: &mut Tally, file: &[u8]) {
     }
 }
 
-/// The listing of a file, which is `text`, into so many bytes.
+/// Compares the listing of a file in a buffer of `room` bytes; it must be
+/// `text`.
 pub fn list_into(tally: &mut Tally, file: &[u8], text: &[u8], room: usize) {
     let due = tally.note(match text.len() <= room {
         true => Ok(text.len()),
@@ -105,7 +108,7 @@ pub fn list_into(tally: &mut Tally, file: &[u8], text: &[u8], room: usize) {
     assert_eq!(buffer, begun(written, known(room)), "{}", lent());
 }
 
-/// Every call that takes a file, on any bytes.
+/// Compares every call that takes a file, on any bytes.
 ///
 /// A node whose tests would take long is neither mapped nor listed; the tally
 /// counts it.
@@ -120,7 +123,7 @@ pub fn file(tally: &mut Tally, bytes: &[u8]) {
     }
 }
 
-/// A refused file is refused alike by every call, whatever the buffers.
+/// Every call refuses a refused file in the same way, whatever the buffers.
 fn refused_file(tally: &mut Tally, bytes: &[u8]) {
     read(tally, bytes, 0, 0);
     read(tally, bytes, 8, 64);
@@ -130,7 +133,7 @@ fn refused_file(tally: &mut Tally, bytes: &[u8]) {
     list(tally, bytes);
 }
 
-/// Every call on the file of a plan and on the plan itself.
+/// Compares every call on the file of a plan and on the plan itself.
 fn plan(tally: &mut Tally, plan: &Plan, bytes: &[u8]) {
     let (rows, entries) = (plan.rows(), plan.entries());
     for row_room in rooms(rows.len()) {
@@ -155,7 +158,8 @@ fn plan(tally: &mut Tally, plan: &Plan, bytes: &[u8]) {
     }
 }
 
-/// The map of a node of the file, and of numbers that the plan may not have.
+/// Compares the map of a node of the file, and of numbers that the plan may not
+/// have.
 fn maps(tally: &mut Tally, node: &Node, bytes: &[u8]) {
     for room in rooms(node.entries.len()) {
         map(tally, bytes, node.number, room);
@@ -166,7 +170,7 @@ fn maps(tally: &mut Tally, node: &Node, bytes: &[u8]) {
     }
 }
 
-/// What is written from the start, and what was there beyond.
+/// `before` with its beginning replaced by what was written.
 fn begun<T: Clone>(written: Vec<T>, before: Vec<T>) -> Vec<T> {
     let beyond = before[written.len()..].to_vec();
     [written, beyond].concat()

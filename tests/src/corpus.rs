@@ -1,12 +1,13 @@
-//! Plan files and rows of session operations that are kept: the samples, and
-//! what a fuzz run has found.
+//! Kept plan files and sequences of session operations: the samples, and what
+//! fuzz runs have found.
 
 use crate::programs::root;
 use crate::rows::Row;
 use std::fs;
 use std::path::PathBuf;
 
-/// Where a fuzz run puts a file or a row on which the implementations differ.
+/// Where a fuzz run puts a file or a sequence on which the implementations
+/// differ.
 pub fn found() -> PathBuf {
     root().join("tests/corpus")
 }
@@ -19,7 +20,7 @@ pub fn kept() -> Vec<Vec<u8>> {
         .collect()
 }
 
-/// Every kept row, sorted by name.
+/// Every kept sequence of operations, sorted by name.
 pub fn kept_rows() -> Vec<Row> {
     ending("session")
         .into_iter()
@@ -27,7 +28,7 @@ pub fn kept_rows() -> Vec<Row> {
         .collect()
 }
 
-/// The kept files whose names end so.
+/// The kept files whose names have this ending.
 fn ending(end: &str) -> Vec<PathBuf> {
     let mut names: Vec<PathBuf> = [root().join("samples"), found()]
         .into_iter()

@@ -1,13 +1,13 @@
 //! The proved library, called through its C functions.
 //!
-//! Each function here is one of include/maiplur.h; a refusal comes back as
-//! the second implementation gives it.
+//! Each function here wraps one of include/maiplur.h, and returns a refusal in
+//! the form of the second implementation.
 
 pub mod session;
 
 use crate::refusal::{Refusal, NUMBERS};
 
-/// What stands in the values before a call, which each call overwrites.
+/// The contents of `values` before a call; each call overwrites them.
 const UNSET: usize = usize::MAX;
 
 extern "C" {
@@ -57,7 +57,7 @@ pub fn check(file: &[u8]) -> Result<(), Refusal> {
     Ok(())
 }
 
-/// Reads a file into words, and gives how many rows and entries.
+/// Reads a file into words, and returns how many rows and entries.
 pub fn read(file: &[u8], rows: &mut [u32], entries: &mut [u32]) -> Result<(usize, usize), Refusal> {
     let mut values = [UNSET; 2];
     // SAFETY: as above; what is written is borrowed mutably, so nothing overlaps.
@@ -76,7 +76,7 @@ pub fn read(file: &[u8], rows: &mut [u32], entries: &mut [u32]) -> Result<(usize
     Ok((rows, entries))
 }
 
-/// Writes words as a file, and gives its length.
+/// Writes words as a file, and returns its length.
 pub fn write(rows: &[u32], entries: &[u32], file: &mut [u8]) -> Result<usize, Refusal> {
     let mut values = [UNSET; 2];
     // SAFETY: as above.
@@ -94,7 +94,7 @@ pub fn write(rows: &[u32], entries: &[u32], file: &mut [u8]) -> Result<usize, Re
     one(answer(number, values)?)
 }
 
-/// Maps the node with a number, and gives the levels used.
+/// Maps the node with this number, and returns the levels used.
 pub fn map(file: &[u8], number: u16, levels: &mut [u8]) -> Result<usize, Refusal> {
     let mut values = [UNSET; 2];
     // SAFETY: as above.
@@ -111,7 +111,7 @@ pub fn map(file: &[u8], number: u16, levels: &mut [u8]) -> Result<usize, Refusal
     one(answer(number, values)?)
 }
 
-/// Lists a file, and gives the text's length.
+/// Lists a file, and returns the text's length.
 pub fn list(file: &[u8], text: &mut [u8]) -> Result<usize, Refusal> {
     let mut values = [UNSET; 2];
     // SAFETY: as above.
@@ -127,7 +127,7 @@ pub fn list(file: &[u8], text: &mut [u8]) -> Result<usize, Refusal> {
     one(answer(number, values)?)
 }
 
-/// The values that are given where nothing is refused.
+/// The values if nothing is refused.
 fn answer(number: u32, values: [usize; 2]) -> Result<[usize; 2], Refusal> {
     assert!(number <= u32::from(NUMBERS), "no refusal has {number}");
     match number as u8 {
@@ -136,7 +136,7 @@ fn answer(number: u32, values: [usize; 2]) -> Result<[usize; 2], Refusal> {
     }
 }
 
-/// The first value, where the second is 0.
+/// The first value; the second must be 0.
 fn one([first, second]: [usize; 2]) -> Result<usize, Refusal> {
     assert_eq!(second, 0, "one value is given");
     Ok(first)

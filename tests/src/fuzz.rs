@@ -1,7 +1,7 @@
-//! Random files and rows of session operations, one after the other, held
-//! against the second implementation.
+//! Random files and sequences of session operations, one after the other,
+//! compared with the second implementation.
 //!
-//! Files that get an answer of a new kind are changed further.
+//! Files with a new kind of answer are kept and changed further.
 
 use crate::compare;
 use crate::corpus;
@@ -20,7 +20,7 @@ use std::panic::{self, AssertUnwindSafe};
 /// Most files that are kept for further changes.
 const MOST: usize = 300;
 
-/// A run, with what it has met.
+/// A run, and counts of its answers.
 #[derive(Clone, Debug)]
 pub struct Fuzz {
     rng: Rng,
@@ -32,18 +32,17 @@ pub struct Fuzz {
     sessions: Tally,
 }
 
-/// On what the implementations differ: how the name of such a file ends, and
-/// its contents.
+/// An input on which the implementations differ, as a file to be kept.
 #[derive(Clone, Debug)]
 pub struct Difference {
-    /// `plan` or `session`.
+    /// The end of the file's name: `plan` or `session`.
     pub end: &'static str,
-    /// A plan file, or a row of session operations as text.
+    /// A plan file, or a sequence of session operations as text.
     pub contents: Vec<u8>,
 }
 
 impl Fuzz {
-    /// A run that starts with the kept files and a few of some generators.
+    /// A run that starts with the kept files and a few generated ones.
     pub fn new(mut rng: Rng) -> Fuzz {
         let mut pool = corpus::kept();
         for draw in [plans::small, plans::wide, plans::tight, plans::at_limits] {
@@ -62,7 +61,7 @@ impl Fuzz {
         }
     }
 
-    /// One file, and now and then a row of session operations before it.
+    /// One file, and now and then a sequence of session operations before it.
     pub fn step(&mut self) -> Result<(), Difference> {
         if self.rng.chance(1, 10) {
             self.row()?;
@@ -75,7 +74,7 @@ impl Fuzz {
         self.files
     }
 
-    /// Rows of session operations so far.
+    /// Sequences of session operations so far.
     pub fn rows(&self) -> u64 {
         self.rows
     }
@@ -85,12 +84,12 @@ impl Fuzz {
         self.kinds.len()
     }
 
-    /// What the files met.
+    /// The answers for files.
     pub fn tally(&self) -> &Tally {
         &self.tally
     }
 
-    /// What the rows met.
+    /// The answers for session operations.
     pub fn sessions(&self) -> &Tally {
         &self.sessions
     }
@@ -127,7 +126,7 @@ impl Fuzz {
         Ok(())
     }
 
-    /// A full pool forgets any other file.
+    /// In a full pool the file replaces a random one.
     fn keep(&mut self, file: Vec<u8>) {
         if self.pool.len() < MOST {
             self.pool.push(file);
@@ -146,8 +145,8 @@ impl fmt::Display for Fuzz {
     }
 }
 
-/// What tells two answers apart for the pool: the refusal with its places, or
-/// of each node the levels used.
+/// The kind of an answer: the refusal with its places, or the levels that each
+/// node uses.
 fn kind(file: &[u8]) -> String {
     if let Err(refusal) = check(file) {
         return refusal.to_string();

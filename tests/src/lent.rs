@@ -1,8 +1,8 @@
 //! A session in lent memory: its level count, its entry count, and five words
-//! for each of 64 entries, with zero in every word beyond the last.
+//! for each of 64 entries. Every word beyond the last entry is zero.
 //!
-//! Memory from elsewhere may hold anything. Every operation but opening first
-//! checks it as a node of a file is checked: 4, then 7 and 8 with the place.
+//! Memory from elsewhere may hold anything. Every operation except opening
+//! first checks it as a node of a file: 4, then 7 and 8 with the place.
 
 use crate::model::{Entry, MAX_ENTRIES};
 use crate::refusal::{Refusal, ROW};
@@ -24,7 +24,7 @@ pub fn words_of(session: &Session) -> Words {
     words
 }
 
-/// The session that the words hold, or why they hold none.
+/// The session that the words hold, or the refusal of these words.
 pub fn session_in(words: &Words) -> Result<Session, Refusal> {
     let (levels, count) = (words[0] as usize, words[1] as usize);
     if count > MAX_ENTRIES {
@@ -35,8 +35,8 @@ pub fn session_in(words: &Words) -> Result<Session, Refusal> {
     Session::holding(levels, &entries)
 }
 
-/// Any operation on lent words. An accepted change leaves the words of the
-/// changed session, all other calls leave them as they were.
+/// Makes any operation on lent words. An accepted change leaves the words of
+/// the changed session; all other calls leave the words as they were.
 pub fn apply(words: &mut Words, op: &Op, buffer: &mut [u8]) -> Result<Reply, Refusal> {
     let mut session = match op {
         Op::Open(levels) => Session::open(*levels)?,

@@ -1,19 +1,18 @@
-//! A second implementation of the planner, to hold the proved one against.
+//! A second implementation of the planner, to compare the proved one with.
 //!
-//! It follows docs/SPEC.md and nothing of the proved code, and takes the
-//! plainest way to each answer: time is no object here, agreement with that
-//! text is.
-//! Every capability is a function over numbers and byte slices.
+//! It follows docs/SPEC.md and takes nothing from the proved code. It computes
+//! each answer in the plainest way: agreement with that text matters here,
+//! speed does not. Its functions take numbers and byte slices.
 //!
-//! - [`mod@file`], [`map`], [`listing`] and [`session`] answer as it says;
-//!   [`timing`] and [`assignments`] are what their answers are made of, and
-//!   [`lent`] has a session in memory.
-//! - [`cases`] has its cases, [`gen`] generated ones, with
-//!   [`options`] for the seed and the size of a run.
-//! - [`ffi`] calls the proved library, with [`words`] as it takes plans, and
-//!   [`compare`] holds its answers against those of this one, [`fuzz`] on
-//!   random files and rows of operations. [`tuned`] and [`plain`] are what its
-//!   speed is measured against.
+//! - [`mod@file`], [`map`], [`listing`] and [`session`] implement that text, on
+//!   top of [`timing`]. [`assignments`] lists assignments to check maps with,
+//!   and [`lent`] keeps a session in lent memory.
+//! - [`cases`] has the cases of that text, and [`gen`] generates others.
+//!   [`options`] sets the seed and the size of a run.
+//! - [`ffi`] calls the proved library, and [`words`] has the form in which it
+//!   takes plans. [`compare`] compares its answers with those of this
+//!   implementation, and [`fuzz`] does so on random files and sequences of
+//!   operations. [`tuned`] and [`plain`] are what its speed is compared with.
 
 #![deny(unsafe_code)]
 #![warn(missing_docs)]

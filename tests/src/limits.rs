@@ -1,6 +1,6 @@
 //! The checks of one entry, one row and one level count.
 //!
-//! File, writer and session share them; each keeps its own order.
+//! File, writer and session share them, each in its own order.
 
 use crate::model::{Entry, Row, MAX_ENTRIES, MAX_LEVELS, MAX_R, MAX_TICKS, SECTION, TASK};
 use crate::refusal::{Refusal, KIND, ROW, TICKS};

@@ -7,7 +7,7 @@ use crate::refusal::{Refusal, LENGTH};
 use crate::timing::{completion, Timing};
 use std::fmt::Write;
 
-/// Most bytes that the program takes as a plan.
+/// The longest input that the program reads as a plan.
 pub const MAX_INPUT: usize = 65_536;
 
 /// What the program prints for this standard input.

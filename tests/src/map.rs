@@ -1,4 +1,4 @@
-//! The mapper: every grouping is tried, or every group.
+//! The mapper. It tries every grouping, or for long lists every group.
 
 use crate::file::decode;
 use crate::model::Entry;
@@ -12,7 +12,7 @@ pub const EXHAUSTIVE_ENTRIES: usize = 12;
 /// A passing map.
 #[derive(Clone, Debug, PartialEq, Eq)]
 pub struct Map {
-    /// One level an entry, from 1.
+    /// One level per entry, from 1.
     pub levels: Vec<u8>,
     /// How many different levels it uses.
     pub used: u8,
@@ -31,7 +31,7 @@ pub fn map_entries(entries: &[Entry], levels: u8) -> Option<Map> {
     }
 }
 
-/// Maps the node with this number: the whole file, then 9, 10 and 11.
+/// Maps the node with this number. Checks the whole file, then 9, 10 and 11.
 pub fn map_node(file: &[u8], number: u64, buffer: &mut [u8]) -> Result<u8, Refusal> {
     let plan = decode(file)?;
     let node = plan
@@ -42,9 +42,10 @@ pub fn map_node(file: &[u8], number: u64, buffer: &mut [u8]) -> Result<u8, Refus
     map_into(&node.entries, node.levels, buffer)
 }
 
-/// Fills one byte an entry with the map, and gives the levels used.
+/// Fills one byte per entry with the map, and returns the levels used.
 ///
-/// 10 comes before 11; bytes beyond are kept, and all in a refused call.
+/// Check 10 comes before 11. Bytes beyond the map are kept, and all bytes if
+/// the call is refused.
 pub fn map_into(entries: &[Entry], levels: u8, buffer: &mut [u8]) -> Result<u8, Refusal> {
     let Some(target) = buffer.get_mut(..entries.len()) else {
         return Err(Refusal::plain(BUFFER));
@@ -67,9 +68,10 @@ pub fn by_groupings(entries: &[Entry], levels: u8) -> Option<Map> {
 
 /// The map by testing every group of neighbours once.
 ///
-/// The best grouping of the first entries up to `end` is a last group behind
-/// the best grouping of what lies before it: with the same last group, fewer
-/// levels before it make fewer in all, and the rule then goes on upward.
+/// The best grouping of the entries before `end` consists of a last group and
+/// the best grouping of the entries before that group: with a given last group,
+/// fewer levels before it mean fewer in all, and the rule then compares the
+/// groups before it.
 pub fn by_groups(entries: &[Entry], levels: u8) -> Option<Map> {
     let mut best: Vec<Option<Grouping>> = vec![Some(Vec::new())];
     for end in 1..=entries.len() {
@@ -87,7 +89,7 @@ pub fn by_groups(entries: &[Entry], levels: u8) -> Option<Map> {
     (grouping.len() <= usize::from(levels)).then(|| map_of(&grouping))
 }
 
-/// Whether no entry is late with these levels; the first late one ends it.
+/// Whether no entry is late with these levels; stops at the first late entry.
 pub fn passes(entries: &[Entry], levels: &[u8]) -> bool {
     (0..entries.len()).all(|i| completion(entries, levels, i).is_on_time())
 }
@@ -126,8 +128,8 @@ fn keep_preferred(best: &mut Option<Grouping>, grouping: Grouping) {
     }
 }
 
-/// `Less` if `a` goes before `b`: fewest levels, then the longest least
-/// urgent group, then the longest next one, upward.
+/// `Less` if `a` is preferred to `b`: fewest levels, then the longest least
+/// urgent group, then the longest next group, upward.
 fn preference(a: &[usize], b: &[usize]) -> Ordering {
     let upward_a = a.iter().rev();
     let upward_b = b.iter().rev();
@@ -177,7 +179,7 @@ mod tests {
                 assert_eq!(preference(b, a), Ordering::Greater);
             }
         }
-        // Same last group: the next one upward decides.
+        // With the same last group, the next group upward decides.
         assert_eq!(preference(&[1, 2, 1], &[2, 1, 1]), Ordering::Less);
     }
 

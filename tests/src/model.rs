@@ -17,8 +17,8 @@ pub const SECTION: u8 = 2;
 
 /// A task or a global critical section.
 ///
-/// The ticks are kept wide, so that values far outside the limits can be
-/// turned back like near ones.
+/// The ticks have wide types, so that tests can try values far outside the
+/// limits as well as near them.
 #[derive(Clone, Copy, Debug, Default, PartialEq, Eq, Hash)]
 pub struct Entry {
     /// Entry number.
@@ -114,7 +114,8 @@ impl Plan {
         self.nodes.iter().flat_map(|n| n.entries.clone()).collect()
     }
 
-    /// The plan of these rows; `entries` must be as many as they count.
+    /// The plan of these rows; `entries` must have as many entries as they
+    /// count.
     pub fn from_parts(rows: &[Row], entries: &[Entry]) -> Plan {
         let mut rest = entries.iter().copied();
         let nodes = rows

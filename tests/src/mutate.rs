@@ -1,9 +1,9 @@
-//! Random changes of files for the fuzz run.
+//! Random changes to files, for the fuzz run.
 
 use crate::file::{contents_end, ENTRY_BYTES, HEAD_BYTES, ROW_BYTES};
 use crate::rng::Rng;
 
-/// Numbers about the limits of some field.
+/// Numbers near the limits of some field.
 const TELLING: [u32; 14] = [
     0,
     1,
@@ -21,7 +21,8 @@ const TELLING: [u32; 14] = [
     1_000_000_001,
 ];
 
-/// The file after a few changes, in half of the draws laid out anew.
+/// The file after a few changes, in half of the draws with corrected offsets
+/// and length.
 pub fn mutate(rng: &mut Rng, file: &[u8], other: &[u8]) -> Vec<u8> {
     let mut file = file.to_vec();
     for _ in 0..rng.range(1, 3) {
@@ -60,7 +61,7 @@ fn put_word(file: &mut [u8], at: usize, value: u32) {
     }
 }
 
-/// Copies as much as a row or an entry from the other file.
+/// Copies 4 bytes, or as many as a row or an entry has, from the other file.
 fn take_over(rng: &mut Rng, file: &mut [u8], other: &[u8]) {
     if other.is_empty() {
         return;
@@ -72,8 +73,8 @@ fn take_over(rng: &mut Rng, file: &mut [u8], other: &[u8]) {
     }
 }
 
-/// Makes the offsets and the length fit the counts, so that more of the
-/// changed files get past the contents.
+/// Makes the offsets and the length fit the counts, so that more of the changed
+/// files pass the checks of the contents.
 fn lay_out(file: &mut Vec<u8>) {
     if file.len() < HEAD_BYTES || file.len() < contents_end(usize::from(file[4])) {
         return;

@@ -1,12 +1,13 @@
-//! How large a run is, and from which seed.
+//! The size and the seed of a run.
 //!
-//! Unset, a run is the fixed one. `MAIPLUR_SEED` gives another seed and
-//! `MAIPLUR_SCALE` multiplies the number of generated plans. `MAIPLUR_SECONDS`
-//! is the time of a fuzz run.
+//! Without these variables a run is always the same. `MAIPLUR_SEED` sets
+//! another seed, and `MAIPLUR_SCALE` multiplies the number of generated plans.
+//! `MAIPLUR_SECONDS` is the time of a fuzz run.
 
 use crate::rng::Rng;
 
-/// A generator for one part of the run; parts don't share their numbers.
+/// A random number generator for one part of the run; parts have different
+/// numbers.
 pub fn rng(part: u64) -> Rng {
     let mut seeds = Rng::new(setting("MAIPLUR_SEED", 1));
     Rng::new(seeds.word() ^ part)
@@ -17,7 +18,8 @@ pub fn times(fixed: u64) -> u64 {
     fixed * setting("MAIPLUR_SCALE", 1)
 }
 
-/// The number in an environment variable, or `unset` where there is none.
+/// The number in an environment variable, or `unset` if the variable is not
+/// set.
 pub fn setting(name: &str, unset: u64) -> u64 {
     match std::env::var(name) {
         Ok(text) => text

@@ -1,9 +1,10 @@
-//! The same work in plain Rust, to measure the proved library against: the
-//! same checks and the same search, with one division a term and every round.
+//! The same work in plain Rust, to compare the speed of the proved library
+//! with. It makes the same checks and the same search, with one division per
+//! term and every round.
 //!
-//! Written as one would write it by hand, with structs and slices; nothing
-//! here is compared but its time, and that its answers agree. [`crate::tuned`]
-//! is the other measure.
+//! It is written as one would write it by hand, with structs and slices. Only
+//! its time is measured, and its answers are compared. [`crate::tuned`] is the
+//! other program to compare with.
 
 pub mod session;
 
@@ -26,7 +27,7 @@ struct Entry {
     b: u32,
 }
 
-/// A node at hand.
+/// A node, read from a file.
 struct Node {
     number: u16,
     levels: u8,
@@ -34,7 +35,7 @@ struct Node {
     entries: [Entry; MOST],
 }
 
-/// The word at a place, which the caller has checked to be there.
+/// The word at byte `at`; the caller has checked that the file has it.
 fn word(file: &[u8], at: usize) -> u32 {
     u32::from_le_bytes([file[at], file[at + 1], file[at + 2], file[at + 3]])
 }
@@ -91,7 +92,7 @@ pub fn check(file: &[u8]) -> bool {
     entries.iter().all(|bytes| entry_holds(&entry(bytes)))
 }
 
-/// Reads an accepted file into words, and gives how many rows and entries.
+/// Reads an accepted file into words, and returns how many rows and entries.
 #[inline(never)]
 pub fn read(file: &[u8], rows: &mut [u32], entries: &mut [u32]) -> Option<(usize, usize)> {
     if !check(file) {
@@ -114,7 +115,7 @@ pub fn read(file: &[u8], rows: &mut [u32], entries: &mut [u32]) -> Option<(usize
     Some((nodes, bodies.len() / 20))
 }
 
-/// Writes words as a file, and gives its length.
+/// Writes words as a file, and returns its length.
 #[inline(never)]
 pub fn write(rows: &[u32], words: &[u32], file: &mut [u8]) -> Option<usize> {
     if !(1..=32).contains(&rows.len()) {
@@ -195,7 +196,8 @@ fn completion(entries: &[Entry], first: usize, last: usize, i: usize) -> Option<
     None
 }
 
-/// The position behind the last entry that a run of every entry makes late.
+/// One past the last entry with D < B + sum of C over the entries before `end`,
+/// or 0.
 fn behind_late(entries: &[Entry], end: usize) -> usize {
     let runs: u64 = entries[..end].iter().map(|e| u64::from(e.c)).sum();
     let late = |e: &Entry| u64::from(e.d) < u64::from(e.b) + runs;
@@ -207,7 +209,8 @@ fn least_start(entries: &[Entry], end: usize) -> Option<usize> {
     'starts: while start < end {
         for i in (start..end).rev() {
             if completion(entries, start, end - 1, i).is_none() {
-                // It is late in each group that starts later and has it.
+                // Entry i is late in every group that starts later and contains
+                // it.
                 start = i + 1;
                 continue 'starts;
             }
@@ -237,7 +240,7 @@ fn map_entries(entries: &[Entry], levels: u8) -> Option<([u8; MOST], u8)> {
     Some((ranks, groups))
 }
 
-/// Maps the node with a number of a file, and gives the levels used.
+/// Maps the node of a file with this number, and returns the levels used.
 #[inline(never)]
 pub fn map(file: &[u8], number: u16, levels: &mut [u8]) -> Option<usize> {
     if !check(file) {
@@ -254,7 +257,7 @@ pub fn map(file: &[u8], number: u16, levels: &mut [u8]) -> Option<usize> {
     Some(usize::from(used))
 }
 
-/// Lists an accepted file from the start of `text`, and gives the length.
+/// Lists an accepted file from the start of `text`, and returns the length.
 #[inline(never)]
 pub fn list(file: &[u8], text: &mut [u8]) -> Option<usize> {
     list_and_tell(file, text, || ())

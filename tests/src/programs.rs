@@ -1,4 +1,4 @@
-//! Programs that are run on a file by standard input.
+//! Runs programs with a file on standard input.
 
 use std::io::{ErrorKind, Read, Write};
 use std::path::{Path, PathBuf};
@@ -15,8 +15,8 @@ pub fn root() -> PathBuf {
         .to_path_buf()
 }
 
-/// What the program writes if its input comes in these pieces, with a pause
-/// after each, and whether its exit status is 0.
+/// The program's output if its input comes in these pieces, with a pause after
+/// each, and whether its exit status is 0.
 pub fn run(program: &Path, pieces: &[&[u8]], pause: Duration) -> (Vec<u8>, bool) {
     let mut child = Command::new(program)
         .stdin(Stdio::piped())
@@ -27,7 +27,7 @@ pub fn run(program: &Path, pieces: &[&[u8]], pause: Duration) -> (Vec<u8>, bool)
     for piece in pieces {
         match input.write_all(piece) {
             Ok(()) => thread::sleep(pause),
-            // It need not read what lies beyond the longest plan.
+            // The program need not read what lies beyond the longest plan.
             Err(error) if error.kind() == ErrorKind::BrokenPipe => break,
             Err(error) => panic!("{error}"),
         }
@@ -37,8 +37,8 @@ pub fn run(program: &Path, pieces: &[&[u8]], pause: Duration) -> (Vec<u8>, bool)
     (done.stdout, done.status.success())
 }
 
-/// What the command writes on this input, up to its end or to the limit, and
-/// whether its exit status is 0. At the limit it is ended, and the second is
+/// The command's output on this input, and whether its exit status is 0. A
+/// command that runs to the time limit is killed, and the second value is
 /// `None`. The input must fit into a pipe.
 pub fn run_within(command: &mut Command, input: &[u8], limit: Duration) -> (Vec<u8>, Option<bool>) {
     let mut child = command

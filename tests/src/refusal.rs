@@ -1,4 +1,4 @@
-//! The numbers with which a call is turned back.
+//! The numbers with which a call is refused.
 
 use std::fmt;
 
@@ -6,7 +6,7 @@ use std::fmt;
 pub const CUT_OFF: u8 = 1;
 /// The opening bytes differ.
 pub const OPENING: u8 = 2;
-/// Node count 0 or above 32, or a zero byte isn't.
+/// Node count 0 or above 32, or a zero byte isn't 0.
 pub const COUNT: u8 = 3;
 /// A row's node number, levels or entry count is wrong.
 pub const ROW: u8 = 4;
@@ -31,7 +31,7 @@ pub const FULL: u8 = 13;
 /// How many numbers there are.
 pub const NUMBERS: u8 = 13;
 
-/// Why a call was turned back, and where.
+/// Why a call was refused, and where.
 #[derive(Clone, Copy, Debug, PartialEq, Eq, Hash)]
 pub struct Refusal {
     /// The number in the table, 1 to 13.

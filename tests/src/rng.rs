@@ -1,4 +1,5 @@
-//! A small seeded generator of numbers (splitmix64), the same everywhere.
+//! A small seeded random number generator (splitmix64), the same on every
+//! machine.
 
 /// The state of the generator.
 #[derive(Clone, Debug)]
@@ -7,7 +8,7 @@ pub struct Rng {
 }
 
 impl Rng {
-    /// A generator that always gives the same row of numbers for a seed.
+    /// A generator that always gives the same sequence of numbers for a seed.
     pub fn new(seed: u64) -> Rng {
         Rng { state: seed }
     }
@@ -47,7 +48,7 @@ impl Rng {
         self.range(u64::from(low), u64::from(high)) as u8
     }
 
-    /// True `part` times in `whole`.
+    /// True with probability `part` / `whole`.
     pub fn chance(&mut self, part: u64, whole: u64) -> bool {
         self.below(whole) < part
     }

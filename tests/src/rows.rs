@@ -1,11 +1,11 @@
-//! Rows of session operations, and how they are kept as text.
+//! Sequences of session operations, and their form as text.
 
 use crate::lent::Words;
 use crate::session::Op;
 use crate::words::{entry_of, entry_words};
 use std::fmt::Write;
 
-/// The memory that is lent first, and what is done to it.
+/// The memory lent to the first operation, and the operations.
 #[derive(Clone, Debug, PartialEq, Eq)]
 pub struct Row {
     /// All 322 words.
@@ -27,7 +27,7 @@ impl Row {
         text
     }
 
-    /// The row that a text holds. It must be one.
+    /// The sequence in a text, which must be well formed.
     pub fn from_text(text: &str) -> Row {
         let mut row = Row {
             start: [0; 322],

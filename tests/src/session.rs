@@ -16,7 +16,7 @@ pub struct Session {
 /// One operation on a session.
 #[derive(Clone, Copy, Debug, PartialEq, Eq)]
 pub enum Op {
-    /// Open anew with a level count, whatever the session holds.
+    /// Open again with a level count, whatever the session holds.
     Open(usize),
     /// Insert the entry before the position.
     Insert(usize, Entry),
@@ -53,7 +53,7 @@ impl Session {
         })
     }
 
-    /// A session that holds a node, which is checked as that of a file is: 4,
+    /// A session that holds a node, which is checked as a node of a file: 4,
     /// then 7 and 8 entry by entry.
     pub fn holding(levels: usize, entries: &[Entry]) -> Result<Session, Refusal> {
         let mut session = Session::open(levels)?;
@@ -112,7 +112,7 @@ impl Session {
         Ok(())
     }
 
-    /// Maps into a lent buffer and gives the levels used. Checks 10, 11.
+    /// Maps into a lent buffer and returns the levels used. Checks 10, 11.
     pub fn map(&self, buffer: &mut [u8]) -> Result<u8, Refusal> {
         map_into(&self.entries, self.levels, buffer)
     }

@@ -1,4 +1,4 @@
-//! What a run has met: how often each refusal number, how many maps, and how
+//! Counts of a run: how often each refusal number came, how many maps, and how
 //! many nodes were left out for their cost.
 
 use crate::refusal::{Refusal, NO_MAP, NUMBERS};
@@ -15,7 +15,7 @@ pub struct Tally {
 }
 
 impl Tally {
-    /// Counts one answer and hands it back.
+    /// Counts one answer and returns it.
     pub fn note<T>(&mut self, answer: Result<T, Refusal>) -> Result<T, Refusal> {
         match &answer {
             Ok(_) => self.accepted += 1,
@@ -24,8 +24,8 @@ impl Tally {
         answer
     }
 
-    /// Counts a map that uses so many levels; that of an empty node is none to
-    /// speak of.
+    /// Counts a map that uses `used` levels; the map of an empty node does not
+    /// count.
     pub fn map(&mut self, used: u8) {
         self.maps += u64::from(used > 0);
     }
@@ -37,7 +37,7 @@ impl Tally {
         self.left_out += u64::from(!done);
     }
 
-    /// How often the number was met.
+    /// How often a call was refused with this number.
     pub fn met(&self, number: u8) -> u64 {
         self.refused[usize::from(number) - 1]
     }
@@ -47,7 +47,8 @@ impl Tally {
         self.accepted
     }
 
-    /// Asserts that at least so many calls gave a map, and so many had none.
+    /// Asserts that at least `maps` calls gave a map, and at least `none` did
+    /// not.
     pub fn assert_maps(&self, maps: u64, none: u64) {
         assert!(self.maps >= maps && self.met(NO_MAP) >= none, "{self}");
     }
@@ -60,7 +61,7 @@ impl Tally {
         );
     }
 
-    /// Asserts that none was.
+    /// Asserts that no node was left out for its cost.
     pub fn assert_none_left_out(&self) {
         assert!(self.nodes > 0 && self.left_out == 0, "{self}");
     }

@@ -17,7 +17,7 @@ pub enum Timing {
         /// Evaluations of the demand.
         rounds: u64,
     },
-    /// The entry doesn't.
+    /// The entry misses its deadline.
     Late {
         /// Evaluations of the demand.
         rounds: u64,
@@ -87,8 +87,8 @@ pub fn rounds_bound(entries: &[Entry], levels: &[u8], i: usize) -> u64 {
     1 + further
 }
 
-/// Levels that set the group `first..=last` apart from what comes before it
-/// and what comes after it.
+/// Levels with one for the group `first..=last`, one for all entries before it,
+/// and one for all entries after it.
 pub fn group_levels(count: usize, first: usize, last: usize) -> Vec<u8> {
     (0..count)
         .map(|j| 1 + u8::from(j >= first) + u8::from(j > last))

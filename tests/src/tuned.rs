@@ -1,10 +1,10 @@
 //! The same work in Rust tuned by hand, with the decisions of the proved
-//! library: what it measures is the language and its proofs alone.
+//! library. So a comparison shows only the cost of the language and its proofs.
 //!
-//! It answers every input as the library does, refusals with their places and
-//! lent buffers included; tests/tuned.rs holds it against the second
-//! implementation. Entries are read where they stand, in the bytes of a file
-//! or in the words of a session, and nothing is copied that need not be.
+//! It answers every input as the library does, including the places of refusals
+//! and the lent buffers; tests/tuned.rs compares it with the second
+//! implementation. It reads entries in place, in the bytes of a file or in the
+//! words of a session, and copies only what it must.
 
 mod entry;
 mod file;

@@ -48,7 +48,7 @@ pub fn of_entries(entries: &[Entry]) -> Vec<u32> {
     entries.iter().flat_map(entry_words).collect()
 }
 
-/// Words that differ from their neighbours, to show what a call has kept.
+/// Words that differ from their neighbours, to show what a call has changed.
 pub fn known(length: usize) -> Vec<u32> {
     (0..length)
         .map(|at| (at as u32).wrapping_mul(0x9E37_79B9) ^ 0xA5A5_A5A5)

@@ -15,7 +15,7 @@ use oracle::session::Session;
 #[test]
 fn mapping_a_file_checks_file_then_9_10_11() {
     let mut rng = rng(80);
-    // Case F has no map, so each fault that is left out shows the next one.
+    // Case F has no map: without an earlier fault the answer is 11.
     let plan = Plan {
         nodes: vec![cases::f()],
     };
@@ -49,7 +49,7 @@ fn mapping_fills_from_the_start_and_keeps_the_rest() {
         let file = encode(&plan).unwrap();
         for node in &plan.nodes {
             let count = node.entries.len();
-            // Into an exact buffer, by the proved library.
+            // The proved library, with an exact buffer.
             let mut levels = known(count);
             let due = ffi::map(&file, node.number, &mut levels);
             for room in [count, count + 5] {
@@ -80,7 +80,7 @@ const BAD_BOTH: Entry = Entry {
     ..BAD_TICKS
 };
 
-/// A session with so many good entries.
+/// A session with `count` good entries.
 fn session_of(count: usize) -> Session {
     let mut session = Session::open(2).unwrap();
     for position in 0..count {
@@ -89,7 +89,7 @@ fn session_of(count: usize) -> Session {
     session
 }
 
-/// The refusal due for an entry at this position of a session.
+/// The expected refusal of an entry at this position of a session.
 fn of_entry(entry: Entry, position: usize) -> Option<Refusal> {
     match (entry == GOOD, entry.kind) {
         (true, _) => None,

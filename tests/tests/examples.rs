@@ -1,5 +1,5 @@
-//! The examples in C and in Rust are compiled, linked and run; those of the
-//! documents are held to what they show.
+//! The examples in C and in Rust are compiled, linked and run. Examples in
+//! documents are compared with the files and the output that they show.
 
 use oracle::cases;
 use oracle::file::encode;
@@ -42,7 +42,7 @@ fn files() -> Vec<Vec<u8>> {
     ]
 }
 
-/// The program of an example in C.
+/// Compiles an example in C, and returns the program.
 fn compiled_c(source: &str, name: &str) -> PathBuf {
     let program = built(name);
     compile(
@@ -82,8 +82,8 @@ fn change_line(name: &str, answer: Result<(), Refusal>) -> String {
     }
 }
 
-/// Case P, then case R, then R without its second task on one level, then
-/// changes that are refused.
+/// Case P, then case R, then R without its second task and with one level, then
+/// refused changes.
 #[test]
 fn c_session() {
     let program = compiled_c("examples/session.c", "session_c");
@@ -132,7 +132,7 @@ fn every_function_is_called_from_c() {
     }
 }
 
-/// The example of docs/SPEC.md is the sample of case P, with its listing.
+/// The example in docs/SPEC.md equals the sample of case P and its listing.
 #[test]
 fn spec_example() {
     let spec = text("docs/SPEC.md");
@@ -168,7 +168,7 @@ fn make_list_names_the_problem() {
             .arg("list")
             .arg(format!("PLAN={plan}"))
             .current_dir(root())
-            // As from a shell, also where the tests are run by make.
+            // As from a shell, even if make runs the tests.
             .env_remove("MAKELEVEL")
             .env_remove("MAKEFLAGS")
             .output()
@@ -180,7 +180,7 @@ fn make_list_names_the_problem() {
     }
 }
 
-/// The bytes that a line begins with, up to what is said of them.
+/// The bytes at the start of a line, up to their description.
 fn hexadecimal(line: &str) -> impl Iterator<Item = u8> + '_ {
     line.split_whitespace()
         .map_while(|word| u8::from_str_radix(word, 16).ok())
@@ -203,7 +203,7 @@ fn c() {
     }
 }
 
-/// What the example in C writes behind the listing.
+/// What the example in C writes after the listing.
 fn map_lines(plan: &Plan) -> String {
     plan.nodes
         .iter()

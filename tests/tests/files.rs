@@ -1,4 +1,4 @@
-//! Plan files: what is accepted, and what is turned back first.
+//! Plan files: which are accepted, and which refusal comes first.
 
 use oracle::cases;
 use oracle::file::{check, contents_end, decode, encode, read, write, ENTRY_BYTES};
@@ -9,7 +9,7 @@ use oracle::options::{rng, times};
 use oracle::refusal::{Refusal, COUNT, CUT_OFF, KIND, LENGTH, OFFSET, OPENING, ROW, TICKS};
 use oracle::rng::Rng;
 
-/// Any plan, small ones often.
+/// Any plan, often a small one.
 fn draw(rng: &mut Rng) -> Plan {
     match rng.below(8) {
         0 => plans::station(rng),
@@ -101,7 +101,7 @@ fn truncation_at_every_length() {
     }
 }
 
-/// Case P with a second, empty node and a third with a section.
+/// Case P, an empty node, and a node with a section.
 fn three_nodes() -> Plan {
     let section = Entry {
         kind: 2,
@@ -138,7 +138,7 @@ fn one_byte_changed_at_every_place_to_every_value() {
     assert!(accepted > 1_000, "{accepted}");
 }
 
-/// Which numbers a change of this one byte may be refused with.
+/// The refusals that a change of this one byte may cause.
 fn possible_numbers(plan: &Plan, at: usize) -> &'static [u8] {
     let contents = contents_end(plan.nodes.len());
     if at < 4 {
@@ -162,7 +162,8 @@ fn possible_numbers(plan: &Plan, at: usize) -> &'static [u8] {
     }
 }
 
-/// Whether what a lenient reader finds is written back as the same bytes.
+/// Whether the writer turns what a reader without checks finds into the same
+/// bytes.
 fn writes_back(file: &[u8]) -> bool {
     let rows: Vec<Row> = file[8..]
         .chunks_exact(8)

@@ -1,4 +1,4 @@
-//! The generated plans are what they are meant to be.
+//! The generated plans have the properties that they are meant to have.
 
 use oracle::file::encode;
 use oracle::gen::budget::{fits, rounds_ceiling, ROUNDS};
@@ -66,7 +66,7 @@ fn the_ceiling_is_one() {
             assert!(rounds <= rounds_ceiling(&entries));
         }
     }
-    // Short periods under a long deadline are what the budget is for.
+    // The budget excludes a short period before a long deadline.
     let long = [
         Entry::task(1, 1, 2, 2),
         Entry::task(2, 1, MAX_TICKS, MAX_TICKS),
@@ -107,7 +107,7 @@ fn stations_are_as_described() {
     assert!(plans.iter().any(|plan| plan.nodes.len() >= 31));
     for node in nodes(&plans) {
         assert!((3..=20).contains(&node.entries.len()));
-        // In millionths; runs are whole, which moves the load a little.
+        // In millionths; rounding C to whole ticks changes the load a little.
         let load: u64 = node.entries.iter().map(|e| e.c * 1_000_000 / e.t).sum();
         assert!((250_000..=960_000).contains(&load), "{load}");
     }
@@ -184,7 +184,7 @@ fn sessions_hold_what_plans_do() {
     }
 }
 
-/// Of the draws at the limits, fewer than three in five are dropped for their
+/// Fewer than three in five of the draws at the limits are dropped for their
 /// cost.
 #[test]
 fn few_draws_are_dropped() {
@@ -194,7 +194,7 @@ fn few_draws_are_dropped() {
         let count = rng.count(1, 6);
         dropped += entries::at_limits_counted(&mut rng, count).1;
     }
-    // Written past the harness, which keeps what passing tests print.
+    // Not `println!`: the harness hides what passing tests print with it.
     let all = drawn + dropped;
     writeln!(
         std::io::stdout(),

@@ -78,7 +78,7 @@ fn refused_line() {
     assert_eq!(list(&[]), "refused 1 row 0 entry 0\n");
 }
 
-/// Case P's file with `edit` made, and then filled up to `length`.
+/// The listing of case P's file after `edit`, padded with zeros to `length`.
 fn padded(length: usize, edit: fn(&mut Vec<u8>)) -> String {
     let mut file = cases::file(cases::p());
     edit(&mut file);
@@ -90,7 +90,7 @@ fn padded(length: usize, edit: fn(&mut Vec<u8>)) -> String {
 fn longest_input_and_one_byte_more() {
     for length in [MAX_INPUT - 1, MAX_INPUT, MAX_INPUT + 1, 3 * MAX_INPUT] {
         assert_eq!(padded(length, |_| ()), "refused 6 row 0 entry 0\n");
-        // A later fault doesn't show, an earlier one does.
+        // A fault of a later check is not reported, one of an earlier check is.
         let kind = padded(length, |file| file[18] = 3);
         assert_eq!(kind, "refused 6 row 0 entry 0\n");
         let offset = padded(length, |file| file[12] = 17);
@@ -102,7 +102,7 @@ fn longest_input_and_one_byte_more() {
     assert_eq!(LONGEST, 41_224);
 }
 
-/// A node's lines, put together from other calls of the proved library.
+/// A node's lines, made from other calls of the proved library.
 fn node_lines(file: &[u8], node: &Node) -> Vec<String> {
     let (number, available) = (node.number, node.levels);
     let mut levels = vec![0; node.entries.len()];

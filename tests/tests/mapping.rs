@@ -1,4 +1,5 @@
-//! The mapper against itself: two ways to a map, and all assignments.
+//! Compares the mapper's two ways to a map with each other and with all
+//! assignments.
 
 use oracle::assignments::{all_assignments, different_levels, fewest_levels, is_map};
 use oracle::gen::{entries, plans};
@@ -71,8 +72,8 @@ fn groupings_agree_with_assignments() {
     assert!(mapped > times(200) && unmapped > times(200));
 }
 
-/// Of the passing assignments that are maps, the answer is the first by the
-/// rule of docs/SPEC.md, here read off the levels and not off the groups.
+/// The answer is the best passing map by the rule of docs/SPEC.md. Here the
+/// rule is applied to the levels instead of the groups.
 #[test]
 fn answer_is_first_by_the_rule() {
     let mut rng = rng(4);
@@ -83,8 +84,9 @@ fn answer_is_first_by_the_rule() {
         let passing = all_assignments(entries.len(), levels)
             .into_iter()
             .filter(|one| is_map(one, levels) && passes(&entries, one));
-        // With equally many levels, longer groups at the end put high levels
-        // early: compared from the end, such a map is the larger list.
+        // With equally many levels, longer groups at the end mean that high
+        // levels begin earlier. So compared from the end, the better map is
+        // larger.
         let first = passing.min_by_key(|one| {
             let from_end: Vec<u8> = one.iter().rev().map(|level| 64 - level).collect();
             (different_levels(one), from_end)
@@ -105,7 +107,7 @@ fn assert_map_is_sound(node: &Node) -> bool {
     true
 }
 
-/// How many nodes of so many plans have a map, and how many have none.
+/// How many nodes of `plans` plans have a map, and how many have none.
 fn sound_maps(rng: &mut Rng, plans: u64, draw: fn(&mut Rng) -> Plan) -> (usize, usize) {
     let nodes: Vec<Node> = (0..plans).flat_map(|_| draw(rng).nodes).collect();
     let mapped = nodes
@@ -163,7 +165,7 @@ fn maps_of_wide_nodes() {
     assert!(mapped > 200 && unmapped > 200, "{mapped} {unmapped}");
 }
 
-/// Each entry has time for those before it and for nothing else.
+/// Each entry has just enough time for itself and the entries before it.
 #[test]
 fn a_map_may_need_64_levels() {
     let entries: Vec<Entry> = (1..=64)

@@ -1,5 +1,5 @@
-//! Odd plans: nodes whose load is close to 1, so that a search which follows
-//! every round may take hours.
+//! Odd plans: nodes whose load is close to 1. A search that makes every round
+//! may take hours for them.
 
 use oracle::cases;
 use oracle::compare;
@@ -11,14 +11,15 @@ use oracle::tally::Tally;
 use oracle::timing::{completion, completion_in_group, Timing};
 use std::io::Write;
 
-/// Whether the entry at `i` surely is late in the group from `start` to the
-/// last entry, in whole numbers and without a round.
+/// Whether the load shows that the entry at `i` is late in the group from
+/// `start` to the last entry. It computes exactly, in integers, and without a
+/// round.
 ///
-/// Its demand at a time t up to its D is at least K + U t. K has the runs of
-/// the group, its own blocking, and one run of each entry before the group
-/// with a period of D or more; U is the load of the other entries before it.
-/// If the demand is at most t, then K is at most (1 - U) t, so at most
-/// (1 - U) D where U is below 1, and impossible elsewhere.
+/// For t ≤ D its demand W(t) is at least K + U t. K is its blocking, plus C of
+/// each entry of the group, plus C of each entry before the group with T ≥ D.
+/// U is the load of the other entries before the group. So W(t) ≤ t gives
+/// K ≤ (1 - U) t. If U < 1, then K ≤ (1 - U) D. If U ≥ 1, there is no such t,
+/// because K > 0.
 fn surely_late(entries: &[Entry], start: usize, i: usize) -> bool {
     let own = &entries[i];
     let (short, long): (Vec<&Entry>, Vec<&Entry>) =
@@ -42,7 +43,7 @@ fn least_multiple(whole: i128, t: u64) -> i128 {
     whole / a * i128::from(t)
 }
 
-/// Wherever the last group of a map starts, an entry of it is late.
+/// Wherever the last group of a map starts, one of its entries is late.
 #[test]
 fn the_families_have_no_map() {
     for (name, entries) in FAMILIES.into_iter().chain([JUST_LATE[0]]) {
@@ -54,8 +55,8 @@ fn the_families_have_no_map() {
     }
 }
 
-/// How many entries are surely late in some last group; the second
-/// implementation finds them late too.
+/// How many entries the load shows to be late in some last group; the second
+/// implementation must find them late too.
 fn late_by_load(entries: &[Entry]) -> u64 {
     let last = entries.len() - 1;
     let mut sure = 0;
@@ -71,8 +72,8 @@ fn late_by_load(entries: &[Entry]) -> u64 {
     sure
 }
 
-/// Loads just below, at and just above 1: every call against the second
-/// implementation, which follows every round.
+/// Loads just below, at and just above 1: every call is compared with the
+/// second implementation, which makes every round.
 #[test]
 fn loads_near_one() {
     let (mut rng, mut tally) = (rng(260), Tally::default());
@@ -88,7 +89,7 @@ fn loads_near_one() {
         none += u64::from(!mapped);
         compare::list(&mut tally, &file);
     }
-    // Written past the harness, which keeps what passing tests print.
+    // Not `println!`: the harness hides what passing tests print with it.
     writeln!(
         std::io::stdout(),
         "\n{} nodes with a load near 1: {maps} with a map, {none} without; {sure} entries late by load",
@@ -98,7 +99,7 @@ fn loads_near_one() {
     assert!(maps > times(500) && none > times(500) && sure > times(1_000));
 }
 
-/// Entries that end in time after millions of rounds, each counted.
+/// Entries that end in time after millions of rounds; each round is counted.
 #[test]
 fn millions_of_rounds() {
     let entries = many_rounds(8);
@@ -118,8 +119,8 @@ fn millions_of_rounds() {
     assert_eq!(String::from_utf8_lossy(&text), due);
 }
 
-/// The proved program and library on full plans, with a limit of time. The
-/// second implementation follows every round and cannot be asked.
+/// The proved program and library on full plans, with a time limit. The second
+/// implementation makes every round, which would take too long.
 #[cfg(list_plan)]
 mod full {
     use super::*;
@@ -132,7 +133,7 @@ mod full {
     use std::process::Command;
     use std::time::Duration;
 
-    /// Most seconds of a listing; it takes milliseconds.
+    /// Seconds allowed for a listing; it takes milliseconds.
     const LIMIT: Duration = Duration::from_secs(10);
 
     fn assert_listed(family: usize) {

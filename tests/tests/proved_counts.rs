@@ -1,5 +1,5 @@
-//! Counts and lengths that look small where they are cut to 8 or 16 bits, and
-//! numbers at the very limits.
+//! Counts and lengths that would be valid if truncated to 8, 16 or 32 bits, and
+//! numbers at the limits.
 
 use oracle::cases;
 use oracle::compare;
@@ -18,7 +18,7 @@ use oracle::session::{Op, Session};
 use oracle::tally::Tally;
 use oracle::words::{self, ENTRY_WORDS};
 
-/// What a cut to 8, 16 or 32 bits loses.
+/// What truncation to 8, 16 or 32 bits loses.
 const CUTS: [usize; 3] = [1 << 8, 1 << 16, 1 << 32];
 
 /// Rows without entries whose numbers rise.
@@ -32,7 +32,7 @@ fn empty_rows(count: usize) -> Vec<Row> {
         .collect()
 }
 
-/// Too many rows; the last bits of their count are those of a good one.
+/// Too many rows; truncated, some of the counts would be valid.
 #[test]
 fn rows_for_the_writer() {
     let mut tally = Tally::default();
@@ -49,7 +49,8 @@ fn rows_for_the_writer() {
     }
 }
 
-/// 256 and 65,536 entries too many, and as many words; 256 too few, and none.
+/// 256 and 65,536 entries too many, and as many words too many; 256 entries too
+/// few, and no entries.
 #[test]
 fn entries_for_the_writer() {
     let mut tally = Tally::default();
@@ -81,7 +82,7 @@ fn one(entries: &[Entry]) -> Plan {
     }
 }
 
-/// Plans with zeros behind them: their own lengths, if these are cut.
+/// Plans padded with zeros; truncated, most of the lengths would be right.
 #[test]
 fn padded_files() {
     let mut tally = Tally::default();
@@ -102,8 +103,8 @@ fn padded_files() {
     }
 }
 
-/// A fault in any row shows in a file that is far too long, one in an entry
-/// does not: 6 comes between.
+/// In a file that is far too long, a fault in a row is reported and a fault in
+/// an entry is not: 6 is checked between them.
 #[test]
 fn faults_before_the_length() {
     let mut tally = Tally::default();
@@ -136,7 +137,7 @@ fn faults_before_the_length() {
     }
 }
 
-/// Long buffers whose lengths are 0 or too short, if they are cut.
+/// Long buffers whose lengths would be 0 or too short if truncated.
 #[test]
 fn long_buffers() {
     let mut tally = Tally::default();
@@ -166,7 +167,7 @@ fn long_buffers() {
     }
 }
 
-/// A number that the plan does not have (9) comes before a short buffer (10).
+/// Check 9 (no such node) comes before 10 (short buffer).
 #[test]
 fn no_such_node_and_no_room() {
     let mut tally = Tally::default();
@@ -181,7 +182,7 @@ fn no_such_node_and_no_room() {
     assert_eq!(answer, Err(Refusal::plain(NO_NODE)));
 }
 
-/// Positions in the list, if they are cut.
+/// Positions that would be in the list if truncated.
 #[test]
 fn positions_in_a_session() {
     let (mut rng, mut tally) = (rng(324), Tally::default());
@@ -211,7 +212,7 @@ fn positions_in_a_session() {
     }
 }
 
-/// Numbers at and about both ends of every limit.
+/// Numbers at and near both ends of every limit.
 const TICKS: [u64; 12] = [
     0,
     1,
@@ -227,7 +228,8 @@ const TICKS: [u64; 12] = [
     u32::MAX as u64,
 ];
 
-/// Every combination of them, in a file, to the writer and in a session.
+/// Every combination of these as C, T, D and B, in a file, for the writer and
+/// in a session.
 #[test]
 fn ticks_at_the_limits() {
     let mut tally = Tally::default();
@@ -246,7 +248,8 @@ fn ticks_at_the_limits() {
     assert_eq!(accepted, 84 * 8);
 }
 
-/// Whether the entry is accepted: checked, read, written, mapped and listed.
+/// Whether the entry is accepted; compares checking, reading, mapping, listing,
+/// writing and inserting it.
 fn ticks(tally: &mut Tally, both: &mut Both, entry: Entry) -> bool {
     let mut file = cases::file(cases::node(1, &[Entry::task(1, 1, 1, 1)]));
     file[16..].copy_from_slice(&oracle::file::entry_bytes(&entry));

@@ -1,5 +1,5 @@
-//! The proved library on damaged files: each call refuses them as the second
-//! implementation does, as is due, and leaves every buffer as it was.
+//! The proved library on damaged files: each call refuses them as expected and
+//! as the second implementation does, and leaves every buffer as it was.
 
 use oracle::cases;
 use oracle::compare;
@@ -13,7 +13,7 @@ use oracle::tally::Tally;
 use std::io::Write;
 
 fn say(name: &str, tally: &Tally) {
-    // Written past the harness, which keeps what passing tests print.
+    // Not `println!`: the harness hides what passing tests print with it.
     writeln!(std::io::stdout(), "\n{name}: {tally}").expect("output is open");
 }
 
@@ -83,7 +83,7 @@ fn truncated_at_every_length() {
     say("truncated", &tally);
 }
 
-/// Case P with a second, empty node and a third with a section.
+/// Case P, an empty node, and a node with a section.
 fn three_nodes() -> Plan {
     let section = Entry {
         kind: 2,

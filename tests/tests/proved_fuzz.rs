@@ -12,7 +12,7 @@ fn a_short_run() {
             panic!("after {} files: {difference:?}", fuzz.files());
         }
     }
-    // Written past the harness, which keeps what passing tests print.
+    // Not `println!`: the harness hides what passing tests print with it.
     writeln!(std::io::stdout(), "\n{fuzz}").expect("output is open");
     let (files, sessions) = (fuzz.tally(), fuzz.sessions());
     assert!(fuzz.kinds() > 400, "{}", fuzz.kinds());

@@ -1,6 +1,6 @@
-//! Deadlines just below a completion time: only the rounds show that such an
-//! entry is late. The smaller nodes are held against the second
-//! implementation; the full ones it would follow for hours.
+//! Deadlines just below a completion time: only the rounds show that the entry
+//! is late. The smaller nodes are compared with the second implementation; it
+//! would take hours for the full ones.
 
 use oracle::cases;
 use oracle::compare;
@@ -16,7 +16,8 @@ use oracle::session::{Op, Reply, Session};
 use oracle::tally::Tally;
 use std::io::Write;
 
-/// A tick before the completion time there is no map, and at it there is one.
+/// With deadlines a tick before the completion time there is no map, and with
+/// deadlines at it there is one.
 #[test]
 fn at_the_completion_time_and_a_tick_before() {
     let (mut rng, mut tally) = (rng(320), Tally::default());
@@ -37,7 +38,7 @@ fn at_the_completion_time_and_a_tick_before() {
         compare::map(&mut tally, &file, 7, entries.len());
         compare::list(&mut tally, &file);
     }
-    // Written past the harness, which keeps what passing tests print.
+    // Not `println!`: the harness hides what passing tests print with it.
     writeln!(
         std::io::stdout(),
         "\njust late: {least} rounds or more; {tally}"

@@ -1,5 +1,5 @@
-//! The proved library on the files and the rows of session operations that
-//! are kept: the samples, and what a fuzz run has found.
+//! The proved library on the kept files and sequences of session operations:
+//! the samples, and what fuzz runs have found.
 
 use oracle::compare;
 use oracle::corpus;

@@ -1,5 +1,5 @@
-//! The proved mapper on nodes in which narrow groups fail and wide ones pass,
-//! up to 64 entries, against the second implementation.
+//! The proved mapper on nodes of up to 64 entries in which narrow groups fail
+//! and wide ones pass, compared with the second implementation.
 
 use oracle::assignments::is_map;
 use oracle::cases;
@@ -17,7 +17,7 @@ use oracle::tally::Tally;
 use oracle::timing::{completion, Timing};
 use std::io::Write;
 
-/// What was met of some nodes.
+/// Counts of nodes and maps.
 #[derive(Debug, Default)]
 struct Met {
     nodes: u64,
@@ -29,7 +29,7 @@ struct Met {
 }
 
 impl Met {
-    /// A node by both, in a file and in a session.
+    /// Compares both implementations on a node, in a file and in a session.
     fn compare(&mut self, tally: &mut Tally, levels: u8, entries: &[Entry]) {
         let file = cases::file(cases::node(levels, entries));
         compare::map(tally, &file, 7, entries.len());
@@ -51,10 +51,10 @@ impl Met {
         }
     }
 
-    /// Of the nodes, half have a map, some have none, and most have a
-    /// wide group that passes where a narrow one fails.
+    /// Asserts that more than half of the nodes have a map, some have none, and
+    /// most have a wide group that passes where a narrow one fails.
     fn assert_shares(&self, name: &str) {
-        // Written past the harness, which keeps what passing tests print.
+        // Not `println!`: the harness hides what passing tests print with it.
         writeln!(std::io::stdout(), "\n{name}: {self:?}").expect("output is open");
         assert!(2 * self.maps > self.nodes, "{self:?}");
         assert!(10 * self.none > self.nodes, "{self:?}");
@@ -99,8 +99,8 @@ fn blocks_of_64() {
     compare_blocks(313, "64 entries", 80, |_| 64);
 }
 
-/// Above 12 entries the second implementation goes through groups: on blocks
-/// of up to 15 entries that is held to every map.
+/// For more than 12 entries the second implementation tries groups instead of
+/// whole maps. On blocks of up to 15 entries both ways are compared.
 #[test]
 fn groups_agree_with_groupings_on_blocks() {
     let mut rng = rng(314);
@@ -125,7 +125,7 @@ fn groups_agree_with_groupings_on_blocks() {
     assert!(2 * wide > nodes, "{wide} of {nodes}");
 }
 
-/// One group of 64 passes, and no narrower one does.
+/// One group of 64 passes, and some narrower group fails.
 #[test]
 fn a_group_of_64() {
     let (mut rng, mut tally) = (rng(315), Tally::default());
@@ -142,7 +142,7 @@ fn a_group_of_64() {
     assert_eq!(tally.accepted(), 3 * times(10));
 }
 
-/// In a group of 64 the last entry alone is late, by one tick.
+/// In a group of 64 only the last entry is late, by one tick.
 #[test]
 fn late_by_the_64th_entry() {
     let (mut rng, mut tally) = (rng(316), Tally::default());

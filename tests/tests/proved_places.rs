@@ -1,5 +1,5 @@
 //! One fault at every row and every position of the longest plan, and at every
-//! position of a full session: each call names the place.
+//! position of a full session: each call reports the place.
 
 use oracle::compare;
 use oracle::compare::session::Both;
@@ -20,11 +20,11 @@ use oracle::tally::Tally;
 use std::io::Write;
 
 fn say(name: &str, tally: &Tally) {
-    // Written past the harness, which keeps what passing tests print.
+    // Not `println!`: the harness hides what passing tests print with it.
     writeln!(std::io::stdout(), "\n{name}: {tally}").expect("output is open");
 }
 
-/// Every call that takes a file refuses this one, and names the place.
+/// Every call that takes a file refuses this one and reports the place.
 fn assert_refused(tally: &mut Tally, file: &[u8], due: Refusal) {
     assert_eq!(compare::check(tally, file), Err(due));
     compare::read(tally, file, MAX_NODES, MAX_NODES * MAX_ENTRIES * 5);
@@ -34,7 +34,7 @@ fn assert_refused(tally: &mut Tally, file: &[u8], due: Refusal) {
     assert_eq!(oracle::listing::list(file), line);
 }
 
-/// The number before a row.
+/// The node number of the row before.
 fn last(plan: &Plan, row: usize) -> Option<u16> {
     row.checked_sub(1).map(|last| plan.nodes[last].number)
 }
@@ -59,8 +59,8 @@ fn a_fault_in_every_row_of_a_file() {
     say("a fault in every row of a file", &tally);
 }
 
-/// A row that counts one entry less moves the next body, and the last one ends
-/// before the file.
+/// If a row counts one entry less, the offset of the next row is wrong. For the
+/// last row, the file is too long.
 #[test]
 fn one_entry_less_in_every_row_of_a_file() {
     let mut tally = Tally::default();
@@ -84,7 +84,8 @@ fn a_fault_in_every_entry_of_a_file() {
         for (position, entry) in node.entries.iter().enumerate() {
             let faults = entry_faults(*entry);
             assert_eq!(faults.len(), KIND_FAULTS + TICK_FAULTS);
-            // All calls for one fault of each number, the check for the others.
+            // One fault of each number goes to all calls, the others only to
+            // the check.
             let at = row + position;
             let (kind, ticks) = (at % KIND_FAULTS, KIND_FAULTS + at % TICK_FAULTS);
             for (which, (wrong, number)) in faults.into_iter().enumerate() {
@@ -102,7 +103,7 @@ fn a_fault_in_every_entry_of_a_file() {
     say("a fault in every entry of a file", &tally);
 }
 
-/// Of two faulty entries the first counts.
+/// The first of two faulty entries is reported.
 #[test]
 fn two_faulty_entries_of_a_file() {
     let (mut rng, mut tally) = (rng(303), Tally::default());
@@ -123,7 +124,7 @@ fn two_faulty_entries_of_a_file() {
     }
 }
 
-/// Faults of any two kinds, anywhere in the longest plan, in a file and for the
+/// Two faults of any kinds, anywhere in the longest plan, in a file and for the
 /// writer.
 #[test]
 fn two_faults_of_any_kind() {
@@ -150,7 +151,7 @@ fn two_faults_of_any_kind() {
     say("two faults of any kind", &tally);
 }
 
-/// The writer refuses these rows and entries, and names the place.
+/// The writer refuses these rows and entries and reports the place.
 fn assert_not_written(tally: &mut Tally, rows: &[Row], entries: &[Entry], due: Refusal) {
     let answer = compare::write(tally, rows, entries, LONGEST);
     assert_eq!(answer, Err(due));
@@ -186,7 +187,7 @@ fn a_fault_in_every_entry_for_the_writer() {
         let (row, position) = (at / MAX_ENTRIES, at % MAX_ENTRIES);
         let kept = entries[at];
         let faults = entry_faults(kept);
-        // Each row and each position comes to every fault.
+        // This way each row and each position gets every fault.
         let which = row + position;
         let kind = faults[which % KIND_FAULTS];
         let ticks = faults[KIND_FAULTS + which % TICK_FAULTS];
@@ -204,7 +205,7 @@ fn a_fault_in_every_entry_for_the_writer() {
 
 const GOOD: Entry = Entry::task(9, 2, 1_100, 1_050);
 
-/// Every operation but opening refuses this memory.
+/// Every operation except opening refuses this memory.
 fn assert_no_session(tally: &mut Tally, words: &Words, due: Refusal) {
     let mut both = Both::of(words);
     for op in [
@@ -231,7 +232,7 @@ fn a_fault_in_every_entry_of_a_session() {
             put_words(&mut faulty, position, &wrong);
             let due = Refusal::at_entry(number, 0, position);
             assert_no_session(&mut tally, &faulty, due);
-            // A session with fewer entries has nothing there.
+            // A session with fewer entries does not read the faulty one.
             faulty[1] = position as u32;
             let answer = Both::of(&faulty).step(&mut tally, &Op::SetLevels(3), 0);
             assert_eq!(answer, Ok(Reply::Changed), "{position}");
@@ -240,8 +241,8 @@ fn a_fault_in_every_entry_of_a_session() {
     say("a fault in every entry of a session", &tally);
 }
 
-/// Counts of levels and of entries that are too large, some of them good if
-/// they are cut.
+/// Counts of levels and of entries that are too large; truncated, some would be
+/// valid.
 #[test]
 fn a_fault_in_the_counts_of_a_full_session() {
     let (mut rng, mut tally) = (rng(326), Tally::default());
@@ -285,7 +286,7 @@ fn changes_at_every_position_of_a_session() {
     say("changes at every position of a session", &tally);
 }
 
-/// All groups of a full session with each of their entries.
+/// All groups of a full session, with each of their entries timed.
 #[test]
 fn every_group_of_a_full_session() {
     let (mut rng, mut tally) = (rng(308), Tally::default());

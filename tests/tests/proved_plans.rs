@@ -1,5 +1,5 @@
-//! The proved library on generated plans: every call, against the second
-//! implementation.
+//! The proved library on generated plans: every call is compared with the
+//! second implementation.
 
 use oracle::cases;
 use oracle::compare;
@@ -11,7 +11,7 @@ use oracle::rng::Rng;
 use oracle::tally::Tally;
 use std::io::Write;
 
-/// Compares so many plans of a generator, and says what was met.
+/// Compares `count` plans of a generator, and prints the counts of answers.
 fn compare_plans(part: u64, name: &str, count: u64, draw: fn(&mut Rng) -> Plan) -> Tally {
     let mut rng = rng(part);
     let mut tally = Tally::default();
@@ -19,10 +19,10 @@ fn compare_plans(part: u64, name: &str, count: u64, draw: fn(&mut Rng) -> Plan) 
         let file = encode(&draw(&mut rng)).expect("generators give good plans");
         compare::file(&mut tally, &file);
     }
-    // Written past the harness, which keeps what passing tests print.
+    // Not `println!`: the harness hides what passing tests print with it.
     let plans = times(count);
     writeln!(std::io::stdout(), "\n{plans} plans, {name}: {tally}").expect("output is open");
-    // The generators keep to the budget.
+    // The generators keep to the budget of rounds.
     tally.assert_none_left_out();
     tally
 }
@@ -129,13 +129,13 @@ fn many_rounds() {
         compare::list(&mut tally, &file);
         most = most.max(rounds_of_the_last(&oracle::listing::list(&file)));
     }
-    // Written past the harness, which keeps what passing tests print.
+    // Not `println!`: the harness hides what passing tests print with it.
     writeln!(std::io::stdout(), "\nat most {most} rounds: {tally}").expect("output is open");
     assert!(most > 10_000, "{most}");
     tally.assert_maps(times(20), times(5));
 }
 
-/// The rounds in the last line of a listing, or 0 where there is no map.
+/// The rounds in the last line of a listing, or 0 if there is no map.
 fn rounds_of_the_last(text: &str) -> u64 {
     let last = text.split_whitespace().next_back().unwrap_or("");
     last.parse().unwrap_or(0)

@@ -1,4 +1,4 @@
-//! The program by standard input, in pieces.
+//! The program, with its standard input in pieces.
 
 #![cfg(list_plan)]
 
@@ -29,7 +29,7 @@ fn program() -> PathBuf {
     root().join("target/bin/list_plan")
 }
 
-/// The program lists the file as is due; gives the listing.
+/// The program writes the expected listing of the file; returns it.
 fn assert_listed(pieces: &[&[u8]], pause: Duration) -> String {
     let (text, ended) = run(&program(), pieces, pause);
     assert!(ended);
@@ -38,7 +38,7 @@ fn assert_listed(pieces: &[&[u8]], pause: Duration) -> String {
     due
 }
 
-/// Each sample against the listing that is kept beside it.
+/// Each sample is compared with the listing kept beside it.
 #[test]
 fn samples() {
     let folder = root().join("samples");
@@ -89,8 +89,8 @@ fn the_longest_plan() {
     assert_listed(&pieces(&mut rng, &file, 5_000), Duration::ZERO);
 }
 
-/// Listings of 3,000 to 97,000 bytes, longer than a pipe takes at once, each
-/// written whole.
+/// Listings of 3,000 to 97,000 bytes, some longer than a pipe takes at once,
+/// are written completely.
 #[test]
 fn long_listings() {
     let mut longest = 0;
@@ -126,7 +126,7 @@ fn a_byte_at_a_time() {
     assert_listed(&[], Duration::ZERO);
 }
 
-/// A longer input than 65,536 bytes is refused as 6 if no earlier check
+/// An input longer than 65,536 bytes is refused as 6 if no earlier check
 /// applies.
 #[test]
 fn long_input() {

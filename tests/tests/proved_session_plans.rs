@@ -1,5 +1,5 @@
-//! The proved library's sessions with the nodes of the plans' generators: after
-//! each change the map and some timings, against the second implementation.
+//! The proved library's sessions with generated nodes of plans: after each
+//! change the map and some timings are compared with the second implementation.
 
 use oracle::compare::session::Both;
 use oracle::gen::sessions::{Family, LIMITS, LONG, MANY, NEAR_ONE, STATION, TIGHT, WIDE};
@@ -11,7 +11,7 @@ use oracle::tally::Tally;
 use oracle::timing::Timing;
 use std::io::Write;
 
-/// What a run has met.
+/// Counts of a run.
 #[derive(Default)]
 struct Run {
     tally: Tally,
@@ -21,7 +21,7 @@ struct Run {
 }
 
 impl Run {
-    /// The map, and some entries timed in some groups.
+    /// Compares the map, and times some entries in some groups.
     fn look(&mut self, rng: &mut Rng, both: &mut Both) {
         both.map(&mut self.tally, rng);
         let len = both.session().expect("it is held").entries().len();
@@ -41,7 +41,8 @@ impl Run {
         }
     }
 
-    /// One change, left out where the tests of what it leaves would take long.
+    /// Makes one change, or leaves it out if the tests after it would take
+    /// long.
     fn change(&mut self, rng: &mut Rng, both: &mut Both, family: &Family) {
         let mut held = both.session().expect("it is held");
         let op = family.change(rng, &held);
@@ -56,7 +57,7 @@ impl Run {
     }
 }
 
-/// So many sessions of a family, each changed so many times.
+/// Compares `count` sessions of a family, each with `changes` changes.
 fn compare_sessions(part: u64, count: u64, changes: u64, family: Family) -> Run {
     let mut rng = rng(part);
     let mut run = Run::default();
@@ -67,7 +68,7 @@ fn compare_sessions(part: u64, count: u64, changes: u64, family: Family) -> Run 
             run.change(&mut rng, &mut both, &family);
         }
     }
-    // Written past the harness, which keeps what passing tests print.
+    // Not `println!`: the harness hides what passing tests print with it.
     let Run {
         tally,
         on_time,
@@ -81,8 +82,8 @@ fn compare_sessions(part: u64, count: u64, changes: u64, family: Family) -> Run 
 }
 
 impl Run {
-    /// At least so many maps and calls without one, and so many entries on
-    /// time and late; at most one change in `whole` was left out.
+    /// Asserts least counts of maps, of calls without a map, and of entries on
+    /// time and late; at most one change in `whole` may be left out.
     fn assert_least(&self, maps: [u64; 2], timed: [u64; 2], whole: u64) {
         self.tally.assert_maps(times(maps[0]), times(maps[1]));
         assert!(self.on_time >= times(timed[0]), "{}", self.on_time);

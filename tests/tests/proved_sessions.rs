@@ -1,6 +1,6 @@
-//! The proved library's sessions: rows of operations, refused ones included,
-//! with the contents, the map and a timing after each, against the second
-//! implementation.
+//! The proved library's sessions: sequences of operations, refused ones
+//! included. After each operation the contents, the map and a timing are
+//! compared with the second implementation.
 
 use oracle::cases;
 use oracle::compare::session::Both;
@@ -18,7 +18,7 @@ use oracle::timing::Timing;
 use std::io::Write;
 
 fn say(name: &str, tally: &Tally) {
-    // Written past the harness, which keeps what passing tests print.
+    // Not `println!`: the harness hides what passing tests print with it.
     writeln!(std::io::stdout(), "\n{name}: {tally}").expect("output is open");
 }
 
@@ -30,10 +30,11 @@ fn step(rng: &mut Rng, tally: &mut Tally, both: &mut Both, op: &Op) {
     let _ = both.step(tally, &group(rng, count), 0);
 }
 
-/// A row of operations.
+/// A sequence of operations.
 fn walk(rng: &mut Rng, tally: &mut Tally, both: &mut Both, course: Course, steps: u64) {
     for _ in 0..steps {
-        // On memory that holds no session, operations as on an empty one.
+        // For memory that holds no session, operations are drawn as for an
+        // empty one.
         let held = both.session().or_else(|_| Session::open(1));
         let op = next_op(rng, &held.expect("1 is a level count"), course);
         step(rng, tally, both, &op);
@@ -74,7 +75,7 @@ fn full_sessions() {
     tally.assert_maps(times(200), times(150));
 }
 
-/// From opening until the list is full, without the map of each step.
+/// From opening until the list is full, without a map at each step.
 #[test]
 fn sessions_that_fill_up() {
     let (mut rng, mut tally) = (rng(272), Tally::default());
@@ -91,8 +92,8 @@ fn sessions_that_fill_up() {
     tally.assert_maps(times(250), 0);
 }
 
-/// Memory that no operation has made is checked first, and only opening mends
-/// it. Some of it holds a session with other words beyond its entries.
+/// Memory that no operation has made is checked first, and only opening repairs
+/// it. Some of it holds a session with nonzero words beyond its entries.
 #[test]
 fn memory_from_elsewhere() {
     let (mut rng, mut tally) = (rng(273), Tally::default());
@@ -202,7 +203,7 @@ fn cases_built_step_by_step() {
         let mut both = Both::of(&[7; 322]);
         let opening = Op::Open(usize::from(node.levels));
         step(&mut rng, &mut tally, &mut both, &opening);
-        // From the last entry to the first, each before the others.
+        // From the last entry to the first, each inserted before the others.
         for entry in node.entries.iter().rev() {
             step(&mut rng, &mut tally, &mut both, &Op::Insert(0, *entry));
         }

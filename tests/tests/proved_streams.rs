@@ -1,4 +1,4 @@
-//! The program where standard input or output is no good.
+//! The program with a standard input or output that does not work.
 
 #![cfg(list_plan)]
 
@@ -6,7 +6,7 @@ use oracle::programs::root;
 use std::fs::{File, OpenOptions};
 use std::process::{Command, Output, Stdio};
 
-/// What the program leaves with this input and this output.
+/// Runs the program with this input and this output.
 fn run(input: Stdio, output: Stdio) -> Output {
     Command::new(root().join("target/bin/list_plan"))
         .stdin(input)
@@ -38,7 +38,7 @@ fn nothing_on_standard_error_where_all_is_well() {
     assert!(done.stderr.is_empty() && done.status.success());
 }
 
-/// A folder can be opened, but not read: a read that fails ends the input.
+/// A directory can be opened but not read; a read that fails ends the input.
 #[test]
 fn input_that_cannot_be_read_is_an_empty_file() {
     let folder = File::open(root()).expect("the folder is there");

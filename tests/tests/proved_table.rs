@@ -1,4 +1,4 @@
-//! The examples of the table, by name, from the proved library.
+//! The examples of the table of refusals, by name, for the proved library.
 
 use oracle::cases;
 use oracle::ffi::session::Session;

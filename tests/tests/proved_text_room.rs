@@ -1,6 +1,6 @@
-//! The listing in buffers of about 115,625 bytes, from which on the library
-//! writes straight into them: the text stands at the start, and the bytes
-//! beyond it are kept.
+//! The listing in buffers of about 115,625 bytes. From that length on the
+//! library writes every listing straight into the buffer. The text is at the
+//! start, and the bytes beyond it are kept.
 
 use oracle::cases;
 use oracle::compare;
@@ -14,7 +14,8 @@ use oracle::tally::Tally;
 /// Bytes that suffice for every listing.
 const MOST_TEXT: usize = 115_625;
 
-/// Into a buffer a byte too short, an exact one, and long ones; gives the text.
+/// Lists into a buffer a byte too short, an exact one, and long ones; returns
+/// the text.
 fn assert_kept(tally: &mut Tally, file: &[u8]) -> String {
     let listing = list(file);
     let text = listing.as_bytes();

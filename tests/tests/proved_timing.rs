@@ -1,6 +1,6 @@
-//! The proved timing at the ends of what the numbers allow, against the second
-//! implementation: very many rounds, and starts, demands and releases that no
-//! 32 bits hold. Each test says how far it came.
+//! The proved timing at extremes within the limits, compared with the second
+//! implementation: very many rounds, and starts and demands that do not fit 32
+//! bits. Each test prints the extreme that it reached.
 
 use oracle::cases;
 use oracle::compare;
@@ -17,11 +17,12 @@ use oracle::timing::{demand, group_levels, start, Timing};
 use std::io::Write;
 
 fn say(what: String) {
-    // Written past the harness, which keeps what passing tests print.
+    // Not `println!`: the harness hides what passing tests print with it.
     writeln!(std::io::stdout(), "\n{what}").expect("output is open");
 }
 
-/// The last entry in the group that starts at `first`, timed by both.
+/// Times the last entry in the group that starts at `first`, in both
+/// implementations.
 fn time_last(tally: &mut Tally, entries: &[Entry], first: usize) -> Timing {
     let last = entries.len() - 1;
     let session = Session::holding(64, entries).expect("generators give good entries");
@@ -32,14 +33,14 @@ fn time_last(tally: &mut Tally, entries: &[Entry], first: usize) -> Timing {
     }
 }
 
-/// The levels that set the last entry apart, and its position.
+/// Levels that put the last entry behind all others, and its position.
 fn behind_all(entries: &[Entry]) -> (Vec<u8>, usize) {
     let last = entries.len() - 1;
     (group_levels(entries.len(), last, last), last)
 }
 
-/// Deadlines at completion times that take up to half a million rounds to
-/// find, and a tick before them.
+/// Deadlines at completion times that take up to half a million rounds to find,
+/// and deadlines a tick before these times.
 #[test]
 fn rounds_above_65_535() {
     let (mut rng, mut tally) = (rng(300), Tally::default());
@@ -86,7 +87,7 @@ fn rounds_above_2_to_the_22nd() {
     assert!(rounds.iter().all(|&count| count > 1 << 22), "{rounds:?}");
 }
 
-/// More than 20 rounds though nothing is more urgent.
+/// More than 20 rounds although no entry is more urgent.
 #[test]
 fn rounds_above_20_in_a_first_group() {
     let (mut rng, mut tally) = (rng(301), Tally::default());
@@ -105,7 +106,8 @@ fn rounds_above_20_in_a_first_group() {
     assert_eq!(tally.met(11), 0, "one level does");
 }
 
-/// Starts above 2^32 to 2^35 which, cut to as many bits, are below D.
+/// Starts above 2^32 to 2^35. Truncated to 32 to 35 bits, they would be at most
+/// D.
 #[test]
 fn starts_above_2_to_the_34th() {
     let (mut rng, mut tally) = (rng(302), Tally::default());
@@ -128,8 +130,8 @@ fn starts_above_2_to_the_34th() {
     assert!(highest > 1 << 35, "{highest}");
 }
 
-/// Demands above 2^32 to 2^35 in the only round of a late entry; cut to as
-/// many bits, some would be below D.
+/// Demands above 2^32 to 2^35 in the only round of a late entry. Truncated to
+/// 32 to 35 bits, some would be at most D.
 #[test]
 fn demands_above_2_to_the_34th() {
     let (mut rng, mut tally) = (rng(303), Tally::default());
@@ -156,8 +158,8 @@ fn demands_above_2_to_the_34th() {
     );
 }
 
-/// More than 2^23 releases of one entry before the end of another, with runs
-/// of more than 2^29 ticks in all.
+/// More than 2^23 releases of one entry before another one ends, with more than
+/// 2^29 ticks of runs in all.
 #[test]
 fn releases_above_2_to_the_23rd() {
     let (mut rng, mut tally) = (rng(304), Tally::default());

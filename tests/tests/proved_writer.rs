@@ -52,8 +52,8 @@ fn one_to_three_faults() {
     }
 }
 
-/// Words that are no whole number of entries are more entries than the rows
-/// count, or fewer; 3 and 4 come first.
+/// Words that are not a whole number of entries never fit the rows, and are
+/// refused as 6; checks 3 and 4 come first.
 #[test]
 fn a_part_of_an_entry() {
     let mut rng = rng(221);

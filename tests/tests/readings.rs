@@ -1,7 +1,7 @@
-//! Wrong readings of docs/SPEC.md are told apart by the generated nodes.
+//! The generated nodes expose wrong readings of docs/SPEC.md.
 //!
-//! A generated set is worth its time only if a mapper with a likely mistake
-//! would be caught by it; here each mistake is made and caught many times.
+//! A generated set is useful only if it catches a mapper with a likely mistake.
+//! Here each mistake is made, and caught many times.
 
 use oracle::assignments::{all_assignments, different_levels, is_map};
 use oracle::gen::entries::{tighten, tiny, wide};
@@ -33,7 +33,7 @@ fn draw(rng: &mut Rng) -> (Vec<Entry>, u8) {
     (entries, rng.byte(1, 7))
 }
 
-/// How many generated nodes get another answer from the wrong mapper.
+/// For how many generated nodes the wrong mapper gives another answer.
 fn told_apart(part: u64, wrong: impl Fn(&[Entry], u8) -> Option<Vec<u8>>) -> u64 {
     let mut rng = rng(part);
     let mut apart = 0;
@@ -45,12 +45,12 @@ fn told_apart(part: u64, wrong: impl Fn(&[Entry], u8) -> Option<Vec<u8>>) -> u64
     apart
 }
 
-/// Least t up to D whose demand, by the given reading, is at most t.
+/// The least t ≤ D whose demand, by the given reading, is at most t.
 fn least_time(demand: Demand, entries: &[Entry], levels: &[u8], i: usize) -> Option<u64> {
     (1..=entries[i].d).find(|&t| demand(entries, levels, i, t) <= t)
 }
 
-/// The map by another reading of the demand, every grouping tried.
+/// The map by another reading of the demand; tries every grouping.
 fn map_by(demand: Demand, entries: &[Entry], levels: u8) -> Option<Vec<u8>> {
     let count = entries.len();
     let mut best: Option<(usize, Vec<u8>)> = None;
@@ -63,7 +63,8 @@ fn map_by(demand: Demand, entries: &[Entry], levels: u8) -> Option<Vec<u8>> {
         if starts.len() > usize::from(levels) || !(0..count).all(on_time) {
             continue;
         }
-        // Levels read from the end, larger first: longer groups at the end.
+        // Compared from the end, the map with larger levels has longer groups
+        // there.
         let better = best.as_ref().is_none_or(|(used, kept)| {
             let later = map.iter().rev().gt(kept.iter().rev());
             starts.len() < *used || starts.len() == *used && later
@@ -75,7 +76,8 @@ fn map_by(demand: Demand, entries: &[Entry], levels: u8) -> Option<Vec<u8>> {
     best.map(|(_, map)| map)
 }
 
-/// C times `runs(other, on the same level)`, over own and more urgent levels.
+/// Sum of C × `runs(other, on the same level)` over the other entries on the
+/// own and more urgent levels.
 fn sum_of(entries: &[Entry], levels: &[u8], i: usize, runs: impl Fn(&Entry, bool) -> u64) -> u64 {
     (0..entries.len())
         .filter(|&j| j != i && levels[j] <= levels[i])
@@ -165,7 +167,7 @@ fn wrong_demands_are_told_apart() {
     }
 }
 
-/// Takes the last group from the end: as long as merging goes well.
+/// The start of the last group, if the search stops at the first failing merge.
 fn stops_at_a_failing_merge(entries: &[Entry], end: usize) -> Option<usize> {
     let alone = end - 1;
     let failing = (0..end)
@@ -178,7 +180,7 @@ fn stops_at_a_failing_merge(entries: &[Entry], end: usize) -> Option<usize> {
     }
 }
 
-/// As before, but gives up after two failing merges.
+/// The same for a search that stops after two failing merges.
 fn stops_after_two(entries: &[Entry], end: usize) -> Option<usize> {
     let mut failed = 0;
     let mut longest = None;
@@ -224,7 +226,7 @@ fn hasty_searches_are_told_apart() {
     }
 }
 
-/// The fewest levels, but the most urgent group longest.
+/// The fewest levels, but with the longest most urgent group.
 #[test]
 fn other_end_of_the_rule_is_told_apart() {
     let apart = told_apart(40, |entries, levels| {

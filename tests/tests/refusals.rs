@@ -1,4 +1,4 @@
-//! Each refusal number is met many times, and the run says how often.
+//! Each refusal number comes up many times; the run prints how often.
 
 use oracle::file::{check, encode, write};
 use oracle::gen::buffers::room;
@@ -66,7 +66,7 @@ fn every_number_is_met() {
     for _ in 0..times(20) {
         note_session(&mut rng, Course::Growing, 300, &mut tally);
     }
-    // Written past the harness, which keeps what passing tests print.
+    // Not `println!`: the harness hides what passing tests print with it.
     writeln!(std::io::stdout(), "\n{tally}").expect("standard output is open");
     for number in 1..=NUMBERS {
         assert!(tally.met(number) >= times(100), "{number}: {tally}");

@@ -1,4 +1,4 @@
-//! Rows of session operations against a plain list of changes.
+//! Sequences of session operations, compared with changes to a plain list.
 
 use oracle::cases;
 use oracle::ffi;
@@ -12,7 +12,7 @@ use oracle::session::{Op, Reply, Session};
 use oracle::tally::Tally;
 use oracle::timing::Timing;
 
-/// The contents that an accepted change leaves, by cutting and joining.
+/// The entries after an accepted change, made by cutting and joining lists.
 fn changed(entries: &[Entry], op: &Op) -> Vec<Entry> {
     match *op {
         Op::Open(_) => Vec::new(),
@@ -23,7 +23,7 @@ fn changed(entries: &[Entry], op: &Op) -> Vec<Entry> {
     }
 }
 
-/// The same node in a file, mapped from there by the proved library.
+/// The map of the same node in a file, by the proved library.
 fn mapped_from_file(session: &Session, buffer: &mut [u8]) -> Result<u8, Refusal> {
     let file = cases::file(cases::node(session.levels(), session.entries()));
     ffi::map(&file, 7, buffer).map(|used| used as u8)
@@ -108,7 +108,7 @@ fn sessions_that_fill_up() {
 fn cases_built_step_by_step() {
     for node in [cases::p(), cases::h(), cases::u(), cases::v(), cases::e()] {
         let mut session = Session::open(usize::from(node.levels)).unwrap();
-        // From the last entry to the first, each before the others.
+        // From the last entry to the first, each inserted before the others.
         for entry in node.entries.iter().rev() {
             session.insert(0, *entry).unwrap();
         }

@@ -1,4 +1,4 @@
-//! The cases of docs/SPEC.md, with every figure that it gives.
+//! The cases of docs/SPEC.md, with every figure given there.
 
 use oracle::cases;
 use oracle::map::{by_groupings, by_groups, map_entries, Map};
@@ -13,7 +13,7 @@ fn late(rounds: u64) -> Timing {
     Timing::Late { rounds }
 }
 
-/// The map, by each of the two ways to it.
+/// The map; both ways to compute it must agree.
 fn map(node: &Node) -> Option<Map> {
     let found = map_entries(&node.entries, node.levels);
     assert_eq!(by_groupings(&node.entries, node.levels), found);
@@ -27,7 +27,7 @@ fn timings(node: &Node, levels: &[u8]) -> Vec<Timing> {
         .collect()
 }
 
-/// Asserts the map and gives the timings under it.
+/// Asserts the map and returns the timings under it.
 fn mapped(node: &Node, levels: &[u8], used: u8) -> Vec<Timing> {
     let levels = levels.to_vec();
     assert_eq!(
@@ -62,7 +62,8 @@ fn r_no_map() {
 fn f_no_map() {
     let f = cases::f();
     assert_eq!(map(&f), None);
-    // Entry 1 would take 118, which its test starts at, above its deadline.
+    // Entry 1 would take 118. Its test already starts there, above its
+    // deadline.
     assert_eq!(start(&f.entries, &[1, 1, 1], 0), 118);
     assert_eq!(demand(&f.entries, &[1, 1, 1], 0, 118), 118);
     assert_eq!(completion(&f.entries, &[1, 1, 1], 0), late(0));
@@ -129,7 +130,7 @@ fn v_together_and_apart() {
 
 #[test]
 fn v_with_one_own_level_run_gives_15() {
-    // r 0 allows one run of the other entry, whatever r the entry has.
+    // With r = 0 in place of 1, the demand counts one run of the other entry.
     let mut v = cases::v();
     v.entries[1].r = 0;
     assert_eq!(completion(&v.entries, &[1, 1], 1), on_time(15, 1));

@@ -1,4 +1,4 @@
-//! The thirteen examples of the table, by name.
+//! The thirteen examples of the table of refusals, by name.
 
 use oracle::cases;
 use oracle::file::{check, encode, write};

@@ -1,4 +1,4 @@
-//! The completion time test against what docs/SPEC.md says of its answers.
+//! The completion time test has the properties that docs/SPEC.md states.
 
 use oracle::gen::entries;
 use oracle::model::Entry;
@@ -70,7 +70,7 @@ fn rounds_count_evaluations_and_keep_the_bound() {
     assert!(highest > 10, "{highest}");
 }
 
-/// The times at which the demand is evaluated, counted.
+/// How often the demand is evaluated.
 fn evaluations(entries: &[Entry], levels: &[u8], i: usize) -> u64 {
     let first = start(entries, levels, i);
     let times = std::iter::successors(Some(first), |&t| {

@@ -1,6 +1,6 @@
-//! The tuned Rust of the benchmarks against the second implementation: a rival
-//! that answers wrongly is worth nothing. Answers, refusals with their places,
-//! and what is left in every lent buffer.
+//! Compares the tuned Rust of the benchmarks with the second implementation: a
+//! comparison of speed is worth nothing if the answers are wrong. Answers,
+//! refusals with their places, and every lent buffer are compared.
 
 use oracle::file::{self, encode};
 use oracle::gen::budget;
@@ -23,13 +23,15 @@ use oracle::words::{self, entry_words, ENTRY_WORDS};
 
 type Draw = fn(&mut Rng) -> Plan;
 
-/// Room for a result of `needed`: none, one too short, exact, and too long.
+/// Buffer lengths for a result of `needed`: 0, one too short, exact, and
+/// longer.
 fn rooms(needed: usize) -> [usize; 4] {
     [0, needed.saturating_sub(1), needed, needed + 9]
 }
 
-/// Every call that takes a file. A node whose tests would take the second
-/// implementation long is not mapped, nor its plan listed.
+/// Compares every call that takes a file. If the tests of a node would take the
+/// second implementation long, the node is not mapped and its plan is not
+/// listed.
 fn compare_file(tally: &mut Tally, bytes: &[u8]) {
     assert_eq!(tuned::check(bytes), tally.note(file::check(bytes)));
     let plan = file::decode(bytes).unwrap_or_default();
@@ -100,7 +102,7 @@ fn compare_write(rows: &[Row], entries: &[Entry], room: usize) {
     assert_eq!(buffer, due_buffer, "{rows:?} {entries:?}");
 }
 
-/// What is written from the start, and what was there beyond.
+/// `before` with its beginning replaced by what was written.
 fn begun<T: Clone>(written: Vec<T>, before: Vec<T>) -> Vec<T> {
     let beyond = before[written.len()..].to_vec();
     [written, beyond].concat()
@@ -215,7 +217,7 @@ fn sessions() {
     }
 }
 
-/// A level count is a byte.
+/// The tuned functions take a level count as a byte.
 fn callable(op: &Op) -> Op {
     match *op {
         Op::Open(levels) => Op::Open(levels.min(255)),

@@ -60,7 +60,7 @@ fn ticks_beyond_four_bytes_are_turned_back() {
     let plan = |entry| Plan {
         nodes: vec![oracle::cases::node(1, &[entry])],
     };
-    // Cut to four bytes, each of these would look like a good number.
+    // Truncated to four bytes, each of these would be a good number.
     let wide = (1 << 32) + 5;
     for entry in [
         Entry::task(1, wide, wide, wide),

@@ -1,11 +1,11 @@
-//! docs/WRONG_PROGRAMS.md is what the edits of the crates say.
+//! docs/WRONG_PROGRAMS.md agrees with the edits of the crates.
 
 use oracle::programs::root;
 use std::fs;
 use std::process::Command;
 
-/// The page as the tool writes it. Where an edit has not one line for what is
-/// wrong and one for what refuses it, the tool fails and names it.
+/// The page must be what the tool writes. The tool fails, and names the edit,
+/// if an edit does not have one line `why: ` and one line `refused: `.
 #[test]
 fn the_page_is_made_from_the_edits() {
     let made = Command::new("bash")

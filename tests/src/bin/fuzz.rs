@@ -1,8 +1,9 @@
-//! A random run against the second implementation, for a given time.
+//! Compares the library with the second implementation on random inputs, for a
+//! given time.
 //!
-//! `MAIPLUR_SECONDS` says for how long, `MAIPLUR_SEED` from which numbers. A
-//! file or a row of session operations on which the implementations differ goes
-//! to tests/corpus, where the tests take it up.
+//! `MAIPLUR_SECONDS` sets the time, `MAIPLUR_SEED` the seed. A file or a
+//! sequence of session operations on which the implementations differ goes to
+//! tests/corpus, and from then on the tests try it too.
 
 use oracle::corpus;
 use oracle::fuzz::{Difference, Fuzz};

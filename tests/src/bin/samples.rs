@@ -1,6 +1,7 @@
-//! Writes the sample plans and their listings, `NAME.plan` and `NAME.txt`, into the folder named by the first argument.
+//! Writes the sample plans and their listings, `NAME.plan` and `NAME.txt`, into the directory given as first
+//! argument.
 //!
-//! The listings come from the second implementation, so that the program under test never writes what it is held to.
+//! The listings come from the second implementation, so the program under test never writes its own expected output.
 
 use oracle::cases;
 use oracle::file::encode;
@@ -10,7 +11,7 @@ use oracle::model::{Node, Plan};
 use oracle::rng::Rng;
 use std::path::Path;
 
-/// A station of 32 controllers, with the load and the periods of usual ones.
+/// A station of 32 controllers with usual loads and periods.
 fn station() -> Plan {
     let mut rng = Rng::new(32);
     let nodes = (0..32)

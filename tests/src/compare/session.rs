@@ -1,5 +1,5 @@
-//! One session in both implementations, held against each other after each
-//! operation: the answer, all 322 words, and every lent buffer.
+//! One session in both implementations. After each operation the answer, all
+//! 322 words and every lent buffer are compared.
 
 use super::rooms;
 use crate::ffi;
@@ -36,12 +36,12 @@ impl Both {
         &self.due
     }
 
-    /// The session that the words hold, or why they hold none.
+    /// The session that the words hold, or the refusal of these words.
     pub fn session(&self) -> Result<Session, Refusal> {
         lent::session_in(&self.due)
     }
 
-    /// One operation, with so many bytes lent to a map.
+    /// Makes one operation; a map is lent `room` bytes.
     pub fn step(&mut self, tally: &mut Tally, op: &Op, room: usize) -> Result<Reply, Refusal> {
         let op = &callable(op);
         let (before, mut due_buffer, mut buffer) = (self.due, known(room), known(room));
@@ -58,7 +58,8 @@ impl Both {
     }
 
     /// Maps into buffers that are too short, and into an exact one, a longer
-    /// one, or both. The map of a session is that of the same node in a file.
+    /// one, or both. The map of a session must be that of the same node in a
+    /// file.
     pub fn map(&mut self, tally: &mut Tally, rng: &mut Rng) {
         let session = self.session();
         let count = session.as_ref().map_or(3, |held| held.entries().len());
@@ -80,7 +81,7 @@ impl Both {
     }
 }
 
-/// A row of operations; a short list is mapped after each.
+/// Makes a sequence of operations; a short list is mapped after each.
 pub fn row(tally: &mut Tally, row: &Row) {
     let mut both = Both::of(&row.start);
     for op in &row.ops {
@@ -91,7 +92,7 @@ pub fn row(tally: &mut Tally, row: &Row) {
     }
 }
 
-/// A level count is a byte to the C functions.
+/// The C functions take a level count as a byte.
 fn callable(op: &Op) -> Op {
     match *op {
         Op::Open(levels) => Op::Open(levels.min(255)),
@@ -100,7 +101,7 @@ fn callable(op: &Op) -> Op {
     }
 }
 
-/// The operation by its C function.
+/// Makes the operation by its C function.
 fn proved(
     session: &mut ffi::session::Session,
     op: &Op,

@@ -14,7 +14,7 @@ pub struct Session {
     pub levels: u32,
     /// Entry count.
     pub count: u32,
-    /// Five words an entry.
+    /// Five words per entry.
     pub words: [u32; 320],
 }
 
@@ -129,7 +129,7 @@ impl Session {
         })
     }
 
-    /// Maps the node, and gives the levels used.
+    /// Maps the node, and returns the levels used.
     pub fn map(&self, levels: &mut [u8]) -> Result<usize, Refusal> {
         let mut values = [UNSET; 2];
         // SAFETY: as above; what is written is borrowed mutably, so nothing overlaps.
@@ -139,7 +139,7 @@ impl Session {
     }
 }
 
-/// A change gives nothing.
+/// A change returns no values.
 fn nothing(number: u32, values: [usize; 2]) -> Result<(), Refusal> {
     let given = answer(number, values)?;
     assert_eq!(given, [0, 0], "a change gives nothing");

@@ -5,7 +5,7 @@ use crate::limits::{check_entry, check_row};
 use crate::model::{Row, MAX_NODES};
 use crate::refusal::{Refusal, COUNT, CUT_OFF, LENGTH, OFFSET, OPENING};
 
-/// Accepts a plan file, or gives the first check that is met.
+/// Accepts a plan file, or returns the first refusal that is met.
 pub fn check(file: &[u8]) -> Result<(), Refusal> {
     let nodes = check_head(file)?;
     if file.len() < contents_end(nodes) {
@@ -15,7 +15,7 @@ pub fn check(file: &[u8]) -> Result<(), Refusal> {
     check_bodies(file, &rows)
 }
 
-/// 8 bytes, then 2, then 3; gives the node count.
+/// Check 1 (8 bytes), then 2, then 3; returns the node count.
 fn check_head(file: &[u8]) -> Result<usize, Refusal> {
     if file.len() < HEAD_BYTES {
         return Err(Refusal::plain(CUT_OFF));
@@ -30,7 +30,7 @@ fn check_head(file: &[u8]) -> Result<usize, Refusal> {
     Ok(nodes)
 }
 
-/// 4 and 5 row by row, then 6; gives the rows.
+/// Checks 4 and 5 row by row, then 6; returns the rows.
 fn check_contents(file: &[u8], nodes: usize) -> Result<Vec<Row>, Refusal> {
     let mut rows = Vec::new();
     let mut last = None;
@@ -51,7 +51,7 @@ fn check_contents(file: &[u8], nodes: usize) -> Result<Vec<Row>, Refusal> {
     Ok(rows)
 }
 
-/// 7 and 8 entry by entry.
+/// Checks 7 and 8 entry by entry.
 fn check_bodies(file: &[u8], rows: &[Row]) -> Result<(), Refusal> {
     let mut offset = contents_end(rows.len());
     for (index, row) in rows.iter().enumerate() {

@@ -18,12 +18,12 @@ pub fn contents_end(nodes: usize) -> usize {
     HEAD_BYTES + nodes * ROW_BYTES
 }
 
-/// Where a body of `entries` entries ends that begins at `offset`.
+/// The end of a body of `entries` entries that begins at `offset`.
 pub fn body_end(offset: usize, entries: u8) -> usize {
     offset + usize::from(entries) * ENTRY_BYTES
 }
 
-/// The row at `index`, with the offset that stands beside it.
+/// The row at `index`, and its offset.
 pub fn row_at(file: &[u8], index: usize) -> (Row, u64) {
     let at = contents_end(index);
     let bytes = &file[at..at + ROW_BYTES];

@@ -14,7 +14,7 @@ pub fn decode(file: &[u8]) -> Result<Plan, Refusal> {
     Ok(Plan { nodes })
 }
 
-/// Fills lent rows and entries from the start, and gives how many of each.
+/// Fills lent rows and entries from the start, and returns how many of each.
 ///
 /// What lies beyond is kept; a refused call keeps everything.
 pub fn read(

@@ -25,7 +25,7 @@ pub fn check_parts(rows: &[Row], entries: &[Entry]) -> Result<(), Refusal> {
     Ok(())
 }
 
-/// Writes the file from the buffer's start and gives its length.
+/// Writes the file from the buffer's start and returns its length.
 ///
 /// Bytes beyond are kept; a refused call keeps them all.
 pub fn write(rows: &[Row], entries: &[Entry], buffer: &mut [u8]) -> Result<usize, Refusal> {
@@ -73,7 +73,7 @@ fn row_bytes(row: &Row, offset: usize) -> [u8; ROW_BYTES] {
     [number_low, number_high, levels, entries, o0, o1, o2, o3]
 }
 
-/// The bytes of one entry; ticks beyond four bytes lose what lies above.
+/// The bytes of one entry; ticks are truncated to four bytes.
 pub fn entry_bytes(entry: &Entry) -> [u8; ENTRY_BYTES] {
     let mut bytes = [0; ENTRY_BYTES];
     bytes[0..2].copy_from_slice(&entry.number.to_le_bytes());

@@ -1,22 +1,22 @@
-//! Long nodes in which narrow groups fail and wide ones pass: blocks of case
-//! H's kind, one behind the other.
+//! Long nodes in which narrow groups fail and wide ones pass: a sequence of
+//! blocks, each like case H.
 //!
-//! Entries of a block's own level run once while its last entries wait, and
-//! entries before the block as often as they are released. So a block has a
-//! few *hot* entries with short periods, and at its end some with a blocking
-//! for which these come round again: they end in time only in a group that
-//! holds the hot ones.
+//! While an entry waits, entries on its own level run once, and more urgent
+//! entries run as often as they are released. So a block has a few *hot*
+//! entries with short periods, and at its end some entries with a long
+//! blocking, during which the hot ones are released again. These end in time
+//! only in a group that contains the hot entries.
 
 use crate::map::{by_groups, group_passes, Map};
 use crate::model::{Entry, MAX_TICKS};
 use crate::rng::Rng;
 use crate::timing::{completion, Timing};
 
-/// Longest completion time before all is multiplied.
+/// The longest period before all times are multiplied.
 const LONGEST: u64 = 400_000;
 
-/// A node of so many entries in so many blocks, each of three or more. The
-/// blocks as groups are a passing map of it.
+/// A node of `count` entries in `blocks` blocks, each of three or more. The map
+/// whose groups are the blocks passes.
 pub fn blocks(rng: &mut Rng, count: usize, blocks: usize) -> Vec<Entry> {
     loop {
         let levels = block_levels(rng, count, blocks);
@@ -28,15 +28,15 @@ pub fn blocks(rng: &mut Rng, count: usize, blocks: usize) -> Vec<Entry> {
     }
 }
 
-/// Puts the deadline of an entry with a blocking a tick earlier.
+/// Makes the deadline of one blocked entry a tick shorter.
 pub fn hurry_one(rng: &mut Rng, entries: &mut [Entry]) {
     let blocked: Vec<usize> = (0..entries.len()).filter(|&i| entries[i].b > 0).collect();
     let entry = &mut entries[rng.pick(&blocked)];
     entry.d = (entry.d - 1).max(entry.c);
 }
 
-/// Whether a group of the map would fail if it began later: a search that
-/// stops at the first group that fails does not find such a map.
+/// Whether a group of the map would fail if it began later. A search that stops
+/// at the first failing group does not find such a map.
 pub fn needs_wide_groups(entries: &[Entry], map: &Map) -> bool {
     (0..entries.len()).any(|first| {
         let opens = first == 0 || map.levels[first - 1] != map.levels[first];
@@ -46,7 +46,7 @@ pub fn needs_wide_groups(entries: &[Entry], map: &Map) -> bool {
     })
 }
 
-/// Level counts that tell: the fewest that do, one below, one above, and 64.
+/// Telling level counts: the fewest that suffice, one less, one more, and 64.
 pub fn telling_levels(rng: &mut Rng, entries: &[Entry]) -> u8 {
     let fewest = by_groups(entries, 64).map_or(1, |map| map.used);
     let below = fewest.saturating_sub(1).max(1);
@@ -95,7 +95,7 @@ fn close(rng: &mut Rng, entries: &mut [Entry], levels: &[u8], first: usize) -> O
     for entry in &mut entries[first..end] {
         let slack = rng.pick(&[0, 0, 1, base / 10]);
         entry.d = base + slack;
-        // Hot entries are short ones, the others come round late.
+        // Hot entries have short runs; the others have long periods.
         let cold = entry.c > 6 || rng.chance(1, 5);
         entry.t = match cold {
             true => base * rng.range(8, 30),
@@ -112,7 +112,7 @@ fn close(rng: &mut Rng, entries: &mut [Entry], levels: &[u8], first: usize) -> O
     longest.filter(|&t| t <= LONGEST).map(|_| ())
 }
 
-/// When the entry ends with the entries so far.
+/// The completion time of entry `i` among the entries so far.
 fn time_of(entries: &[Entry], levels: &[u8], i: usize) -> Option<u64> {
     match completion(entries, levels, i) {
         Timing::OnTime { time, .. } => Some(time),

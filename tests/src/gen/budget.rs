@@ -1,4 +1,4 @@
-//! Keeps generated tests short: the rounds of a test may grow with D.
+//! Keeps generated tests short, because the rounds of a test may grow with D.
 
 use crate::model::{Entry, Plan};
 
@@ -18,13 +18,12 @@ pub fn fits(entries: &[Entry]) -> bool {
     rounds_ceiling(entries) <= ROUNDS
 }
 
-/// Whether this holds of each node of the plan.
+/// Whether each node of the plan fits.
 pub fn plan_fits(plan: &Plan) -> bool {
     plan.nodes.iter().all(|node| fits(&node.entries))
 }
 
-/// Draws until the entries keep within the budget; the number says how many
-/// draws did not.
+/// Draws until the entries fit the budget; also returns how many draws did not.
 pub fn draw_fitting(mut draw: impl FnMut() -> Vec<Entry>) -> (Vec<Entry>, u64) {
     let mut dropped = 0;
     loop {

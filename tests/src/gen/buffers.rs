@@ -2,7 +2,7 @@
 
 use crate::rng::Rng;
 
-/// Bytes that differ from their neighbours, to show what a call has kept.
+/// Bytes that differ from their neighbours, to show what a call has changed.
 pub fn known(length: usize) -> Vec<u8> {
     (0..length).map(|at| at as u8 ^ 0xA5).collect()
 }

@@ -1,4 +1,4 @@
-//! Damaged files, each with the refusal that is due.
+//! Damaged files, each with the expected refusal.
 
 use super::faults::{break_kind, break_row, break_ticks};
 use crate::file::{
@@ -54,7 +54,7 @@ pub struct Damaged {
     pub due: Refusal,
 }
 
-/// The plan's file with one fault for each aim, put in in that order.
+/// The plan's file with one fault for each aim, made in that order.
 ///
 /// The plan must have an entry.
 pub fn damage(rng: &mut Rng, plan: &Plan, aims: &[Aim]) -> Damaged {
@@ -68,7 +68,7 @@ pub fn damage(rng: &mut Rng, plan: &Plan, aims: &[Aim]) -> Damaged {
     }
 }
 
-/// The file cut at every length, the full one left out.
+/// The file cut to every shorter length.
 pub fn truncations(file: &[u8]) -> impl Iterator<Item = &[u8]> {
     (0..file.len()).map(|length| &file[..length])
 }
@@ -85,7 +85,8 @@ pub fn byte_changes(file: &[u8]) -> impl Iterator<Item = (usize, Vec<u8>)> + '_ 
         })
 }
 
-/// Where a check stands in the order: stage, row, entry, step at the place.
+/// A check's place in the order: stage, row, entry, step within the row or
+/// entry.
 type Rank = (u8, usize, usize, u8);
 
 struct Fault {
@@ -116,7 +117,7 @@ impl Fault {
     }
 }
 
-/// A file under damage; changes of its length wait for the end.
+/// A file while it is damaged; its length is changed only at the end.
 struct Work<'a> {
     plan: &'a Plan,
     file: Vec<u8>,
@@ -134,7 +135,7 @@ impl Work<'_> {
         }
     }
 
-    /// A cut leaves nothing to append to.
+    /// A cut wins over appended bytes.
     fn finish(mut self) -> Vec<u8> {
         match self.cut {
             Some(length) => self.file.truncate(length),
@@ -173,7 +174,7 @@ impl Work<'_> {
         contents_end(self.plan.nodes.len())
     }
 
-    /// Where the body of the row belongs.
+    /// The offset that the row requires.
     fn body_of(&self, row: usize) -> usize {
         let before = &self.plan.nodes[..row];
         before.iter().fold(self.contents_end(), |at, node| {
@@ -243,7 +244,7 @@ impl Work<'_> {
         Fault::plain(5, LENGTH)
     }
 
-    /// Breaks an entry somewhere and gives its row and position.
+    /// Breaks a random entry and returns its row and position.
     fn break_entry(
         &mut self,
         rng: &mut Rng,

@@ -9,11 +9,12 @@ use crate::timing::{completion, Timing};
 /// Usual periods, as multiples of a base.
 const PERIODS: [u64; 12] = [1, 2, 4, 5, 8, 10, 20, 25, 40, 50, 80, 100];
 
-/// Small numbers around which a wide group may pass where narrow ones fail.
+/// Small numbers, chosen so that a wide group may pass where narrower ones
+/// fail.
 ///
-/// A wide group passes if each deadline holds every run once, and a narrow
-/// one fails if a short period before it comes round again in time: so the
-/// deadlines lie about the sum of the runs, and some periods close to it.
+/// A wide group passes if every D is at least the sum of C. A narrow group
+/// fails if an entry before it with a short period is released again in time.
+/// So the deadlines, and some periods, are close to the sum of C.
 pub fn tiny(rng: &mut Rng, count: usize) -> Vec<Entry> {
     let runs: Vec<u64> = (0..count).map(|_| rng.range(1, 3)).collect();
     let sum: u64 = runs.iter().sum();
@@ -30,7 +31,7 @@ pub fn tiny(rng: &mut Rng, count: usize) -> Vec<Entry> {
         .collect()
 }
 
-/// Small numbers without a plan behind them.
+/// Small random numbers.
 pub fn scattered(rng: &mut Rng, count: usize) -> Vec<Entry> {
     (0..count)
         .map(|_| {
@@ -45,7 +46,7 @@ pub fn scattered(rng: &mut Rng, count: usize) -> Vec<Entry> {
         .collect()
 }
 
-/// Entries as of a station: usual periods, load 0.3 to 0.95, listed by
+/// Entries like those of a station: usual periods, load 0.3 to 0.95, listed by
 /// deadline, now and then with the sections first.
 pub fn realistic(rng: &mut Rng, count: usize) -> Vec<Entry> {
     let base = rng.pick(&[100, 1_000, 10_000]);
@@ -77,8 +78,7 @@ pub fn mixed(rng: &mut Rng, count: usize) -> Vec<Entry> {
     entries
 }
 
-/// Many entries that cost next to nothing to test, in half of the draws
-/// listed by deadline.
+/// Many entries with very short tests, in half of the draws listed by deadline.
 pub fn light(rng: &mut Rng, count: usize) -> Vec<Entry> {
     let mut entries: Vec<Entry> = (0..count)
         .map(|_| {
@@ -100,7 +100,7 @@ pub fn at_limits(rng: &mut Rng, count: usize) -> Vec<Entry> {
     at_limits_counted(rng, count).0
 }
 
-/// The same, with the number of draws that were dropped for their cost.
+/// The same, and the number of draws dropped because their tests are too long.
 pub fn at_limits_counted(rng: &mut Rng, count: usize) -> (Vec<Entry>, u64) {
     let periods: &[u64] = rng.pick(&[
         &[1, 2, 3][..],
@@ -111,7 +111,7 @@ pub fn at_limits_counted(rng: &mut Rng, count: usize) -> (Vec<Entry>, u64) {
     draw_fitting(|| (0..count).map(|_| limit_entry(rng, periods)).collect())
 }
 
-/// Whether, for some end of a group, a start fails and a smaller one passes.
+/// Whether some group fails although a wider one with the same end passes.
 pub fn wide_passes_after_narrow(entries: &[Entry]) -> bool {
     (2..=entries.len()).any(|end| {
         let passing: Vec<bool> = (0..end)
@@ -132,8 +132,8 @@ pub fn wide(rng: &mut Rng, count: usize) -> Vec<Entry> {
     }
 }
 
-/// The same entries with deadlines at the very completion times of a random
-/// grouping, now and then with one of them a tick earlier.
+/// The same entries with deadlines exactly at the completion times of a random
+/// grouping, now and then one of them a tick earlier.
 pub fn tighten(rng: &mut Rng, mut entries: Vec<Entry>) -> Vec<Entry> {
     for entry in &mut entries {
         entry.d = entry.t;
@@ -204,7 +204,7 @@ fn loaded(rng: &mut Rng, count: usize, base: u64, periods: &[u64]) -> Vec<Entry>
     entries
 }
 
-/// Blocking comes from part of the runs of less urgent entries.
+/// Blocks some entries for part of the longest run of a less urgent entry.
 fn block(rng: &mut Rng, entries: &mut [Entry]) {
     for i in 0..entries.len() {
         let longest = entries[i + 1..].iter().map(|less| less.c).max();

@@ -1,5 +1,5 @@
-//! Nodes whose tests come to the ends of what the numbers allow: very many
-//! rounds, and starts, demands and releases that no 32 bits hold.
+//! Nodes whose tests reach extremes within the limits: very many rounds, and
+//! starts and demands that do not fit 32 bits.
 
 use crate::model::{Entry, MAX_ENTRIES, MAX_R, MAX_TICKS};
 use crate::rng::Rng;
@@ -8,8 +8,8 @@ use crate::timing::{completion_in_group, Timing};
 /// Position of the last entry of [`slow`].
 pub const SLOW: usize = 5;
 
-/// 1/2/2, 1/3/3, 1/7/7, 1/43/43 and 1/`fifth`/`fifth`, with a load of
-/// 1 - 1/1,806 + 1/`fifth`, and a last entry with C 1 behind them.
+/// 1/2/2, 1/3/3, 1/7/7, 1/43/43 and 1/`fifth`/`fifth`, with a load of 1 -
+/// 1/1,806 + 1/`fifth`, and after them a last entry with C 1.
 pub fn slow(fifth: u64, blocking: u64) -> Vec<Entry> {
     let mut entries: Vec<Entry> = (1..)
         .zip([2, 3, 7, 43, fifth])
@@ -19,7 +19,7 @@ pub fn slow(fifth: u64, blocking: u64) -> Vec<Entry> {
     entries
 }
 
-/// The same with the last deadline so many ticks before the completion time.
+/// The same with the last deadline `early` ticks before the completion time.
 pub fn slow_until(fifth: u64, blocking: u64, early: u64) -> Vec<Entry> {
     let mut entries = slow(fifth, blocking);
     let Timing::OnTime { time, .. } = completion_in_group(&entries, SLOW, SLOW, SLOW) else {
@@ -29,12 +29,12 @@ pub fn slow_until(fifth: u64, blocking: u64, early: u64) -> Vec<Entry> {
     entries
 }
 
-/// A group in which the last entry waits for nearly 16 runs of each other one,
-/// and a round brings mostly one of them.
+/// A group in which the last entry waits for nearly 16 runs of each other
+/// entry, and most rounds add only one run.
 ///
-/// With S the runs of the others, each period is S and a little more, and the
-/// little grows from one to the next: so the releases fall one by one behind
-/// what was demanded so far.
+/// Let S be the sum of C of the other entries. Each period is S plus a small
+/// amount that grows from entry to entry. So new releases pass the demand one
+/// at a time, each in a round of its own.
 pub fn first_group(rng: &mut Rng) -> Vec<Entry> {
     let others = rng.range(2, 4);
     let run = rng.range(300, 2_000);
@@ -51,8 +51,8 @@ pub fn first_group(rng: &mut Rng) -> Vec<Entry> {
     entries
 }
 
-/// One group whose tests start at 2^`bits` and a little more, which is less
-/// than the last deadline.
+/// One group whose tests start at 2^`bits` plus at most 10^9. Truncated to
+/// `bits` bits, the start is at most the last deadline.
 pub fn high_start(rng: &mut Rng, bits: u32) -> Vec<Entry> {
     let start = (1 << bits) + rng.range(1, MAX_TICKS);
     let least = start.div_ceil(MAX_TICKS) as usize;
@@ -60,7 +60,7 @@ pub fn high_start(rng: &mut Rng, bits: u32) -> Vec<Entry> {
     let mut left = start;
     let mut entries: Vec<Entry> = (1..=count)
         .map(|number| {
-            // The entries behind can still take what this one leaves.
+            // The later entries can still take what this one leaves.
             let behind = (count - number) as u64;
             let most = (left - behind).min(MAX_TICKS);
             let low = left.saturating_sub(behind * MAX_TICKS).max(1);
@@ -77,8 +77,9 @@ pub fn high_start(rng: &mut Rng, bits: u32) -> Vec<Entry> {
     entries
 }
 
-/// Entries that run all their period, and a last one behind them with a start
-/// below its deadline: its demand is as many times its start, and one more.
+/// Entries with a load of 1 or nearly 1 each, then a last entry that starts
+/// below its deadline. With n entries before it, its first demand is about n +
+/// 1 times its start.
 pub fn high_demand(rng: &mut Rng) -> Vec<Entry> {
     let count = rng.count(5, MAX_ENTRIES - 1);
     let run = rng.pick(&[1, 10, 1_000, 50_000]);
@@ -94,9 +95,9 @@ pub fn high_demand(rng: &mut Rng) -> Vec<Entry> {
     entries
 }
 
-/// One or two entries with short periods that take up to two thirds of the
-/// time, one that hardly counts, and a last one that waits for millions of
-/// their runs and mostly ends in time.
+/// One or two entries with short periods and a load of up to 2/3, one with
+/// hardly any load, and a last one that waits for millions of their runs and
+/// mostly ends in time.
 pub fn many_releases(rng: &mut Rng) -> Vec<Entry> {
     let short = rng.range(1, 2);
     let mut entries: Vec<Entry> = (1..=short as u16)
@@ -106,14 +107,14 @@ pub fn many_releases(rng: &mut Rng) -> Vec<Entry> {
         })
         .collect();
     entries.push(Entry::task(7, 3, 3_000, 3_000));
-    // In millionths of the time, which the blocking leaves to the others.
+    // The load in millionths; the blocking leaves that share of the time.
     let load: u64 = entries.iter().map(|e| e.c * 1_000_000 / e.t + 1).sum();
     let b = rng.range(900, 990) * (1_000_000 - load);
     entries.push(Entry::task(8, 5, MAX_TICKS, MAX_TICKS).blocked(b));
     entries
 }
 
-/// Five of 1000/1000/1000, then 1/10^9/10^9 with a blocking that lets its test
+/// Five of 1000/1000/1000, then 1/10^9/10^9 with a blocking that makes its test
 /// start at 800,000,001.
 pub fn five_full() -> Vec<Entry> {
     let mut entries = vec![Entry::task(1, 1_000, 1_000, 1_000); 5];

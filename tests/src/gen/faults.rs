@@ -1,12 +1,12 @@
 //! Single faults in an entry or a row.
 //!
-//! Each leaves its value wrong whatever was broken before, so that faults
-//! can be put on top of each other.
+//! Each fault makes its entry or row wrong, whatever was broken before, so that
+//! faults can be combined.
 
 use crate::model::{Entry, Row, MAX_ENTRIES, MAX_LEVELS, MAX_R, MAX_TICKS, SECTION, TASK};
 use crate::rng::Rng;
 
-/// The largest number that a file can hold in ticks.
+/// The largest number of ticks that a file can hold.
 const MOST: u64 = u32::MAX as u64;
 
 /// Aims at 7.

@@ -1,13 +1,14 @@
-//! Nodes whose last deadlines lie at a completion time that very many rounds
-//! lead to, or a tick before it. The load alone says neither.
+//! Nodes whose last deadlines are at a completion time that takes very many
+//! rounds to find, or a tick before it. The load alone does not decide these
+//! entries.
 
 use crate::model::{Entry, MAX_TICKS};
 use crate::rng::Rng;
 use crate::timing::{completion_in_group, Timing};
 
-/// 1/2/2, 1/3/3, 1/7/7 and 1/43/43, which leave a load of 1/1,806, some with
-/// long periods that nearly take it, and the last ones, 13 entries or more in
-/// all, with deadlines so many ticks before their completion time.
+/// At least 13 entries. 1/2/2, 1/3/3, 1/7/7 and 1/43/43 leave a load of
+/// 1/1,806. Entries with long periods take nearly all of that. The last entries
+/// have deadlines `early` ticks before their completion time.
 pub fn just_late(rng: &mut Rng, early: u64) -> Vec<Entry> {
     let long = rng.range(6, 9);
     let mut periods = vec![2, 3, 7, 43];

@@ -1,5 +1,5 @@
-//! Memory that is lent as a session: full ones, and ones that no operation
-//! has made.
+//! Memory that is lent as a session: sound sessions, and memory that no
+//! operation has made.
 
 use super::entries;
 use super::faults::{break_kind, break_ticks};
@@ -9,7 +9,7 @@ use crate::rng::Rng;
 use crate::session::Session;
 use crate::words::{entry_of, entry_words};
 
-/// A sound session of so many entries.
+/// A sound session of `count` entries.
 pub fn sound(rng: &mut Rng, count: usize) -> Words {
     let entries: Vec<Entry> = match count {
         0..=8 => entries::tiny(rng, count),
@@ -36,7 +36,8 @@ fn damage(rng: &mut Rng, words: &mut Words, count: usize) {
     match rng.below(6) {
         0 => words[0] = rng.pick(&[0, 65, 255, 256, 257, 1 << 16 | 3, u32::MAX]),
         1 => words[1] = rng.pick(&[65, 66, 255, 256, 257, 1 << 16 | 1, u32::MAX]),
-        // One entry less leaves words beyond, one more has kind 0.
+        // With one entry less, words beyond the last entry are not 0; with one
+        // more, its kind is 0.
         2 => words[1] = rng.pick(&[count.saturating_sub(1), count + 1, 64]) as u32,
         3 => words[rng.count(2, 321)] = rng.word() as u32,
         4 if count > 0 => break_entry(rng, words, count),

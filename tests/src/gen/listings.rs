@@ -3,8 +3,8 @@
 use crate::model::{Entry, Node, Plan, MAX_ENTRIES, MAX_TICKS};
 use crate::timing::{completion_in_group, Timing};
 
-/// So many nodes of 64 entries, each on a level of its own: numbers of five
-/// digits, times of nine, and mostly levels of two and rounds of three.
+/// Nodes of 64 entries, each on a level of its own. Numbers have five digits,
+/// times nine, most levels two, and most rounds three.
 pub fn long_listing(nodes: u16) -> Plan {
     let entries = one_a_level();
     let nodes = (0..nodes)
@@ -17,9 +17,9 @@ pub fn long_listing(nodes: u16) -> Plan {
     Plan { nodes }
 }
 
-/// The first entry takes nine tenths of the time, so that each further test
-/// takes many rounds. Each deadline is the completion time on a level of its
-/// own, so that no two entries can share one.
+/// The first entry has a load of 0.9, so the tests of the others take many
+/// rounds. Each deadline is the entry's completion time on a level of its own,
+/// so no two entries can share a level.
 fn one_a_level() -> Vec<Entry> {
     let mut entries = vec![Entry::task(65_001, 9, 10, 10)];
     for number in 65_002..65_001 + MAX_ENTRIES as u16 {

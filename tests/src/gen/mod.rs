@@ -1,4 +1,4 @@
-//! Generated nodes, plans, damaged files and rows of session operations.
+//! Generated nodes, plans, damaged files and sequences of session operations.
 
 pub mod blocks;
 pub mod budget;

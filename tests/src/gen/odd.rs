@@ -5,7 +5,7 @@ use crate::model::{Entry, Node, Plan, MAX_ENTRIES, MAX_NODES, MAX_R, MAX_TICKS};
 use crate::rng::Rng;
 use crate::timing::{completion_in_group, Timing};
 
-/// Entries of a full node that no grouping lets pass, with a name.
+/// A name, and the entries of a full node for which no grouping passes.
 pub type Family = (&'static str, fn() -> Vec<Entry>);
 
 /// Full nodes without a map; tests/odd.rs says why they have none.
@@ -18,8 +18,8 @@ pub const FAMILIES: [Family; 5] = [
 ];
 
 /// Full nodes without a map whose deadlines are one tick below a completion
-/// time. Loads that are rounded down do not show the first to be late, and
-/// loads alone not the second.
+/// time. Loads show that entries of the first are late, but not if rounded
+/// down; for the second, even exact loads do not.
 pub const JUST_LATE: [Family; 2] = [
     ("deadlines just below the completion time", just_late),
     ("the same with primes as periods", primes),
@@ -59,7 +59,7 @@ fn sixty_two() -> Vec<Entry> {
     filled(vec![task(1, 62); 62], task(1, MAX_TICKS))
 }
 
-/// A node with a map whose last entries truly take millions of rounds:
+/// A node with a map whose last entries are on time after millions of rounds:
 /// 1/2/2, 1/3/3, 1/7/7, 1/43/43, 1/1807/1807, then 1/10^9/10^9 up to `count`.
 ///
 /// The load of the first five is 1 - 1/3,263,442.
@@ -114,7 +114,7 @@ fn powers_to(last: u32) -> Vec<Entry> {
     (1..=last).map(|power| task(1, 1 << power)).collect()
 }
 
-/// As many of the last entry as a full node takes.
+/// Fills the node up to 64 entries with copies of `last`.
 fn filled(mut entries: Vec<Entry>, last: Entry) -> Vec<Entry> {
     entries.resize(MAX_ENTRIES, last);
     numbered(entries)
@@ -128,12 +128,13 @@ fn numbered(mut entries: Vec<Entry>) -> Vec<Entry> {
     entries
 }
 
-/// Numbers with many divisors; the periods of the urgent entries divide one.
+/// Numbers with many divisors; the periods of the urgent entries divide one of
+/// them.
 const WHOLES: [u64; 10] = [8, 12, 32, 60, 62, 64, 126, 420, 512, 5_040];
 
-/// A few entries with a load just below, at or just above 1, and one or two
-/// with long deadlines behind them, some of these at the very completion time.
-/// All numbers may be multiplied, which leaves the rounds as they are.
+/// A few entries with a load just below, at or just above 1, then one or two
+/// with long deadlines, some of them exactly at the completion time. All times
+/// may be multiplied by one factor, which does not change the rounds.
 pub fn near_one(rng: &mut Rng) -> Vec<Entry> {
     let whole = rng.pick(&WHOLES);
     let excess = rng.pick(&[-3, -2, -1, -1, -1, -1, 0, 1]);
@@ -149,7 +150,7 @@ pub fn near_one(rng: &mut Rng) -> Vec<Entry> {
     numbered(entries.iter().map(|e| times(e, factor)).collect())
 }
 
-/// One to four entries with a load of 1 + `excess`/`whole`, where they can.
+/// One to four entries with a load of 1 + `excess`/`whole`, where possible.
 fn urgent(rng: &mut Rng, whole: u64, excess: i64) -> Vec<Entry> {
     let periods: Vec<u64> = (2..=whole).filter(|&t| whole.is_multiple_of(t)).collect();
     let mut left = whole.saturating_add_signed(excess);
@@ -170,14 +171,14 @@ fn urgent(rng: &mut Rng, whole: u64, excess: i64) -> Vec<Entry> {
     entries
 }
 
-/// Mostly with a deadline at the period.
+/// An entry, mostly with D = T.
 fn with_deadline(rng: &mut Rng, c: u64, t: u64) -> Entry {
     let d = rng.pick(&[t, t, t, t.max(c + 1) - 1]);
     let r = rng.pick(&[0, 0, 0, 0, 1, MAX_R]);
     Entry { d, ..task(c, t) }.calling(r)
 }
 
-/// An entry with a long deadline, which may be before its period.
+/// An entry with a long deadline, which may be shorter than its period.
 fn long(rng: &mut Rng, whole: u64) -> Entry {
     let t = whole * rng.range(2, 8) + rng.below(whole);
     let d = rng.pick(&[t, t, t / 2, t - 1]);
@@ -187,8 +188,8 @@ fn long(rng: &mut Rng, whole: u64) -> Entry {
     Entry { d, ..task(c, t) }.calling(r).blocked(b)
 }
 
-/// Puts the last deadline at the completion time in a group of its own, a
-/// tick before it, or a tick behind it.
+/// Sets the last deadline to the completion time in a group of its own, or to
+/// one tick before or after it.
 fn tighten_last(rng: &mut Rng, entries: &mut [Entry]) {
     let last = entries.len() - 1;
     let kept = entries[last];

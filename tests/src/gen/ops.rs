@@ -1,4 +1,4 @@
-//! Rows of session operations, refused ones included.
+//! Sequences of session operations, refused ones included.
 
 use super::entries;
 use super::faults::{break_kind, break_ticks};
@@ -11,10 +11,10 @@ use crate::rows::Row;
 use crate::session::{Op, Session};
 use crate::tally::Tally;
 
-/// How a row of operations goes.
+/// How a sequence of operations develops.
 #[derive(Clone, Copy, Debug, PartialEq, Eq)]
 pub enum Course {
-    /// A short list that is changed all over.
+    /// A short list with changes everywhere.
     Short,
     /// A list that grows until it is full.
     Growing,
@@ -41,8 +41,9 @@ pub fn next_op(rng: &mut Rng, session: &Session, course: Course) -> Op {
     }
 }
 
-/// A row of operations on a blank, short, full or damaged session, or on one
-/// that holds a node of a plan; the tally counts what is left out for its cost.
+/// A sequence of operations on a blank, short, nearly full or damaged session,
+/// or on one that holds a node of a plan; the tally counts what is left out for
+/// its cost.
 pub fn row(rng: &mut Rng, tally: &mut Tally) -> Row {
     if rng.chance(1, 3) {
         let family = rng.pick(&FAMILIES);
@@ -83,7 +84,8 @@ fn position(rng: &mut Rng, end: usize) -> usize {
     }
 }
 
-/// Timing with first, last and entry, now and then in a wrong order.
+/// A timing of an entry in a group, now and then with positions in a wrong
+/// order.
 pub fn group(rng: &mut Rng, len: usize) -> Op {
     let mut places = [position(rng, len), position(rng, len), position(rng, len)];
     if !rng.chance(1, 5) {

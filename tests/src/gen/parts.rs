@@ -1,4 +1,4 @@
-//! Faulty calls of the writer, each with the refusal that is due.
+//! Faulty calls of the writer, each with the expected refusal.
 
 use super::faults::{break_kind, break_row, break_ticks};
 use crate::file::encode;
@@ -46,7 +46,8 @@ pub struct Parts {
     pub due: Refusal,
 }
 
-/// Where a check stands in the order: stage, row, entry, step at the place.
+/// A check's place in the order: stage, row, entry, step within the row or
+/// entry.
 type Rank = (u8, usize, usize, u8);
 
 /// The plan's parts with one fault for each aim. The plan must have an entry.
@@ -57,8 +58,8 @@ pub fn damage_parts(rng: &mut Rng, plan: &Plan, aims: &[PartAim]) -> Parts {
         room: file_bytes(plan),
         due: Refusal::plain(BUFFER),
     };
-    // From the last check to the first: a fault in a row or an entry must
-    // still find its place.
+    // Faults of later checks first: an earlier one may cut the rows or entries
+    // that they need.
     let mut aims = aims.to_vec();
     aims.sort();
     let faults: Vec<(Rank, Refusal)> = aims
@@ -110,7 +111,7 @@ fn put_in(rng: &mut Rng, plan: &Plan, parts: &mut Parts, aim: PartAim) -> (Rank,
     }
 }
 
-/// Breaks an entry somewhere and gives its row and position.
+/// Breaks a random entry and returns its row and position.
 fn break_entry(
     rng: &mut Rng,
     plan: &Plan,

@@ -1,4 +1,4 @@
-//! Single faults at a named place of a full plan or a full session.
+//! Single faults at a given place of a full plan or a full session.
 
 use super::entries;
 use crate::file::{contents_end, encode, entry_bytes, ENTRY_BYTES};
@@ -8,8 +8,8 @@ use crate::refusal::{KIND, TICKS};
 use crate::rng::Rng;
 use crate::words::{entry_words, ENTRY_WORDS};
 
-/// 32 nodes of 64 entries, whose numbers pass from one byte to two and whose
-/// low bytes fall now and then.
+/// 32 nodes of 64 entries. The node numbers grow from one byte to two, and
+/// their low bytes sometimes fall from one node to the next.
 pub fn full_plan(rng: &mut Rng) -> Plan {
     let nodes = (0..MAX_NODES as u16)
         .map(|row| Node {
@@ -21,12 +21,14 @@ pub fn full_plan(rng: &mut Rng) -> Plan {
     Plan { nodes }
 }
 
-/// A row with each fault that 4 is for; `last` is the number before it.
+/// The row with each fault that check 4 finds; `last` is the node number before
+/// it.
 pub fn row_faults(row: Row, last: Option<u16>) -> Vec<Row> {
     let levels = [0, 65, 66, 128, 255].map(|levels| Row { levels, ..row });
     let counts = [65, 66, 128, 192, 255].map(|entries| Row { entries, ..row });
     let numbers = last.into_iter().flat_map(|last| {
-        // The last of these has a low byte of 255, so one not below `last`'s.
+        // The last of these numbers has low byte 255, which is at least
+        // `last`'s.
         let high = last & 0xFF00;
         [0, last - 1, last, high, high.wrapping_sub(1)]
             .into_iter()
@@ -36,19 +38,19 @@ pub fn row_faults(row: Row, last: Option<u16>) -> Vec<Row> {
     levels.into_iter().chain(counts).chain(numbers).collect()
 }
 
-/// Wrong offsets: every bit changed, a neighbour, an entry and a node further.
+/// Wrong offsets: each bit changed, one byte off, one entry off, one node off.
 pub fn offset_faults(required: u32) -> Vec<u32> {
     let bits = (0..32).map(|bit| required ^ 1 << bit);
     let near = [required - 1, required + 1, required + 20, required + 1_280];
     bits.chain(near).chain([0, u32::MAX]).collect()
 }
 
-/// How many faults of [`entry_faults`] are 7; they come first.
+/// How many faults of [`entry_faults`] are refused as 7; they come first.
 pub const KIND_FAULTS: usize = 8;
-/// How many are 8.
+/// How many are refused as 8.
 pub const TICK_FAULTS: usize = 10;
 
-/// An entry with each fault that 7 or 8 is for, and the number.
+/// The entry with each fault that check 7 or 8 finds, and the number.
 pub fn entry_faults(entry: Entry) -> Vec<(Entry, u8)> {
     let top = MAX_TICKS + 1;
     let kinds = [0, 3, 255, entry.kind | 0x80].map(|kind| Entry { kind, ..entry });
@@ -82,8 +84,8 @@ pub fn entry_faults(entry: Entry) -> Vec<(Entry, u8)> {
     kinds.chain(ticks.map(|entry| (entry, TICKS))).collect()
 }
 
-/// Each of the four ticks with the highest of its 32 bits set: it is good only
-/// to who drops that bit.
+/// The entry with the top bit of C, T, D or B set: only code that drops that
+/// bit accepts it.
 fn high_bits(entry: Entry) -> [Entry; 4] {
     let high = 1 << 31;
     [
@@ -106,7 +108,7 @@ fn high_bits(entry: Entry) -> [Entry; 4] {
     ]
 }
 
-/// The plan's file with another row at an index; its offset stays.
+/// The plan's file with another row at an index; the offset there stays.
 pub fn with_row(plan: &Plan, index: usize, row: &Row) -> Vec<u8> {
     let mut file = encode(plan).expect("only good plans are changed");
     let at = contents_end(index);

@@ -27,7 +27,7 @@ pub fn filled(rng: &mut Rng) -> Plan {
     }
 }
 
-/// Nodes whose wide groups pass after narrow ones failed.
+/// Nodes whose wide groups pass although narrower ones fail.
 pub fn wide(rng: &mut Rng) -> Plan {
     let nodes = rng.count(1, 3);
     plan(rng, nodes, |rng| {
@@ -36,7 +36,7 @@ pub fn wide(rng: &mut Rng) -> Plan {
     })
 }
 
-/// Nodes whose deadlines lie at completion times.
+/// Nodes whose deadlines are at completion times.
 pub fn tight(rng: &mut Rng) -> Plan {
     let nodes = rng.count(1, 3);
     plan(rng, nodes, |rng| {
@@ -97,8 +97,8 @@ pub fn long_periods(rng: &mut Rng) -> Plan {
     })
 }
 
-/// One node with a load just below, at or just above 1; its tests may take
-/// more rounds than the others' plans.
+/// One node with a load just below, at or just above 1; its tests may take more
+/// rounds than those of the other plans.
 pub fn near_one(rng: &mut Rng) -> Plan {
     plan(rng, 1, odd::near_one)
 }
@@ -141,13 +141,13 @@ fn plan(rng: &mut Rng, nodes: usize, mut draw: impl FnMut(&mut Rng) -> Vec<Entry
     Plan { nodes }
 }
 
-/// Level counts about what the entries need, and both ends.
+/// Level counts near what the entries need, and both ends of the limits.
 fn levels_for(rng: &mut Rng, count: usize) -> u8 {
     let near = rng.count(1, count.clamp(1, 63) + 1) as u8;
     rng.pick(&[1, 2, 3, near, near, near, 64])
 }
 
-/// Node numbers that rise strictly; 0 and 65,535 are met.
+/// Node numbers that rise strictly; 0 and 65,535 occur.
 fn rising(rng: &mut Rng, count: usize) -> Vec<u16> {
     let mut number = rng.pick(&[0, 0, 7, 900]);
     let step = rng.pick(&[1, 300, 2_000]);

@@ -1,5 +1,5 @@
-//! Sessions that hold nodes of the plans' generators, and changes of them as by
-//! somebody who tries what fits.
+//! Sessions that hold generated nodes of plans, and changes as a user makes
+//! them to see what fits.
 
 use super::budget::{rounds_ceiling, ROUNDS};
 use super::ops::group;
@@ -11,23 +11,23 @@ use crate::rows::Row;
 use crate::session::{Op, Session};
 use crate::tally::Tally;
 
-/// Where the nodes of a session come from.
+/// A generator of the nodes that sessions hold.
 #[derive(Clone, Copy, Debug)]
 pub struct Family {
-    /// What they are.
+    /// What the nodes are like.
     pub name: &'static str,
     draw: fn(&mut Rng) -> Plan,
     /// Most rounds that a test may take.
     rounds: u64,
 }
 
-/// A family whose tests are as short as those of files.
+/// A family with the same limit of rounds as for files.
 const fn of(name: &'static str, draw: fn(&mut Rng) -> Plan) -> Family {
     let rounds = ROUNDS;
     Family { name, draw, rounds }
 }
 
-/// Wide groups pass after narrow ones failed.
+/// Wide groups pass although narrower ones fail.
 pub const WIDE: Family = of("wide after narrow", plans::wide);
 /// Deadlines at completion times.
 pub const TIGHT: Family = of("tight deadlines", plans::tight);
@@ -68,8 +68,9 @@ impl Family {
         Session::holding(usize::from(levels), &entries).expect("generators give good nodes")
     }
 
-    /// A row of changes, maps and timings whose tests are all short enough; the
-    /// tally counts the changes that are left out.
+    /// A sequence of changes, maps and timings whose tests are all short
+    /// enough; the tally counts the changes left out because their tests are
+    /// too long.
     pub fn row(&self, rng: &mut Rng, tally: &mut Tally) -> Row {
         let mut held = self.session(rng);
         let start = words_of(&held);

@@ -30,7 +30,7 @@ fn count_of(session: &Session) -> Option<usize> {
     sound.then_some(count)
 }
 
-/// Inserts an entry, and says whether it did.
+/// Inserts an entry, and returns whether it did.
 #[inline(never)]
 pub fn insert(session: &mut Session, position: usize, words: &[u32; ENTRY_WORDS]) -> bool {
     let Some(count) = count_of(session) else {
@@ -47,7 +47,7 @@ pub fn insert(session: &mut Session, position: usize, words: &[u32; ENTRY_WORDS]
     true
 }
 
-/// Removes an entry, and says whether it did.
+/// Removes an entry, and returns whether it did.
 #[inline(never)]
 pub fn remove(session: &mut Session, position: usize) -> bool {
     let Some(count) = count_of(session) else {
@@ -73,7 +73,7 @@ pub fn time(session: &Session, first: usize, last: usize, i: usize) -> Option<(u
     completion(&load(session, last + 1)[..=last], first, last, i)
 }
 
-/// Maps the node, and gives the levels used.
+/// Maps the node, and returns the levels used.
 #[inline(never)]
 pub fn map(session: &Session, levels: &mut [u8]) -> Option<usize> {
     let count = count_of(session)?;
@@ -84,7 +84,7 @@ pub fn map(session: &Session, levels: &mut [u8]) -> Option<usize> {
     Some(usize::from(used))
 }
 
-/// So many entries of a session.
+/// The first `count` entries of a session.
 fn load(session: &Session, count: usize) -> [Entry; MOST] {
     let mut entries = [Entry::default(); MOST];
     for (target, words) in entries[..count].iter_mut().zip(session.words.as_chunks().0) {

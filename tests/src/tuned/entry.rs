@@ -1,4 +1,4 @@
-//! Entries where they stand.
+//! Entries, read in place.
 
 use crate::refusal::{Refusal, KIND, TICKS};
 
@@ -11,9 +11,9 @@ const MOST_TICKS: u32 = 1_000_000_000;
 pub type Bytes = [u8; 20];
 pub type Words = [u32; 5];
 
-/// An entry by its five words.
+/// Access to an entry's five words.
 pub trait Entry {
-    /// The word at a place.
+    /// The word at an index, 0 to 4.
     fn word(&self, at: usize) -> u32;
 
     fn number(&self) -> u32 {
@@ -40,7 +40,7 @@ pub trait Entry {
         self.word(4)
     }
 
-    /// A task with up to 15 calls, or a section with none.
+    /// Whether it is a task with up to 15 calls, or a section with none.
     fn kind_holds(&self) -> bool {
         let kind = self.word(0) >> 16;
         (kind & 0xF0FF == 1) | (kind == 2)
@@ -53,7 +53,7 @@ pub trait Entry {
             && self.blocking() <= MOST_TICKS
     }
 
-    /// Within the limits.
+    /// Whether it is within all limits.
     fn holds(&self) -> bool {
         self.kind_holds() && self.times_hold()
     }
@@ -71,7 +71,7 @@ impl Entry for Bytes {
     }
 }
 
-/// Why the first of these entries that is outside the limits is refused.
+/// The refusal of the first of these entries that is outside the limits.
 #[cold]
 pub fn refusal_in<E: Entry>(entries: &[E], row: usize) -> Option<Refusal> {
     let at = entries.iter().position(|entry| !entry.holds())?;

@@ -29,8 +29,8 @@ impl Row {
         }
     }
 
-    /// Whether its number is not below the least, and its counts are within
-    /// the limits.
+    /// Whether its number is at least `least`, and its counts are within the
+    /// limits.
     fn holds(&self, least: u32) -> bool {
         u32::from(self.number) >= least && (1..=64).contains(&self.levels) && self.count <= MOST
     }
@@ -44,7 +44,7 @@ pub struct Plan<'a> {
 }
 
 impl<'a> Plan<'a> {
-    /// The plan of a file, or why it is refused.
+    /// The plan of a file, or the file's refusal.
     pub fn of(file: &'a [u8]) -> Result<Plan<'a>, Refusal> {
         let (head, rest) = file
             .split_first_chunk::<HEAD>()
@@ -65,7 +65,8 @@ impl<'a> Plan<'a> {
             entries: bodies.as_chunks().0,
         };
         plan.check_rows(file.len())?;
-        // All entries in one loop; only a refused file is gone through again, for the place.
+        // All entries in one loop; only a refused file needs a second pass, for
+        // the place.
         if plan.entries.iter().all(Entry::holds) {
             Ok(plan)
         } else {
@@ -94,7 +95,7 @@ impl<'a> Plan<'a> {
         Ok(())
     }
 
-    /// Why one of its entries is refused.
+    /// The refusal of its first bad entry.
     #[cold]
     fn refusal(&self) -> Refusal {
         self.nodes()
@@ -136,7 +137,7 @@ pub fn check(file: &[u8]) -> Result<(), Refusal> {
     Plan::of(file).map(|_| ())
 }
 
-/// Reads a file into words, and gives how many rows and entries.
+/// Reads a file into words, and returns how many rows and entries.
 #[inline(never)]
 pub fn read(file: &[u8], rows: &mut [u32], entries: &mut [u32]) -> Result<(usize, usize), Refusal> {
     let plan = Plan::of(file)?;
@@ -156,7 +157,7 @@ pub fn read(file: &[u8], rows: &mut [u32], entries: &mut [u32]) -> Result<(usize
     Ok((plan.node_count(), plan.entry_count()))
 }
 
-/// Writes words as a file, and gives its length.
+/// Writes words as a file, and returns its length.
 #[inline(never)]
 pub fn write(rows: &[u32], words: &[u32], file: &mut [u8]) -> Result<usize, Refusal> {
     check_parts(rows, words)?;
@@ -203,7 +204,7 @@ fn check_parts(rows: &[u32], words: &[u32]) -> Result<(), Refusal> {
     Err(refusal_of_parts(rows, entries))
 }
 
-/// Why one of the entries is refused.
+/// The refusal of the first bad entry.
 #[cold]
 fn refusal_of_parts(rows: &[u32], mut entries: &[Words]) -> Refusal {
     for (row, word) in rows.iter().enumerate() {

@@ -8,8 +8,8 @@ use super::timing::{runs_of, Test};
 use crate::refusal::{Refusal, BUFFER};
 use crate::timing::Timing;
 
-/// Lists a file, or why it is refused, and gives the text's length. Where the
-/// text does not fit, the buffer is as it was.
+/// Lists a file, or its refusal, and returns the text's length. If the text
+/// does not fit, the buffer is left as it was.
 #[inline(never)]
 pub fn list(file: &[u8], out: &mut [u8]) -> Result<usize, Refusal> {
     let plan = Plan::of(file);
@@ -23,7 +23,7 @@ pub fn list(file: &[u8], out: &mut [u8]) -> Result<usize, Refusal> {
     })
 }
 
-/// No listing of such a plan is longer.
+/// A bound on the listing's length.
 fn most_text(plan: &Result<Plan, Refusal>) -> usize {
     match plan {
         Ok(plan) => 9 + 29 * plan.node_count() + 56 * plan.entry_count(),

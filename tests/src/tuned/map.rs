@@ -14,7 +14,7 @@ pub struct Groups {
 }
 
 impl Groups {
-    /// The groups of a node, if it has a map with so many levels.
+    /// The groups of a node, if it has a map with at most `levels` levels.
     pub fn of<E: Entry>(entries: &[E], levels: u8) -> Option<Groups> {
         let mut groups = Groups {
             starts: [0; MOST],
@@ -42,8 +42,8 @@ impl Groups {
     }
 }
 
-/// The least start of a group that ends with the last entry and has none that
-/// is late.
+/// The least start of a group that ends with the last entry and in which no
+/// entry is late.
 fn least_start<E: Entry>(entries: &[E]) -> Option<usize> {
     let runs = runs_of(entries);
     let late = |e: &E| u64::from(e.blocking()) + runs > u64::from(e.deadline());
@@ -51,7 +51,8 @@ fn least_start<E: Entry>(entries: &[E]) -> Option<usize> {
     'starts: while start < entries.len() {
         for i in (start..entries.len()).rev() {
             if !Test::new(entries, start, i, runs).is_on_time() {
-                // It is late in each group that starts later and has it.
+                // Entry i is late in every group that starts later and contains
+                // it.
                 start = i + 1;
                 continue 'starts;
             }
@@ -61,7 +62,7 @@ fn least_start<E: Entry>(entries: &[E]) -> Option<usize> {
     None
 }
 
-/// Maps the entries of a node, and gives the levels used.
+/// Maps the entries of a node, and returns the levels used.
 pub fn map_entries<E: Entry>(entries: &[E], levels: u8, out: &mut [u8]) -> Result<usize, Refusal> {
     let out = out.get_mut(..entries.len()).ok_or(Refusal::plain(BUFFER))?;
     let groups = Groups::of(entries, levels).ok_or(Refusal::plain(NO_MAP))?;
@@ -74,7 +75,7 @@ pub fn map_entries<E: Entry>(entries: &[E], levels: u8, out: &mut [u8]) -> Resul
     Ok(groups.count)
 }
 
-/// Maps the node with a number of a file, and gives the levels used.
+/// Maps the node of a file with this number, and returns the levels used.
 #[inline(never)]
 pub fn map(file: &[u8], number: u16, levels: &mut [u8]) -> Result<usize, Refusal> {
     let plan = Plan::of(file)?;

@@ -1,5 +1,4 @@
-//! Sessions: the lent memory is checked, read where it stands, and changed in
-//! place.
+//! Sessions: the lent memory is checked, read and changed in place.
 
 use super::entry::{refusal_in, Entry, Words, MOST};
 use super::map::map_entries;
@@ -10,7 +9,7 @@ use crate::timing::Timing;
 /// The lent memory.
 pub use crate::ffi::session::Session;
 
-/// The entries of a sound session, or why it is refused.
+/// The entries of a sound session, or the session's refusal.
 fn held(session: &Session) -> Result<&[Words], Refusal> {
     if !(1..=64).contains(&session.levels) {
         return Err(Refusal::at_row(ROW, 0));
@@ -25,12 +24,12 @@ fn held(session: &Session) -> Result<&[Words], Refusal> {
     Err(refusal_in(entries, 0).expect("an entry is outside the limits"))
 }
 
-/// The slots of the entries that a session may have.
+/// The slots of a session's entries, used or not.
 fn slots(session: &mut Session) -> &mut [Words] {
     session.words.as_chunks_mut().0
 }
 
-/// Leaves a session with its first `count` entries, and zeros behind them.
+/// Leaves a session with its first `count` entries, and zeros after them.
 fn keep(session: &mut Session, count: usize) {
     session.count = count as u32;
     session.words[count * 5..].fill(0);
@@ -128,7 +127,7 @@ pub fn time(session: &Session, first: usize, last: usize, i: usize) -> Result<Ti
     Ok(Test::new(entries, first, i, runs_of(entries)).completion())
 }
 
-/// Maps the node, and gives the levels used.
+/// Maps the node, and returns the levels used.
 #[inline(never)]
 pub fn map(session: &Session, levels: &mut [u8]) -> Result<usize, Refusal> {
     let entries = held(session)?;

@@ -1,6 +1,6 @@
 //! Text into a lent buffer.
 
-/// A buffer, and how far it is written.
+/// A buffer, and how much of it is written.
 pub struct Text<'a> {
     out: &'a mut [u8],
     at: usize,

@@ -1,5 +1,5 @@
-//! The completion time test of an entry, and whether it is on time without
-//! its rounds where less decides.
+//! The completion time test of an entry, and a faster decision whether the
+//! entry is on time, which makes rounds only if nothing cheaper decides.
 
 use super::entry::Entry;
 use crate::timing::Timing;
@@ -7,7 +7,7 @@ use crate::timing::Timing;
 /// A load of 1; loads are in units of 2^-34.
 const ONE: u64 = 1 << 34;
 
-/// The runs of these entries, added up.
+/// The sum of C over these entries.
 pub fn runs_of(entries: &[impl Entry]) -> u64 {
     entries.iter().map(|entry| u64::from(entry.wcet())).sum()
 }
@@ -22,9 +22,9 @@ fn urgent_share(entry: &impl Entry, t: u32) -> u64 {
     wcet * u64::from((t + (period - 1)) / period)
 }
 
-/// What another entry on the level of one with so many calls runs in `t`
-/// ticks. Past as many periods the count is at its limit, and no division is
-/// needed.
+/// What an entry on the same level as the tested one runs in `t` ticks; `calls`
+/// is that of the tested entry. Once `calls` periods are past, the count is at
+/// its limit and needs no division.
 fn beside_share(entry: &impl Entry, calls: u32, t: u32) -> u64 {
     if u64::from(entry.period()) * u64::from(calls) < u64::from(t) {
         return u64::from(entry.wcet()) * u64::from(calls + 1);
@@ -32,21 +32,21 @@ fn beside_share(entry: &impl Entry, calls: u32, t: u32) -> u64 {
     urgent_share(entry, t)
 }
 
-/// An entry in its group, with what its demand counts.
+/// An entry in its group, with the entries that its demand counts.
 pub struct Test<'a, E> {
     own: &'a E,
-    /// Where the test starts: its blocking, and one run of each entry.
+    /// Where the test starts: B of the entry plus C of every entry.
     start: u64,
-    /// Those on more urgent levels.
+    /// The entries on more urgent levels.
     urgent: &'a [E],
-    /// The others on its level.
+    /// The other entries on its level.
     before: &'a [E],
     behind: &'a [E],
 }
 
 impl<'a, E: Entry> Test<'a, E> {
     /// The entry at `i`, in the group from `first` to the last of these
-    /// entries, whose runs add up to `runs`.
+    /// entries; `runs` is the sum of C over all of them.
     pub fn new(entries: &'a [E], first: usize, i: usize, runs: u64) -> Test<'a, E> {
         let (earlier, later) = entries.split_at(i);
         let (urgent, before) = earlier.split_at(first);
@@ -76,8 +76,8 @@ impl<'a, E: Entry> Test<'a, E> {
         Timing::Late { rounds }
     }
 
-    /// Whether the entry ends by its deadline: by the start, by the demand at
-    /// the deadline, or else by rounds from as late as the load allows.
+    /// Whether the entry ends by its deadline. The start decides, or the demand
+    /// at the deadline, or else rounds that begin as late as the load allows.
     pub fn is_on_time(&self) -> bool {
         let deadline = self.own.deadline();
         if self.start > u64::from(deadline) {
@@ -86,7 +86,7 @@ impl<'a, E: Entry> Test<'a, E> {
         self.demand(deadline) <= u64::from(deadline) || self.is_met_from(self.earliest())
     }
 
-    /// What has to run by `t`.
+    /// The demand at `t`.
     fn demand(&self, t: u32) -> u64 {
         let calls = self.own.calls();
         let mut sum = u64::from(self.own.wcet()) + u64::from(self.own.blocking());
@@ -102,8 +102,8 @@ impl<'a, E: Entry> Test<'a, E> {
         sum
     }
 
-    /// A time before which the demand is not met: the start, or later by the
-    /// load of the more urgent entries whose periods are below the deadline.
+    /// A time before which the demand is not met: the start, or a later time if
+    /// the load of the more urgent entries with T < D shows it.
     fn earliest(&self) -> u64 {
         let deadline = self.own.deadline();
         let (mut load, mut runs) = (0, 0);
@@ -120,8 +120,8 @@ impl<'a, E: Entry> Test<'a, E> {
         by_load.max(self.start)
     }
 
-    /// Whether the demand is met by the deadline, by rounds from a time before
-    /// which it is not.
+    /// Whether the demand is met by the deadline, by rounds from `t`; it must
+    /// not be met before `t`.
     fn is_met_from(&self, mut t: u64) -> bool {
         let deadline = u64::from(self.own.deadline());
         while t <= deadline {

@@ -1,8 +1,9 @@
-//! The proved library beside two others in Rust that do the same work, all in
-//! this process: tuned by hand with the same decisions, and plain. A ratio
-//! below 1 says that the proved one is faster.
+//! Compares the speed of the proved library with two Rust programs that do the
+//! same work in this process: one tuned by hand with the same decisions, and a
+//! plain one. A ratio below 1 means that the proved library is faster.
 //!
-//! Arguments are parts of names: only rows that have one of them are measured.
+//! Arguments are parts of names: only rows whose names contain one are
+//! measured.
 
 mod measure;
 mod odd;
@@ -20,7 +21,7 @@ use oracle::rng::Rng;
 use rows::{Checking, Listing, Mapping, Reading, Writing};
 use stations::{mapped_entries, one_node, station};
 
-/// No listing is longer.
+/// The longest possible listing.
 const MOST_TEXT: usize = 115_625;
 /// Entries of a node of a station.
 const COUNT: usize = 12;
@@ -58,7 +59,7 @@ enum Room {
     Exact,
 }
 
-/// The row of a station, which says how many of its nodes have a map.
+/// The row of a station; its name says how many of its nodes have a map.
 fn listing(file: &[u8], room: Room) -> Listing {
     let mut text = vec![0; MOST_TEXT];
     let length = ffi::list(file, &mut text).expect("the text fits");

@@ -1,27 +1,27 @@
-//! Tables: a row is the same calls of each of the three, and the best of many
-//! runs counts, taken in turns, so that what else the machine does hurts all
-//! alike.
+//! Tables: each row makes the same calls of all three planners. They run in
+//! turns, so that other load on the machine affects all alike, and the best of
+//! many runs counts.
 
 use crate::planner::{Plain, Planner, Proved, Tuned};
 use std::time::Instant;
 
-/// What one run of a measure takes at least, in seconds.
+/// The least duration of one run, in seconds.
 const LONG: f64 = 0.004;
 
 /// What is measured.
 pub trait Row {
-    /// The buffers that are lent to the calls, and what these answer.
+    /// The buffers that are lent to the calls, and the answers of the calls.
     type Lent: PartialEq;
 
-    /// What the line says.
+    /// The text of the row's first column.
     fn name(&self) -> String;
 
-    /// How many things of the name are done by one run of the calls.
+    /// How often `call` does the work that the name describes.
     fn parts(&self) -> usize {
         1
     }
 
-    /// What is lent first.
+    /// The buffers before the first call.
     fn lent(&self) -> Self::Lent;
 
     /// The calls.
@@ -30,7 +30,7 @@ pub trait Row {
 
 /// A table of rows.
 pub struct Table<'a> {
-    /// Parts of names: a row that has none of them is left out.
+    /// Parts of names: a row whose name contains none of them is left out.
     asked: &'a [String],
     unit: &'static str,
     units_a_second: f64,
@@ -39,7 +39,7 @@ pub struct Table<'a> {
 }
 
 impl<'a> Table<'a> {
-    /// A table in microseconds, or the rows of it that are asked for.
+    /// A table in microseconds; if `asked` is not empty, only these rows.
     pub fn new(asked: &'a [String]) -> Table<'a> {
         Table {
             asked,
@@ -50,7 +50,7 @@ impl<'a> Table<'a> {
         }
     }
 
-    /// The same for calls that take long: in milliseconds, with few turns.
+    /// The same for long calls: in milliseconds, with few turns.
     pub fn of_long_calls(asked: &'a [String]) -> Table<'a> {
         Table {
             unit: "ms",
@@ -74,7 +74,7 @@ impl<'a> Table<'a> {
         });
         assert!(lent[1] == lent[0], "{name}: the tuned one differs");
         assert!(lent[2] == lent[0], "{name}: the plain one differs");
-        // Each in as many calls as it takes for a run: one may be far slower.
+        // Each planner makes enough calls for one run: one may be far slower.
         let mut calls = [1; 3];
         for who in 0..3 {
             while all[who](row, &mut lent[who], calls[who]) < LONG {
@@ -91,7 +91,7 @@ impl<'a> Table<'a> {
         self.line(&name, best.map(|seconds| seconds / row.parts() as f64));
     }
 
-    /// Writes a line, and the head before the first.
+    /// Writes a row, and before the first one the head of the table.
     fn line(&mut self, name: &str, [proved, tuned, plain]: [f64; 3]) {
         if !self.begun {
             self.begun = true;
@@ -111,7 +111,7 @@ impl<'a> Table<'a> {
     }
 }
 
-/// So many calls, and the seconds that they take.
+/// Makes a number of calls, and returns the seconds that they take.
 type Run<R> = fn(&R, &mut <R as Row>::Lent, u32) -> f64;
 
 fn run<R: Row, P: Planner>(row: &R, lent: &mut R::Lent, calls: u32) -> f64 {
@@ -122,8 +122,8 @@ fn run<R: Row, P: Planner>(row: &R, lent: &mut R::Lent, calls: u32) -> f64 {
     begin.elapsed().as_secs_f64()
 }
 
-/// How many decimals show so many digits behind the first, and at least so
-/// many decimals.
+/// How many decimals show `digits` digits after the first significant one, but
+/// at least `least` decimals.
 fn decimals(number: f64, digits: i32, least: i32) -> usize {
     let first = number.log10().floor() as i32;
     (digits - first).max(least) as usize

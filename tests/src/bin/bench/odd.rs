@@ -1,4 +1,5 @@
-//! Odd plans: the listings beside the plain one, which follows every round.
+//! Odd plans: the listings compared with the plain one, which makes every
+//! round.
 //!
 //! Each listing runs in a process of its own, with a limit, because it may
 //! take hours.
@@ -18,10 +19,10 @@ use std::time::{Duration, Instant};
 
 /// The argument of a process that lists one plan.
 pub const CHILD: &str = "odd";
-/// Seconds after which a listing is ended.
+/// Seconds after which a listing is killed.
 const LIMIT: u64 = 20;
 const PLAIN_LIMIT: u64 = 2;
-/// A listing that is shorter than so many seconds is measured again.
+/// A listing that takes less than this many seconds is measured again.
 const SHORT: f64 = 0.1;
 
 /// The table of the families.
@@ -40,7 +41,7 @@ fn all() -> Vec<Family> {
     FAMILIES.into_iter().chain(JUST_LATE).collect()
 }
 
-/// How long a listing takes, and how many nodes it says it has done.
+/// How long a listing takes, and how many nodes it reports as done.
 fn in_child(who: &str, family: usize, limit: u64) -> (String, usize) {
     let program = env::current_exe().expect("this program has a path");
     let mut command = Command::new(program);
@@ -58,7 +59,7 @@ fn in_child(who: &str, family: usize, limit: u64) -> (String, usize) {
     }
 }
 
-/// What the child does: lists a plan of a family and writes the seconds.
+/// The child process: lists a plan of a family and prints the seconds.
 pub fn child(who: &str, family: &str) {
     let family: usize = family.parse().expect("the place of a family");
     let file = encode(&full_plan(&all()[family].1())).expect("a good plan");
@@ -84,8 +85,8 @@ pub fn child(who: &str, family: &str) {
     println!("{best}");
 }
 
-/// The least seconds of a few calls, or those of one long call. A call is
-/// told whether it is the first.
+/// The least time of several calls, or the time of one long call. `list` learns
+/// whether its call is the first.
 fn best_of(mut list: impl FnMut(bool)) -> f64 {
     let mut seconds = |first| {
         let begin = Instant::now();
@@ -101,7 +102,7 @@ fn best_of(mut list: impl FnMut(bool)) -> f64 {
     best
 }
 
-/// The table of a node whose last entries truly take millions of rounds.
+/// The table for a node whose last entries take millions of rounds.
 pub fn rounds(table: &mut Table, count: usize) {
     let file = one_node(&many_rounds(count), 64);
     let what = format!("a node of {count} entries with millions of rounds");

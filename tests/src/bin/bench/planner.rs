@@ -1,4 +1,4 @@
-//! The three that are measured, with the same calls.
+//! The three planners that are measured, with the same calls.
 
 use oracle::ffi;
 use oracle::ffi::session::Session;
@@ -10,7 +10,7 @@ use oracle::words::ENTRY_WORDS;
 /// An entry in words.
 pub type Entry = [u32; ENTRY_WORDS];
 
-/// One of them. A call that is refused answers `false` or `None`.
+/// One of the three planners. A refused call answers `false` or `None`.
 pub trait Planner {
     fn check(file: &[u8]) -> bool;
     fn read(file: &[u8], rows: &mut [u32], words: &mut [u32]) -> Option<(usize, usize)>;
@@ -106,7 +106,7 @@ impl Planner for Tuned {
     }
 }
 
-/// Plain Rust, which follows every round.
+/// Plain Rust, which makes every round.
 pub struct Plain;
 
 impl Planner for Plain {

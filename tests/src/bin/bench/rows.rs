@@ -1,11 +1,11 @@
-//! What is measured of plan files.
+//! Rows about plan files.
 
 use crate::measure::Row;
 use crate::planner::Planner;
 use oracle::ffi;
 use std::hint::black_box;
 
-/// Mapping node 7 of each of some files, which differ in their work.
+/// Mapping node 7 of several files, because nodes differ in cost.
 pub struct Mapping {
     pub name: String,
     pub files: Vec<Vec<u8>>,
@@ -61,7 +61,7 @@ pub struct Reading<'a> {
     pub what: &'a str,
 }
 
-/// A plan in words, with how many rows and entries were read.
+/// A plan in words, and how many rows and entries were read.
 type InWords = (Vec<u32>, Vec<u32>, Option<(usize, usize)>);
 
 impl Row for Reading<'_> {
@@ -120,7 +120,7 @@ impl Row for Writing<'_> {
     }
 }
 
-/// Listing a file into a buffer of a length.
+/// Listing a file into a buffer of a given length.
 pub struct Listing {
     pub name: String,
     pub file: Vec<u8>,

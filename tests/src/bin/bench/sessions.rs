@@ -55,7 +55,7 @@ impl Changes {
         row
     }
 
-    /// The session between the two.
+    /// The session between the insert and the remove.
     fn between<P: Planner>(&self) -> Session {
         let mut session = self.session.clone();
         assert!(P::insert(&mut session, self.count / 2, &self.entry));
@@ -89,8 +89,8 @@ impl Row for Changes {
     }
 }
 
-/// The last entry in groups that start at the first entry, in the middle, and
-/// at itself.
+/// Times the last entry, in groups that start at the first entry, in the
+/// middle, and at the last entry itself.
 struct Timing {
     sessions: Vec<Session>,
     count: usize,
@@ -139,7 +139,7 @@ impl Row for Timing {
     }
 }
 
-/// Maps of some sessions, which differ in their work.
+/// Maps several sessions, because they differ in cost.
 struct Mapping {
     sessions: Vec<Session>,
     count: usize,

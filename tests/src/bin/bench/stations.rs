@@ -6,7 +6,7 @@ use oracle::model::{Entry, Node, Plan};
 use oracle::plain;
 use oracle::rng::Rng;
 
-/// So many entries that have a map with so many levels.
+/// `count` entries that have a map with at most `levels` levels.
 pub fn mapped_entries(rng: &mut Rng, count: usize, levels: u8) -> Vec<Entry> {
     loop {
         let entries = entries::many(rng, count);
@@ -26,7 +26,7 @@ pub fn one_node(entries: &[Entry], levels: u8) -> Vec<u8> {
     encode(&Plan { nodes: vec![node] }).expect("a good plan")
 }
 
-/// The file of a station of so many nodes with 16 levels each.
+/// The file of a station of `nodes` nodes with 16 levels each.
 pub fn station(nodes: u16, mut draw: impl FnMut() -> Vec<Entry>) -> Vec<u8> {
     let nodes = (0..nodes)
         .map(|number| Node {

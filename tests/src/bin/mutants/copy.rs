@@ -4,15 +4,15 @@ use oracle::programs::root;
 use std::fs;
 use std::path::{Path, PathBuf};
 
-/// Test files that say so hold the second implementation against the proved
-/// library or program.
+/// A test file that contains one of these compares the second implementation
+/// with the proved library or program.
 const COMPARING: [&str; 4] = ["::compare", "::ffi", "list_plan", "libplanner_c"];
 
-/// What is not copied, or not as it is.
+/// What is not copied, or not unchanged.
 const APART: [&str; 4] = [".git", "crates", "target", "tests"];
 
-/// What stands in place of the build script, which would prove everything
-/// again: the library is linked as it is.
+/// Replaces the build script, which would prove everything again: this one
+/// links the library as it is.
 const BUILD: &str = r#"fn main() {
     println!("cargo:rustc-check-cfg=cfg(list_plan)");
     println!("cargo:rustc-cfg=list_plan");
@@ -21,16 +21,16 @@ const BUILD: &str = r#"fn main() {
 }
 "#;
 
-/// A repository with the tests alone, all of them in one test program.
+/// A repository with only the tests, all of them in one test program.
 pub struct Copy {
-    /// Its folder of tests.
+    /// Its directory of tests.
     pub tests: PathBuf,
-    /// Names of the test files that ask the proved library or program.
+    /// Names of the test files that use the proved library or program.
     pub comparing: Vec<String>,
 }
 
 impl Copy {
-    /// A fresh copy under tests/target; only what was built there is kept.
+    /// A fresh copy under tests/target; only earlier build results are kept.
     pub fn new() -> Copy {
         let (from, to) = (root(), root().join("tests/target/mutants"));
         if to.exists() {
@@ -61,20 +61,20 @@ impl Copy {
         Copy { tests, comparing }
     }
 
-    /// The text of a file, named from tests/ on.
+    /// The text of a file, named relative to tests/.
     pub fn text(&self, file: &str) -> String {
         let path = self.tests.join(file);
         fs::read_to_string(&path).unwrap_or_else(|error| panic!("{}: {error}", path.display()))
     }
 
-    /// Writes a file, named from tests/ on.
+    /// Writes a file, named relative to tests/.
     pub fn put(&self, file: &str, text: &str) {
         write(&self.tests.join(file), text);
     }
 }
 
-/// Makes all test files parts of one program, which is built and linked once,
-/// and gives the names of those that compare with what is proved.
+/// Joins all test files into one program, which is built and linked once, and
+/// returns the names of those that use the proved library or program.
 fn join_tests(from: &Path, to: &Path) -> Vec<String> {
     let all = to.join("all");
     let (mut parts, mut comparing) = (String::new(), Vec::new());
@@ -95,8 +95,9 @@ fn join_tests(from: &Path, to: &Path) -> Vec<String> {
     comparing
 }
 
-/// Where the crates have their wrong programs, which a test reads. Of the
-/// crates nothing else is copied: rt would take it for files that no crate has.
+/// The crates' directories of wrong programs, which a test reads. Nothing else
+/// of the crates is copied: rt would report it as files that belong to no
+/// crate.
 fn edit_folders(root: &Path) -> Vec<PathBuf> {
     let both = |item: &PathBuf| ["must-fail", "wrong"].map(|name| item.join(name));
     let all = items(&root.join("crates"));
@@ -113,7 +114,7 @@ fn items(folder: &Path) -> Vec<PathBuf> {
     items
 }
 
-/// Copies a file or a folder into a folder.
+/// Copies a file or a directory into a directory.
 fn copy_item(from: &Path, folder: &Path) {
     let to = folder.join(from.file_name().expect("an item has a name"));
     if from.is_dir() {
@@ -125,7 +126,7 @@ fn copy_item(from: &Path, folder: &Path) {
     }
 }
 
-/// Removes a file or a folder, if it is there.
+/// Removes a file or a directory, if it exists.
 fn clear(item: &Path) {
     let done = match item.is_dir() {
         true => fs::remove_dir_all(item),

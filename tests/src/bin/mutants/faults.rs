@@ -1,9 +1,10 @@
 //! The kept faults: text files with a few lines for each.
 //!
-//! `file src/map.rs` names the file that the faults below it are made in, and
-//! `== name` opens a fault. Its lines follow as in a patch: a blank in front of
-//! those that stay, `-` in front of the old ones and `+` in front of the new.
-//! `changes nothing: ` and a reason mark one that no test can notice.
+//! `file src/map.rs` names the file in which the faults below it are made, and
+//! `== name` begins a fault. Its lines follow as in a patch: a blank in front
+//! of lines that stay, `-` in front of old lines and `+` in front of new ones.
+//! A line `changes nothing: ` with a reason marks a fault that no test can
+//! notice.
 
 use oracle::programs::root;
 use std::fs;
@@ -12,9 +13,9 @@ use std::path::PathBuf;
 /// A change of a few lines of one file.
 #[derive(Default)]
 pub struct Fault {
-    /// The list's name and its own.
+    /// The name of the list and of the fault.
     pub name: String,
-    /// The file, from tests/ on.
+    /// The file, relative to tests/.
     pub file: String,
     /// Why no test can notice it, if none can.
     pub nothing: Option<String>,
@@ -55,7 +56,7 @@ impl Fault {
     }
 }
 
-/// Lines that may begin with others.
+/// Comparison of the beginning of a list of lines.
 trait Lines {
     fn starts_with_all(&self, first: &[String]) -> bool;
 }
@@ -66,7 +67,7 @@ impl Lines for [&str] {
     }
 }
 
-/// Every kept fault, or those whose names have one of these parts, list by
+/// Every kept fault, or those whose names contain one of these parts, list by
 /// list.
 pub fn kept(parts: &[String]) -> Vec<Fault> {
     let folder = root().join("tests/mutants");

@@ -1,12 +1,12 @@
-//! Small faults, made in the second implementation one at a time, and the
-//! tests that notice them.
+//! Mutation testing: makes small faults in the second implementation, one at a
+//! time, and finds the test that notices each.
 //!
-//! A fault that no test notices is a place that the tests do not reach. The
-//! faults are kept in tests/mutants; the arguments, if there are any, are parts
-//! of the names of those to try. Each is made in a copy under tests/target,
-//! which links the library and runs the program that are proved already. The
-//! exit status is 0 exactly if each is noticed, but for those that are marked
-//! to change nothing, and none of these is.
+//! A fault that no test notices shows a gap in the tests. The faults are kept
+//! in tests/mutants. Arguments are parts of names: only faults with one of them
+//! are tried. Each fault is made in a copy under tests/target, which uses the
+//! library and the program as already proved. The exit status is 0 exactly if
+//! every fault is noticed, except those marked as changing nothing, which must
+//! not be noticed.
 
 mod copy;
 mod faults;
@@ -42,7 +42,7 @@ fn main() -> ExitCode {
     try_all(&copy, &suite, &faults)
 }
 
-/// Each fault whose old lines do not stand exactly once in their file.
+/// The faults whose old lines do not occur exactly once in their file.
 fn unfit(copy: &Copy, faults: &[Fault]) -> Vec<String> {
     faults
         .iter()
@@ -85,7 +85,7 @@ fn try_all(copy: &Copy, suite: &Suite, faults: &[Fault]) -> ExitCode {
     }
 }
 
-/// What the tests say with the fault, which is taken back.
+/// Makes the fault, runs the tests, and takes the fault back.
 fn with_fault(copy: &Copy, suite: &Suite, fault: &Fault) -> Verdict {
     let good = copy.text(&fault.file);
     let made = fault.made_in(&good).expect("every fault was seen to fit");

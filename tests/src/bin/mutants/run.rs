@@ -1,4 +1,4 @@
-//! Builds the copy and runs its tests, up to the first that fails.
+//! Builds the copy and runs its tests up to the first failure.
 
 use crate::copy::Copy;
 use std::io::{BufRead, BufReader};
@@ -8,18 +8,18 @@ use std::sync::mpsc::{channel, Receiver, RecvTimeoutError};
 use std::thread;
 use std::time::{Duration, Instant};
 
-/// What the tests say of a fault.
+/// The outcome of the tests with a fault.
 pub enum Verdict {
     /// This test fails.
     Noticed(String),
-    /// None fails.
+    /// No test fails.
     Unnoticed,
-    /// It cannot be built, so it is no fault.
+    /// The copy does not build with the fault, so the fault is useless.
     Unbuilt(String),
 }
 
 impl Verdict {
-    /// What is wrong with a fault of which this is said.
+    /// The outcome as text, for a fault with an unexpected one.
     pub fn failing(&self) -> String {
         match self {
             Verdict::Noticed(by) => format!("noticed by {by}"),
@@ -36,15 +36,15 @@ struct Part {
     time: Duration,
 }
 
-/// All tests but those inside the second implementation.
+/// All tests except the unit tests inside the second implementation.
 pub struct Suite {
     parts: Vec<Part>,
 }
 
 impl Suite {
-    /// The tests of the copy, which must pass before a fault is made. Those
-    /// that ask the proved library or program come first, and of these the
-    /// ones that take the least time.
+    /// The tests of the copy, which must pass before a fault is made. Tests
+    /// that use the proved library or program come first, the shortest of them
+    /// first.
     pub fn without_a_fault(copy: &Copy) -> Result<Suite, String> {
         let program = build(copy, &["--test", "all"])?;
         let mut parts = parts(copy, &program);
@@ -63,8 +63,8 @@ impl Suite {
         }
     }
 
-    /// The first test that fails: of those that ask the proved library or
-    /// program, else of the others, else of those inside the implementation.
+    /// The first test that fails: among those that use the proved library or
+    /// program, else among the others, else among the unit tests.
     pub fn verdict(&self, copy: &Copy) -> Verdict {
         let program = match build(copy, &["--test", "all"]) {
             Ok(program) => program,
@@ -81,7 +81,7 @@ impl Suite {
         self.inside(copy)
     }
 
-    /// What the tests inside the second implementation say.
+    /// The outcome of the unit tests inside the second implementation.
     fn inside(&self, copy: &Copy) -> Verdict {
         let all = Part {
             names: Vec::new(),
@@ -125,8 +125,8 @@ fn parts(copy: &Copy, program: &Path) -> Vec<Part> {
         .collect()
 }
 
-/// Runs the tests of a part, or all if it names none, and ends them as soon as
-/// one fails or all take far too long.
+/// Runs the tests of a part, or all tests if the part names none. Stops at the
+/// first failure, or if they take far too long.
 fn first_failing(copy: &Copy, program: &Path, part: &Part) -> Option<String> {
     let mut child = Command::new(program)
         .args(["--exact", "--test-threads", "2"])
@@ -142,7 +142,7 @@ fn first_failing(copy: &Copy, program: &Path, part: &Part) -> Option<String> {
     let until = Instant::now() + 5 * part.time + Duration::from_secs(60);
     let failing = watch(&lines_of(&mut child), until);
     if failing.is_some() {
-        // It may have ended by itself.
+        // An error only means that it has already ended.
         let _ = child.kill();
     }
     let status = child.wait().expect("the tests end");
@@ -150,7 +150,7 @@ fn first_failing(copy: &Copy, program: &Path, part: &Part) -> Option<String> {
     failing.or((!status.success()).then(|| format!("{} or a test behind it: {status}", ended())))
 }
 
-/// The lines that the tests write, as they come.
+/// The lines of the tests' output, as they come.
 fn lines_of(child: &mut Child) -> Receiver<String> {
     let output = child.stdout.take().expect("standard output is a pipe");
     let (sender, lines) = channel();
@@ -167,7 +167,7 @@ fn lines_of(child: &mut Child) -> Receiver<String> {
     lines
 }
 
-/// The first test that is said to have failed, or that there is no end.
+/// The first test reported as failed, or a note that the tests do not end.
 fn watch(lines: &Receiver<String>, until: Instant) -> Option<String> {
     let mut in_list = false;
     loop {
@@ -183,8 +183,8 @@ fn watch(lines: &Receiver<String>, until: Instant) -> Option<String> {
         if let Some(name) = said {
             return Some(name.to_string());
         }
-        // What tests print may stand between a name and its end, so that only
-        // the list behind all of them has it.
+        // Output of a test may come between its name and its result. Then only
+        // the list of failures at the end names it.
         if in_list && line.starts_with("    ") {
             return Some(line.trim().to_string());
         }
@@ -192,7 +192,7 @@ fn watch(lines: &Receiver<String>, until: Instant) -> Option<String> {
     }
 }
 
-/// Builds a test program with little optimisation, and gives its path.
+/// Builds a test program with little optimisation, and returns its path.
 fn build(copy: &Copy, target: &[&str]) -> Result<PathBuf, String> {
     let done = Command::new("cargo")
         .args(["test", "--release", "--offline", "--locked", "--no-run"])
