@@ -1,7 +1,7 @@
 // The planner for C and Rust programs. A slice crosses as a pointer and a length, an array as a pointer.
 //
-// Each function returns a refusal's number, or 0, and leaves two values in `values`: the row and the entry position of
-// the refusal, or what the call gives (specs/Returned.antt). The other lent buffers are untouched where it refuses.
+// Each function returns 0 or the number of a refusal, and writes two numbers to `values`: the results of the call, or the
+// row and the entry position of the refusal (specs/Returned.antt). A refused call leaves the other lent buffers untouched.
 pub mod sessions;
 
 ghost use mathlib.Core.Path.{_≡_};
@@ -31,7 +31,7 @@ use plan_file::Written;
 use refusals::Checked;
 use refusals::Refusal;
 
-// Returns the number of a refusal, and leaves its row and its entry position.
+// Returns the number of a refusal, and writes its row and its entry position to `values`.
 fn refuse(r: Refusal, values: &mut [usize; 2]) -> u32
     ensures { λ a. ⌜ returned a (now (values .exit)) ≡ back (numbered r) ⌝ }
 {
@@ -40,7 +40,7 @@ fn refuse(r: Refusal, values: &mut [usize; 2]) -> u32
     n.number as u32
 }
 
-// Returns 0, and leaves the two values of a call that is not refused.
+// Returns 0, and writes the two results of an accepted call to `values`.
 fn give(first: usize, second: usize, values: &mut [usize; 2]) -> u32
     ensures { λ a. ⌜ returned a (now (values .exit)) ≡ given first second ⌝ }
 {
@@ -48,7 +48,7 @@ fn give(first: usize, second: usize, values: &mut [usize; 2]) -> u32
     0
 }
 
-// Returns what a check found; it gives nothing.
+// Returns the outcome of a check. An accepted check has no results: both values are 0.
 fn give_checked(found: Checked, values: &mut [usize; 2]) -> u32
     ensures { λ a. ⌜ returned a (now (values .exit)) ≡ checked (outcome found) ⌝ }
 {
@@ -58,7 +58,7 @@ fn give_checked(found: Checked, values: &mut [usize; 2]) -> u32
     }
 }
 
-// Accepts a plan file, or refuses it. Returns 0 exactly for the files of plans within the limits.
+// Checks a plan file. Returns 0 exactly for the files of plans within the limits.
 #[no_mangle]
 pub extern "C" fn maiplur_check(file: &[u8], values: &mut [usize; 2]) -> u32
     ensures { λ a. ⌜ returned a (now (values .exit)) ≡ checked (fileCheck (now (file .entry))) ⌝ }
@@ -68,8 +68,8 @@ pub extern "C" fn maiplur_check(file: &[u8], values: &mut [usize; 2]) -> u32
     give_checked(found, values)
 }
 
-// Reads a file's plan into buffers: a word for each row, and those of each entry. Gives how many rows and entries. What is
-// filled, maiplur_write writes as the same bytes.
+// Reads a file's plan into buffers: one word per row, and five per entry. Gives how many rows and entries it filled. From
+// the filled words, maiplur_write writes the same bytes.
 #[no_mangle]
 pub extern "C" fn maiplur_read(
     file: &[u8],
@@ -103,8 +103,8 @@ pub extern "C" fn maiplur_read(
     }
 }
 
-// Writes a plan as a file from the buffer's start. Gives the file's length. What is written, maiplur_read reads as the same
-// words.
+// Writes a plan as a file from the buffer's start. Gives the file's length. From the written file, maiplur_read reads the
+// same words.
 #[no_mangle]
 pub extern "C" fn maiplur_write(
     rows: &[u32],
@@ -130,7 +130,8 @@ pub extern "C" fn maiplur_write(
     }
 }
 
-// Maps the node with a number of a plan file, one byte an entry from the buffer's start. Gives the levels used.
+// Maps the node of a plan file that has this number: one byte per entry from the buffer's start. Gives the count of levels
+// used.
 #[no_mangle]
 pub extern "C" fn maiplur_map(
     file: &[u8],
@@ -157,7 +158,8 @@ pub extern "C" fn maiplur_map(
     }
 }
 
-// Lists a plan file, or the one line that it is refused with, from the buffer's start. Gives the text's length.
+// Lists a plan file from the buffer's start; for a refused file, the text is one line with the refusal. Gives the text's
+// length.
 #[no_mangle]
 pub extern "C" fn maiplur_list(file: &[u8], text: &mut [u8], values: &mut [usize; 2]) -> u32
     ensures { λ a.
