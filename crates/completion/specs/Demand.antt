@@ -39,8 +39,8 @@ sharesLevel level i j = eqb (level j) (level i) && not (eqb j i)
 unfoldable pub higherLevelInterference : Entry → ℕ → ℕ
 higherLevelInterference e t = e .wcet * releases e t
 
--- The interference of another entry on the same level, for an entry with `calls` remote calls (r): C × min(⌈ t / T ⌉, r +
--- 1).
+-- The interference of another entry on the same level in `t` ticks, for an entry with `calls` remote calls (r):
+-- C × min(⌈ t / T ⌉, r + 1).
 unfoldable pub sameLevelInterference : Entry → ℕ → ℕ → ℕ
 sameLevelInterference e calls t = e .wcet * min (releases e t) (calls + 1)
 

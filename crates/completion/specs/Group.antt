@@ -6,7 +6,7 @@ use mathlib.Core.Bool.{true, false}
 use lib.Dec.{ltb}
 use Rattle.task_model.specs.Limits.{mostEntries}
 
--- Among n entries, the group from `first` to `last` contains the entry at i.
+-- Among n entries, at most 64, the group from `first` to `last` contains the entry at i.
 abbrev pub InGroup : ℕ → ℕ → ℕ → ℕ → Type 0
 InGroup n first last i = (first ≤ i) × (i ≤ last) × (last < n) × (n ≤ mostEntries)
 

@@ -21,8 +21,8 @@ pub record LeastTime (b : ℕ) (es : List Entry) (level : ℕ → ℕ) (i time :
 abbrev pub NoTime : ℕ → List Entry → (ℕ → ℕ) → ℕ → Type 0
 NoTime b es level i = (t : ℕ) → t ≤ limit (entryAt es i) → demandWith b es level i t ≤ t → ⊥
 
--- An answer for the entry at i, with the blocking b, is right. If it is on time, its time is the least. It is late exactly
--- if there is no such time up to the limit. Its rounds are within their bound.
+-- An answer for the entry at i, with the blocking b, is right. If the answer is on time, its time is the least as above.
+-- The answer is late exactly if there is no such time up to the limit. Its rounds are within their bound.
 pub record RightWith (b : ℕ) (es : List Entry) (level : ℕ → ℕ) (i : ℕ) (o : Completion) : Type 0 where
   pub least : (time rounds : ℕ) → o ≡ on-time time rounds → LeastTime b es level i time
   pub lateIfNone : isOnTime o ≡ false ↔ NoTime b es level i

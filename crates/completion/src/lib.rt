@@ -55,8 +55,8 @@ fn higher_level_interference(e: Entry, t: u32) -> u64
     e.wcet as u64 * releases_in(e, t) as u64
 }
 
-// The interference of another entry on the same level in `t` ticks, for an entry with `calls` remote calls. At most `calls`
-// + 1 jobs count; after `calls` periods that limit is reached, and no division is needed.
+// The interference of another entry on the same level in `t` ticks, for an entry with `calls` remote calls. It is limited
+// to `calls` + 1 jobs. After `calls` periods that limit is reached, and no division is needed.
 fn same_level_interference(e: Entry, calls: u8, t: u32) -> u64
     requires { ⌜ TimesHold e ⌝ ∗ ⌜ (1 ≤ t) × (t ≤ mostTicks) ⌝ }
     ensures { λ x. ⌜ x ≡ sameLevelInterference e calls t ⌝ }

@@ -11,8 +11,8 @@ use listing::Listed;
 // One byte more than an input may have. An input of this length is refused, so the rest of it need not be read.
 const READ_MOST: usize = 65537;
 
-// Lists the input whose bytes were read into the first `n` bytes of `array`. Writes the listing from the start of `text`,
-// which has room for every listing, and returns its length.
+// Lists an input of which the first `n` bytes of `array` were read. Writes the listing from the start of `text`, which has
+// room for every listing, and returns its length.
 fn list_read(array: &[u8], n: usize, text: &mut [u8; listing::MOST_TEXT]) -> usize
     requires { ⌜ Counts n (now array) ⌝ ∗ ⌜ 65536 < length (now array) ⌝ ∗ ⌜ length (now text) ≡ 115625 ⌝ }
     ensures { λ m. ⌜ Counts m (now (text .exit)) ⌝ }

@@ -19,7 +19,7 @@ use Rattle.listing.specs.declared.Listed.{Listed}
 use Rattle.listing.specs.declared.Listed.the-variants.{Text, Refused}
 use Rattle.listing.specs.Lines.{planLine, nodeLine, noMapLine, entryLine, refusedLine}
 
--- The line of the entry at i under the levels of a map. No entry of a map is late.
+-- The line of the entry at i under the levels of a map. Under a node's map, no entry is late.
 unfoldable pub entryText : List Entry → List ℕ → ℕ → List ℕ
 entryText es m i =
     elim (completionTest es (levelOf m) i) [

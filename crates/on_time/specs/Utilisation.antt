@@ -13,9 +13,9 @@ fullUtilisation = 17179869184
 unfoldable pub utilisation : Entry → ℕ
 utilisation e = (fullUtilisation * e .wcet) / e .period
 
--- In t ticks an entry runs for at least its utilisation times t, and for at least C. The lower bound up to a limit d uses
--- the first for entries that are released again before d (T < d), and the second for all others. For an entry with T < d
--- this is its utilisation, and else 0.
+-- In t ticks an entry on a higher level runs for at least its utilisation times t, and for at least C. The lower bound up
+-- to a limit d uses the utilisation of entries that are released again before d (T < d), and C of all others. This is the
+-- utilisation of an entry with T < d, and else 0.
 unfoldable pub recurringUtilisation : ℕ → Entry → ℕ
 recurringUtilisation d e = only (ltb (e .period) d) (utilisation e)
 

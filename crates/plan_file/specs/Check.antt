@@ -65,15 +65,15 @@ layoutCheck f i least required rows =
     contentsCheck f i least required rows
     andThen mustHold (eqb (length f) (required + entryCount rows * entryLength)) (at 6 0 0)
 
--- All checks of a file: these two, then 7 and 8 entry by entry.
+-- All checks of a file: header, layout, then 7 and 8 entry by entry.
 unfoldable pub fileCheck : List ℕ → Outcome
 fileCheck f =
     headerCheck f
     andThen layoutCheck f 0 0 (bodiesStart (nodeCount f)) (rowsIn f)
     andThen nodesCheck 0 (rowsIn f) (entriesIn f)
 
--- The writer's checks of rows and entries, where the entries were given in `words` words: the node count (3); 4 row by row;
--- as many words as the entries that the rows count have (6), so a part of an entry is 6 too; 7 and 8 entry by entry.
+-- The writer's checks of rows, and of entries that were given in `words` words: the node count (3); 4 row by row; the rows
+-- must count exactly these entries (6), and a part of an entry left over is 6 too; 7 and 8 entry by entry.
 unfoldable pub writerCheck : List Row → List Entry → ℕ → Outcome
 writerCheck rows entries words =
     mustHold (countTest (length rows)) (at 3 0 0)

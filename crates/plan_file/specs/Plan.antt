@@ -29,7 +29,7 @@ rowWord r = r .number + r .levels * 65536 + r .count * 16777216
 unfoldable pub rowOf : ℕ → Row
 rowOf w = record { number = w % 65536; levels = w / 65536 % 256; count = w / 16777216 % 256 }
 
--- The plan in memory: one word per row, and the words of the entries.
+-- The plan that lies in memory as the words rs, one per row, and the words ws of its entries.
 abbrev pub planOf : List ℕ → List ℕ → Plan
 planOf rs ws = record { rows = map rowOf rs; entries = entriesOf ws (length ws / entrySize) }
 

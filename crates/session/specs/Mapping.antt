@@ -17,8 +17,9 @@ unfoldable pub mapAnswer : Node → ℕ → Answer ℕ
 mapAnswer n room = giving (stepCheck (asking (mapping room)) n) (levelsUsed (mapOf n))
 
 -- Mapping n into a buffer answers a and leaves the buffer as `after`. It writes the map from the buffer's start, one byte
--- per entry, and keeps the bytes beyond; a refusal leaves the buffer untouched. If n is within the limits, promise 3 of
--- docs/SPEC.md holds: the answer is 11 exactly if no assignment passes, and otherwise the map is the best.
+-- per entry, and keeps the bytes beyond; a refusal leaves the buffer untouched. If n is within the limits and fits the
+-- buffer, promise 3 of docs/SPEC.md holds: the answer is 11 exactly if no assignment passes, and otherwise the map is the
+-- best.
 pub record Maps (n : Node) (buffer : List ℕ) (a : MappedNode) (after : List ℕ) : Type 0 where
   pub answers : answer a ≡ mapAnswer n (length buffer)
   pub written : after ≡ left (answer a) (mapOf n) buffer

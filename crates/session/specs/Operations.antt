@@ -14,7 +14,7 @@ use Rattle.level_map.specs.Answer.{heldCheck}
 
 -- The changes of an open session.
 pub data Change : Type 0 where
-  -- insert before a position; just after the last entry it appends
+  -- insert before a position, or just after the last entry
   inserting : (position : ℕ) (e : Entry) → Change
   removing : (position : ℕ) → Change
   replacing : (position : ℕ) (e : Entry) → Change
@@ -29,7 +29,7 @@ pub data Query : Type 0 where
 
 -- The operations of a session.
 pub data Operation : Type 0 where
-  -- open a session with a level count, whatever was held before
+  -- open a session with a level count, whatever it held before
   opening : (levels : ℕ) → Operation
   changing : Change → Operation
   asking : Query → Operation

@@ -12,8 +12,8 @@ pub const MOST_LEVELS: u8 = 64;
 
 pub const MOST_ENTRIES: usize = 64;
 
-// An entry of a node: a task, or a global critical section that runs here for a remote task. (docs/SPEC.md, 'Terms', gives
-// the usual names of the fields.)
+// An entry of a node: a task, or a global critical section that runs here for a remote task. (docs/SPEC.md, 'Terms', has
+// the usual scheduling terms beside these.)
 pub struct Entry {
     pub number: u16,
     // 1 is a task, 2 a global critical section.
