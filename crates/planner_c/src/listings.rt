@@ -9,7 +9,8 @@ ghost use Rattle.listing.specs.Listing.{listing, listAnswer};
 ghost use Rattle.planner_c.specs.Returned.{returned, sized};
 use listing::Listed;
 
-// Lists a plan file, or the one line that it is refused with, from the buffer's start. Gives the text's length.
+// Lists a plan file from the buffer's start; for a refused file, the text is one line with the refusal. Gives the text's
+// length.
 #[no_mangle]
 pub extern "C" fn maiplur_list(file: &[u8], text: &mut [u8], values: &mut [usize; 2]) -> u32
     ensures { λ a.

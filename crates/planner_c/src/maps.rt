@@ -11,7 +11,8 @@ ghost use Rattle.planner.specs.Mapping.{fileAnswer};
 ghost use Rattle.planner_c.specs.Returned.{returned, sized};
 use level_map::MappedNode;
 
-// Maps the node with a number of a plan file, one byte an entry from the buffer's start. Gives the levels used.
+// Maps the node of a plan file that has this number: one byte per entry from the buffer's start. Gives the count of levels
+// used.
 #[no_mangle]
 pub extern "C" fn maiplur_map(
     file: &[u8],

@@ -19,7 +19,7 @@ ghost use Rattle.planner_c.specs.Returned.{returned, given, checked, siz
 use plan_file::ReadPlan;
 use plan_file::Written;
 
-// Accepts a plan file, or refuses it. Returns 0 exactly for the files of plans within the limits.
+// Checks a plan file. Returns 0 exactly for the files of plans within the limits.
 #[no_mangle]
 pub extern "C" fn maiplur_check(file: &[u8], values: &mut [usize; 2]) -> u32
     ensures { λ a. ⌜ returned a (now (values .exit)) ≡ checked (fileCheck (now (file .entry))) ⌝ }
@@ -29,8 +29,8 @@ pub extern "C" fn maiplur_check(file: &[u8], values: &mut [usize; 2]) -> u32
     give_checked(found, values)
 }
 
-// Reads a file's plan into buffers: a word for each row, and those of each entry. Gives how many rows and entries. What is
-// filled, maiplur_write writes as the same bytes.
+// Reads a file's plan into buffers: one word per row, and five per entry. Gives how many rows and entries it filled. From
+// the filled words, maiplur_write writes the same bytes.
 #[no_mangle]
 pub extern "C" fn maiplur_read(
     file: &[u8],
@@ -64,8 +64,8 @@ pub extern "C" fn maiplur_read(
     }
 }
 
-// Writes a plan as a file from the buffer's start. Gives the file's length. What is written, maiplur_read reads as the same
-// words.
+// Writes a plan as a file from the buffer's start. Gives the file's length. From the written file, maiplur_read reads the
+// same words.
 #[no_mangle]
 pub extern "C" fn maiplur_write(
     rows: &[u32],

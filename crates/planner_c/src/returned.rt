@@ -5,7 +5,7 @@ ghost use Rattle.planner_c.specs.Returned.{returned, back, given, checke
 use refusals::Checked;
 use refusals::Refusal;
 
-// Returns the number of a refusal, and leaves its row and its entry position.
+// Returns the number of a refusal, and writes its row and its entry position to `values`.
 pub(crate) fn refuse(r: Refusal, values: &mut [usize; 2]) -> u32
     ensures { λ a. ⌜ returned a (now (values .exit)) ≡ back (numbered r) ⌝ }
 {
@@ -14,7 +14,7 @@ pub(crate) fn refuse(r: Refusal, values: &mut [usize; 2]) -> u32
     n.number as u32
 }
 
-// Returns 0, and leaves the two values of a call that is not refused.
+// Returns 0, and writes the two results of an accepted call to `values`.
 pub(crate) fn give(first: usize, second: usize, values: &mut [usize; 2]) -> u32
     ensures { λ a. ⌜ returned a (now (values .exit)) ≡ given first second ⌝ }
 {
@@ -22,7 +22,7 @@ pub(crate) fn give(first: usize, second: usize, values: &mut [usize; 2]) -> u32
     0
 }
 
-// Returns what a check found; it gives nothing.
+// Returns the outcome of a check. An accepted check has no results: both values are 0.
 pub(crate) fn give_checked(found: Checked, values: &mut [usize; 2]) -> u32
     ensures { λ a. ⌜ returned a (now (values .exit)) ≡ checked (outcome found) ⌝ }
 {
