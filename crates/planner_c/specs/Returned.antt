@@ -29,9 +29,9 @@ checked accepted = given 0 0
 checked (refused r) = back r
 
 -- The reader gives how many rows and how many entries it filled.
-abbrev pub zeroPadded : Answer Sizes → Returned
-zeroPadded (gives s) = given (s .rows) (s .entries)
-zeroPadded (refuses r) = back r
+abbrev pub sizedPlan : Answer Sizes → Returned
+sizedPlan (gives s) = given (s .rows) (s .entries)
+sizedPlan (refuses r) = back r
 
 -- The writer and the listing give a length. The mapper gives how many levels the map uses.
 abbrev pub sized : Answer ℕ → Returned

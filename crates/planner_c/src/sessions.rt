@@ -1,7 +1,7 @@
 // The session for C. It is lent as words: its level count, its entry count and the words of a node.
-use super::give;
-use super::give_checked;
-use super::refuse;
+use super::returned::give;
+use super::returned::give_checked;
+use super::returned::refuse;
 use completion::Timing;
 use level_map::MappedNode;
 use node_words::EntryWords;
