@@ -1,5 +1,5 @@
 -- Laws of the nodes of an accepted file: where a row's body lies, and which entries it has.
-use Prim.Native.Nat.{ℕ, zero, suc, _+_, _-_, _*_, _≤_, _<_}
+use Prim.Native.Nat.{ℕ, zero, suc, _+_, _*_, _≤_, _<_}
 use mathlib.Core.Path.{_≡_, _∙_, sym, ap}
 use mathlib.Core.List.{List, [], _∷_}
 use native.Mathlib.Omega.{arith}
@@ -11,21 +11,14 @@ use Rattle.task_model.specs.Limits.{Node}
 use Rattle.plan_file.specs.declared.Row.{Row}
 use Rattle.plan_file.specs.Plan.{entryCount}
 use Rattle.plan_file.specs.Encoding.{entryLength, bodiesStart}
-use Rattle.plan_file.specs.Decoding.{nodeCount, rowAt, offsetAt, rowsFrom, rowsIn, entriesAt, planIn}
+use Rattle.plan_file.specs.Decoding.{nodeCount, rowAt, offsetAt, rowsIn, entriesAt, planIn}
 use Rattle.plan_file.specs.Check.{contentsCheck, fileCheck}
 use Rattle.plan_file.specs.Find.{rowIn, nodeOfRow}
 use Rattle.refusals.proofs.Outcomes.{both-accepted, demanded}
 use Rattle.plan_file.proofs.Tests.{RowHolds, row-holds}
-use Rattle.plan_file.proofs.Contents.{length-rows}
-use Rattle.plan_file.proofs.Bodies.{length-entries-at, take-entries, drop-entries}
+use Rattle.plan_file.proofs.Contents.{entries-run, length-rows, length-entries-at, row-get}
+use Rattle.byte_words.proofs.Runs.{run-take, run-drop}
 use Rattle.plan_file.proofs.File.{FileHolds, file-holds}
-
-pub row-get : (f : List ℕ) (j n i : ℕ) → i < n → rowIn (rowsFrom f j n) i ≡ rowAt f (j + i)
-unfolding rowsFrom
-row-get f j zero i h = absurd (omega arith)
-row-get f j (suc n) zero h = rw add-zero
-row-get f j (suc n) (suc i) h =
-    let e : j + suc i ≡ suc j + i = omega arith in rw e (row-get f (suc j) n i (omega arith))
 
 -- the rows before row `i`, it, and those after it
 pub count-split : (rs : List Row) (i : ℕ) → i < length rs
@@ -78,7 +71,7 @@ module _ (f : List ℕ) (a : fileCheck f ≡ accepted) (i : ℕ) (h : i < nodeCo
   inside = omega (arith, length-rows f 0 (nodeCount f))
 
   at-row : rowIn (rowsIn f) i ≡ rowAt f i
-  at-row = row-get f 0 (nodeCount f) i h ∙ ap (rowAt f) (zero-add i)
+  at-row = row-get f (nodeCount f) i h
 
   pub node-offset : offsetAt f i ≡ bodiesStart (nodeCount f) + entryCount (take i (rowsIn f)) * entryLength
   node-offset = ap (offsetAt f) (sym (zero-add i)) ∙ placed-at f 0 0 _ (rowsIn f) (held .contents) i inside .0
@@ -88,10 +81,6 @@ module _ (f : List ℕ) (a : fileCheck f ≡ accepted) (i : ℕ) (h : i < nodeCo
 
   pub node-few : rowAt f i .count ≤ 64
   node-few = row-limits .fewEntries
-
-  -- the row lies in the file
-  pub row-inside : bodiesStart (i + 1) ≤ length f
-  row-inside = omega (arith, held .header .contents)
 
   pub node-inside : offsetAt f i + rowAt f i .count * entryLength ≤ length f
   node-inside =
@@ -103,8 +92,8 @@ module _ (f : List ℕ) (a : fileCheck f ≡ accepted) (i : ℕ) (h : i < nodeCo
   node-at =
       rw (
         count-split (rowsIn f) i inside,
-        drop-entries f (bodiesStart (nodeCount f)) (entryCount (take i (rowsIn f))),
-        take-entries,
+        run-drop (entries-run f) (bodiesStart (nodeCount f)) (entryCount (take i (rowsIn f))),
+        run-take (entries-run f),
         ← node-offset,
         at-row,
       )

@@ -26,8 +26,7 @@ use Rattle.plan_file.specs.Find.{rowIn, nodeOfRow, rowOfNumber, findChec
 use Rattle.plan_file.specs.Limits.{PlanHolds, IsPlanFile, IsPlanInMemory}
 use Rattle.byte_words.proofs.Words.{length-words}
 use Rattle.plan_file.proofs.Words.{words-five}
-use Rattle.plan_file.proofs.Contents.{length-rows}
-use Rattle.plan_file.proofs.Bodies.{length-entries-at}
+use Rattle.plan_file.proofs.Contents.{length-rows, length-entries-at}
 use Rattle.plan_file.proofs.Encoding.{length-encoding}
 use Rattle.plan_file.proofs.Header.{header-holds}
 use Rattle.plan_file.proofs.File.{file-layout, file-holds}
