@@ -1,12 +1,12 @@
 -- Laws of stores into a lent buffer.
 use Prim.Native.Nat.{ℕ, suc, _+_, _≤_, _<_}
-use mathlib.Core.Path.{_≡_, _∙_, sym, ap}
+use mathlib.Core.Path.{_≡_, _∙_}
 use mathlib.Core.List.{List, [], _∷_, _++_, append-assoc}
 use native.Mathlib.Nat.{zero-add, add-zero, add-assoc}
 use native.Mathlib.Omega.{arith}
 use native.Mathlib.Numerals.{add-one}
 use lib.ListN.{length, take, drop, set, length-append, take-append-drop}
-use lib.Seq.{length-take-le, drop-append-add, take-append-seam, drop-cons, drop-drop, set-at, sets, sets-eq}
+use lib.Seq.{length-take-le, take-at, drop-at, drop-cons, drop-drop, set-at, sets, sets-eq}
 use Rattle.byte_words.specs.Buffers.{over}
 
 -- nothing stored, and a store from the start
@@ -18,31 +18,6 @@ module _ (d : List ℕ) where
   pub over-start : (s : List ℕ) → over d 0 s ≡ s ++ drop (length s) d
   unfolding over
   over-start s = rw zero-add
-
--- a store right after a first part
-after : (p q t : List ℕ) → over (p ++ q) (length p) t ≡ p ++ (t ++ drop (length t) q)
-unfolding over
-after p q t = rw (take-append-seam, drop-append-add)
-
--- a store of `s`, and then one right after it
-module _ (d : List ℕ) (k : ℕ) (s : List ℕ) (h : k ≤ length d) where
-  split : over d k s ≡ (take k d ++ s) ++ drop (k + length s) d
-  unfolding over
-  split = sym (append-assoc (take k d) s _)
-
-  head-length : length (take k d ++ s) ≡ k + length s
-  head-length = length-append (take k d) s ∙ ap (λ n. n + length s) (length-take-le k d h)
-
-  joined : (t : List ℕ) → (take k d ++ s) ++ (t ++ drop (length t) (drop (k + length s) d)) ≡ over d k (s ++ t)
-  unfolding over
-  joined t = simp (append-assoc, drop-drop, length-append, add-assoc)
-
-  pub over-over : (t : List ℕ) → over (over d k s) (k + length s) t ≡ over d k (s ++ t)
-  over-over t =
-      ap (λ l. over l (k + length s) t) split
-      ∙ ap (λ n. over ((take k d ++ s) ++ drop (k + length s) d) n t) (sym head-length)
-      ∙ after (take k d ++ s) (drop (k + length s) d) t
-      ∙ joined t
 
 -- a run of stores
 pub stored : (d : List ℕ) (k : ℕ) (vs : List ℕ) → k + length vs ≤ length d → sets d k vs ≡ over d k vs
@@ -60,7 +35,13 @@ stored-four d k a b c e h =
 -- a store right after one of `n` elements
 pub over-next : (d : List ℕ) (k n : ℕ) (s t : List ℕ) → length s ≡ n → k ≤ length d
     → over (over d k s) (k + n) t ≡ over d k (s ++ t)
-over-next d k n s t e h = rw (← e) (over-over d k s h t)
+unfolding over
+over-next d k n s t e h =
+    let p = take k d ++ s in
+    let q = drop (k + n) d in
+    let l : length p ≡ k + n = omega (arith, length-append (take k d) s, length-take-le k d h) in
+    rw (e, ← append-assoc (take k d) s q, take-at p q (k + n) l, ← drop-drop (length t) (k + n) (p ++ q), drop-at p q (k + n) l)
+    (simp (append-assoc, drop-drop, length-append, add-assoc, e))
 
 -- one element more, from the start
 pub over-more : (d l s : List ℕ) (i a : ℕ) → l ≡ over d 0 s → length s ≡ i → i < length d → set l i a ≡ over d 0 (s ++ (a ∷ []))

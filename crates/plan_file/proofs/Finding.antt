@@ -13,7 +13,7 @@ use Rattle.plan_file.specs.declared.Row.{Row}
 use Rattle.plan_file.specs.Check.{rowTest, rowsCheck}
 use Rattle.plan_file.specs.Find.{rowIn, rowOfNumber}
 use Rattle.refusals.proofs.Outcomes.{both-accepted, demanded}
-use Rattle.plan_file.proofs.Tests.{row-holds}
+use Rattle.plan_file.proofs.Tests.{RowHolds, row-holds}
 use Rattle.byte_words.proofs.Runs.{AtHand}
 
 pub found-here : (number : ℕ) (r : Row) (rs : List Row) → r .number ≡ number → rowOfNumber number (r ∷ rs) ≡ 0
@@ -37,6 +37,16 @@ module _ (number : ℕ) {rows : List Row} {i : ℕ} {r : Row} (h : AtHand rows i
 pub search-end : (number i : ℕ) (rs : List Row) → rs ≡ [] → i + rowOfNumber number rs ≡ i
 unfolding rowOfNumber
 search-end number i rs e = rw e (omega arith)
+
+-- each of the rows within the checks is within its limits
+pub rows-each : (k least : ℕ) (rs : List Row) → rowsCheck k least rs ≡ accepted → (i : ℕ) → i < length rs → RowHolds 0 (rowIn rs i)
+unfolding rowsCheck
+rows-each k least [] a i h = absurd (omega arith)
+rows-each k least (r ∷ rs) a zero h =
+    let t = row-holds least r (demanded _ _ (both-accepted (mustHold (rowTest least r) _) _ a .0)) in
+    record { rises = omega arith; someLevels = t .someLevels; fewLevels = t .fewLevels; fewEntries = t .fewEntries }
+rows-each k least (r ∷ rs) a (suc i) h =
+    rows-each (suc k) (suc (r .number)) rs (both-accepted (mustHold (rowTest least r) _) _ a .1) i (omega arith)
 
 -- in rows within the checks the numbers rise, so a number is found where it stands
 pub not-below : (k least : ℕ) (rs : List Row) → rowsCheck k least rs ≡ accepted → (i : ℕ) → i < length rs → least ≤ rowIn rs i .number

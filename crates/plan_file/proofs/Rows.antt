@@ -22,8 +22,8 @@ use Rattle.byte_words.proofs.Runs.{Run, AtHand, run-take, run-drop}
 use Rattle.plan_file.proofs.Encoding.{count-snoc, contents-snoc, length-contents}
 
 -- the check of rows, and then of the words of entries, where the rows before count `total` entries
-abbrev pub tally : ℕ → ℕ → ℕ → ℕ → List Row → Outcome
-tally words i least total rs = rowsCheck i least rs andThen mustHold (eqb words ((total + entryCount rs) * entrySize)) (at 6 0 0)
+abbrev pub tallyFrom : ℕ → ℕ → ℕ → ℕ → List Row → Outcome
+tallyFrom words i least total rs = rowsCheck i least rs andThen mustHold (eqb words ((total + entryCount rs) * entrySize)) (at 6 0 0)
 
 -- the check of the entries of rows, which begin at place `k` of a run
 abbrev pub bodies : (ℕ → ℕ → List Entry) → ℕ → ℕ → List Row → Outcome
@@ -36,8 +36,8 @@ module _ {rows : List Row} {i : ℕ} {r : Row} (h : AtHand rows i r) where
   count-here = rw (h .here)
 
   pub tally-here : (words least total : ℕ) (a : Bool) → rowTest least r ≡ a
-      → tally words i least total (drop i rows)
-      ≡ mustHold a (at 4 i 0) andThen tally words (i + 1) (r .number + 1) (total + r .count) (drop (i + 1) rows)
+      → tallyFrom words i least total (drop i rows)
+      ≡ mustHold a (at 4 i 0) andThen tallyFrom words (i + 1) (r .number + 1) (total + r .count) (drop (i + 1) rows)
   unfolding rowsCheck entryCount
   tally-here words least total a p =
       let e : (n : ℕ) → (total + (r .count + n)) * entrySize ≡ (total + r .count + n) * entrySize = λ n. omega arith in
@@ -71,7 +71,7 @@ module _ {rows : List Row} {i : ℕ} {r : Row} (h : AtHand rows i r) where
 
 -- at the last row's end
 module _ (i : ℕ) (rs : List Row) (e : rs ≡ []) where
-  pub tally-end : (words least total : ℕ) → tally words i least total rs ≡ mustHold (eqb words (total * entrySize)) (at 6 0 0)
+  pub tally-end : (words least total : ℕ) → tallyFrom words i least total rs ≡ mustHold (eqb words (total * entrySize)) (at 6 0 0)
   unfolding rowsCheck entryCount
   tally-end words least total = let z : (total + 0) * entrySize ≡ total * entrySize = omega arith in rw e (rw z)
 

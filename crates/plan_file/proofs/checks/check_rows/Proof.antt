@@ -3,17 +3,15 @@ use mathlib.Core.List.{map}
 use mathlib.Core.Path.{_≡_, _∙_, sym}
 use native.Mathlib.Omega.{arith}
 use native.Mathlib.Nat.{zero-add}
-use lib.Dec.{eqb}
 use lib.ListN.{length, drop}
 use borrow.Author.Tests.{not-true, not-false, eq-eqb, ne-eqb}
 use borrow.Author.Needs.{needs}
 use Rattle.node_words.specs.Words.{entrySize}
-use Rattle.refusals.specs.Refusals.{at, _andThen_, mustHold}
-use Rattle.plan_file.specs.Check.{rowsCheck}
-use Rattle.plan_file.specs.Plan.{entryCount, rowOf}
+use Rattle.plan_file.specs.Plan.{rowOf}
 use Rattle.byte_words.proofs.Runs.{AtHand}
 use Rattle.plan_file.proofs.Contents.{memory-row, memory-none}
-use Rattle.plan_file.proofs.Rows.{tally, tally-here, tally-end}
+use Rattle.plan_file.proofs.Rows.{tallyFrom, tally-here, tally-end}
+use Rattle.plan_file.proofs.WriterChecks.{tally}
 use Rattle.refusals.proofs.Outcomes.{mustHold-accepts, mustHold-refuses}
 use Rattle.plan_file.proofs.checks.check_rows.Statement.{statement}
 use Rattle.plan_file.proofs.checks.check_rows.Tie as tie
@@ -23,8 +21,7 @@ Inv-loop rows words least₀ total₀ i₀ least total i =
     (i ≤ length rows)
     × (least ≤ 65536)
     × (total ≤ i * 255)
-    × (tally words i least total (drop i (map rowOf rows))
-    ≡ rowsCheck 0 0 (map rowOf rows) andThen mustHold (eqb words (entryCount (map rowOf rows) * entrySize)) (at 6 0 0))
+    × (tallyFrom words i least total (drop i (map rowOf rows)) ≡ tally (map rowOf rows) words)
 
 abbrev μ-loop : tie.MeasureT-loop
 μ-loop rows words least₀ total₀ i₀ least total i = length rows - i
