@@ -1,12 +1,11 @@
 -- Laws of stores into a lent buffer.
-use Prim.Native.Nat.{ℕ, suc, _+_, _≤_, _<_}
+use Prim.Native.Nat.{ℕ, suc, _+_, _≤_}
 use mathlib.Core.Path.{_≡_, _∙_}
 use mathlib.Core.List.{List, [], _∷_, _++_, append-assoc}
 use native.Mathlib.Nat.{zero-add, add-zero, add-assoc}
 use native.Mathlib.Omega.{arith}
-use native.Mathlib.Numerals.{add-one}
 use lib.ListN.{length, take, drop, set, length-append, take-append-drop}
-use lib.Seq.{length-take-le, take-at, drop-at, drop-cons, drop-drop, set-at, sets, sets-eq}
+use lib.Seq.{length-take-le, take-at, drop-at, drop-drop, sets, sets-eq}
 use Rattle.byte_words.specs.Buffers.{over}
 
 -- nothing stored, and a store from the start
@@ -42,9 +41,3 @@ over-next d k n s t e h =
     let l : length p ≡ k + n = omega (arith, length-append (take k d) s, length-take-le k d h) in
     rw (e, ← append-assoc (take k d) s q, take-at p q (k + n) l, ← drop-drop (length t) (k + n) (p ++ q), drop-at p q (k + n) l)
     (simp (append-assoc, drop-drop, length-append, add-assoc, e))
-
--- one element more, from the start
-pub over-more : (d l s : List ℕ) (i a : ℕ) → l ≡ over d 0 s → length s ≡ i → i < length d → set l i a ≡ over d 0 (s ++ (a ∷ []))
-over-more d l s i a e n h =
-    rw (e, over-start d s, over-start d (s ++ (a ∷ [])), length-append s (a ∷ []), append-assoc, n, add-one i, drop-cons d i 0 h)
-    (set-at s _ _ a i n)

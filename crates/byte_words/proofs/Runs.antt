@@ -1,14 +1,14 @@
 -- Laws of items that are read one after the other at even distances: words, rows and entries.
 use Prim.Native.Nat.{ℕ, zero, suc, _+_, _*_, _≤_, _<_}
 use mathlib.Core.Path.{_≡_, _∙_, sym, ap}
-use mathlib.Core.List.{List, [], _∷_, _++_}
+use mathlib.Core.List.{List, [], _∷_, _++_, append-assoc}
 use native.Mathlib.Nat.{zero-add, suc-add, add-zero, add-assoc, add-comm, zero-mul, suc-mul}
 use native.Mathlib.Omega.{arith}
 use native.Mathlib.Numerals.{add-one}
 use lib.ListN.{length, getD, take, drop, set, drop-of-length-le}
-use lib.Seq.{take-at, drop-at, drop-cons}
+use lib.Seq.{take-at, drop-at, drop-cons, set-at}
 use Rattle.byte_words.specs.Buffers.{over}
-use Rattle.byte_words.proofs.Buffers.{over-more}
+use Rattle.byte_words.proofs.Buffers.{over-start}
 
 -- `items k n` are `n` items from place `k` on, each `step` places behind the one before it
 pub record Run {A : Type 0} (step : ℕ) (item : ℕ → A) (items : ℕ → ℕ → List A) : Type 0 where
@@ -59,5 +59,7 @@ module _ {A : Type 0} {step : ℕ} {item : ℕ → A} {items : ℕ → ℕ → L
 -- items copied to a buffer's start, and one more
 pub copied : {step : ℕ} {item : ℕ → ℕ} {items : ℕ → ℕ → List ℕ} → Run step item items → (d l : List ℕ) (k i a : ℕ)
     → l ≡ over d 0 (items k i) → a ≡ item (k + i * step) → i < length d → set l i a ≡ over d 0 (items k (i + 1))
-copied {step} {item} run d l k i a e p h =
-    rw (run-split run k i 1, run .more (k + i * step) 0, run .none (k + i * step + step), ← p) (over-more d l _ i a e (run-length run k i) h)
+copied {step} {items} run d l k i a e p h =
+    rw (e, over-start d (items k i), over-start d (items k (i + 1)), run-length run k (i + 1), run-length run k i, run-split run k i 1)
+    (rw (run .more (k + i * step) 0, run .none (k + i * step + step), append-assoc, ← p, add-one i, drop-cons d i 0 h)
+    (set-at (items k i) _ _ a i (run-length run k i)))

@@ -1,5 +1,5 @@
 -- Demands that are equal because what they read is.
-use Prim.Native.Nat.{ℕ, _+_, _-_, _*_, _≤_, _<_}
+use Prim.Native.Nat.{ℕ, _+_, _*_, _≤_, _<_}
 use mathlib.Core.Path.{_≡_, _∙_, ap, ap₂, sym}
 use mathlib.Core.Bool.{_&&_, _||_, not}
 use mathlib.Core.List.{List}

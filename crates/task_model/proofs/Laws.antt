@@ -1,5 +1,5 @@
 -- Laws of the limits and the checks: what a test's answer says of the numbers, and a check's answer of the limits.
-use Prim.Native.Nat.{ℕ, suc, _-_, _≤_}
+use Prim.Native.Nat.{ℕ, suc, _≤_}
 use mathlib.Core.Path.{_≡_}
 use mathlib.Core.Bool.{true, false}
 use mathlib.Core.List.{List, _∷_}
