@@ -1,4 +1,5 @@
--- What the walks of the functions that are lent a session share: how a session and an answer lie in a machine's values.
+-- Shared by the hand-written proofs about functions that are lent a session: how a session and an answer are represented as
+-- machine values.
 use mathlib.Core.List.{[], _∷_, List}
 use mir.Val.{Val}
 use denote.Laws.{Is}

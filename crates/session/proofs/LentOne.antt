@@ -1,6 +1,6 @@
--- A function that is lent a session and one number, for any number of bits and any operation: a walk of its code by hand.
--- The borrow is opened, the session is copied out and passed to the function by value, and what that returns is stored
--- back.
+-- The proof for a function that is lent a session and takes one number, for any width of the number and any operation. It
+-- is written by hand and follows the code: the borrow is opened, the session is copied out and passed to the function by
+-- value, and the result is stored back.
 use mathlib.Core.Path.{refl, ap}
 use Prim.Native.Nat.{ℕ, _<_, _^_}
 use mathlib.Core.List.{[], _∷_, List}

@@ -1,5 +1,5 @@
--- `session::time` meets its contract: a walk of its MIR, by hand. The borrow is looked into, the session is copied out, the
--- borrow is shut again, and the copy is passed to `timed`, whose answer is returned.
+-- `session::time` meets its contract. The proof is written by hand and follows its MIR. The borrow is opened, the session
+-- is copied out, and the borrow is closed again. The copy is passed to `timed`, whose answer is returned.
 use mathlib.Core.Path.{_≡_, refl}
 use Prim.Native.Nat.{ℕ, _<_, _^_}
 use mathlib.Core.List.{[], _∷_, List}
