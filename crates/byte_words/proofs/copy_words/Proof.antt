@@ -53,8 +53,12 @@ loop-again c = (
 same-length : tie.Need-same-length Inv-loop μ-loop
 same-length c = search needs
 
+-- places that the needs look back to
+abbrev at-start : tie.After-loop Inv-loop μ-loop → tie.Start Inv-loop μ-loop
+at-start c = c .before .before .before .before
+
 returns : tie.Need-returns Inv-loop μ-loop
-returns c = let e : c .before .loop .i ≡ c .before .before .before .before .args .count = omega arith in rw (← e) (c .before .loop .inv .2)
+returns c = let e : c .before .loop .i ≡ at-start c .args .count = omega arith in rw (← e) (c .before .loop .inv .2)
 
 pub copy-words-spec : {M : Type 1} → statement M
 copy-words-spec =

@@ -42,21 +42,31 @@ add-i c = search needs
 loop-less : tie.Need-loop-less Inv-loop μ-loop
 loop-less c = omega arith
 
+-- places that the needs look back to
+abbrev at-loop : tie.After-slice-known2 Inv-loop μ-loop → tie.At-loop Inv-loop μ-loop
+at-loop c = c .before .before .before .before .before .before
+
+abbrev at-start : tie.After-slice-known2 Inv-loop μ-loop → tie.Start Inv-loop μ-loop
+at-start c = c .before .before .before .before .before .before .before .before .before
+
+abbrev at-start-2 : tie.After-loop Inv-loop μ-loop → tie.Start Inv-loop μ-loop
+at-start-2 c = c .before .before .before .before
+
 loop-again : tie.Need-loop-again Inv-loop μ-loop
 loop-again c = (
   omega arith,
   omega (arith, c .before .before .put-word .kept .0),
   c .before .before .put-word .ensures
-      ∙ rw (c .before .before .before .before .before .before .loop .inv .2)
-      (over-next _ _ _ _ _ (bytes-length (c .before .before .before .before .before .before .before .before .before .args .words .now) (c .before .before .before .before .before .before .loop .i) (omega arith)) (omega arith)
-      ∙ ap (over _ _) (bytes-more (c .before .before .before .before .before .before .before .before .before .args .words .now) (c .before .before .before .before .before .before .loop .i) (omega arith))),
+      ∙ rw (at-loop c .loop .inv .2)
+      (over-next _ _ _ _ _ (bytes-length (at-start c .args .words .now) (at-loop c .loop .i) (omega arith)) (omega arith)
+      ∙ ap (over _ _) (bytes-more (at-start c .args .words .now) (at-loop c .loop .i) (omega arith))),
 )
 
 same-length : tie.Need-same-length Inv-loop μ-loop
 same-length c = search needs
 
 returns : tie.Need-returns Inv-loop μ-loop
-returns c = let e : c .before .loop .i ≡ c .before .before .before .before .args .count = omega arith in rw (← e) (c .before .loop .inv .2)
+returns c = let e : c .before .loop .i ≡ at-start-2 c .args .count = omega arith in rw (← e) (c .before .loop .inv .2)
 
 pub put-words-spec : {M : Type 1} → statement M
 put-words-spec =

@@ -16,12 +16,25 @@ check-file-requires c κs = search needs
 enum-known-checked : tie.Need-enum-known-checked
 enum-known-checked c = search needs
 
+-- places that the needs look back to
+abbrev at-start : tie.After-enum-told → tie.Start
+at-start c = c .before .before .before .before
+
+abbrev after-enum-told : tie.After-load-node-arg → tie.After-enum-told
+after-enum-told c = c .before .before .before .before
+
+abbrev after-row-of-number : tie.After-struct-known → tie.After-row-of-number
+after-row-of-number c = c .before .before .before .before
+
+abbrev after-node-count : tie.After-struct-known → tie.After-node-count
+after-node-count c = c .before .before .before .before .before
+
 -- the file is accepted
-told : (c : tie.After-enum-told) → fileCheck (c .before .before .before .before .args .file .now) ≡ accepted
+told : (c : tie.After-enum-told) → fileCheck (at-start c .args .file .now) ≡ accepted
 told c = sym (c .before .before .check-file .ensures .0) ∙ ap outcome (c .enum-told .given .1)
 
 -- the row that is sought
-sought : (c : tie.After-row-of-number) → c .row-of-number .result ≡ rowOfNumber (c .before .before .before .before .before .before .args .number) (rowsIn (c .before .before .before .before .before .before .args .file .now))
+sought : (c : tie.After-row-of-number) → c .row-of-number .result ≡ rowOfNumber (at-start (c .before .before) .args .number) (rowsIn (at-start (c .before .before) .args .file .now))
 sought c = rw (← c .before .node-count .ensures .0) (c .row-of-number .ensures)
 
 returns : tie.Need-returns
@@ -46,17 +59,17 @@ returns-2 c = (
 
 load-node-requires : tie.Need-load-node-requires
 load-node-requires c κs =
-    let h = file-holds _ (told (c .before .before .before .before)) .header .counted .some in
-    (told (c .before .before .before .before), omega (arith, c .before .before .before .node-count .ensures .0))
+    let h = file-holds _ (told (after-enum-told c)) .header .counted .some in
+    (told (after-enum-told c), omega (arith, c .before .before .before .node-count .ensures .0))
 
 cast-t12 : tie.Need-cast-t12
 cast-t12 c = search needs
 
 returns-3 : tie.Need-returns-3
 returns-3 c =
-    let e = sought (c .before .before .before .before) in (
+    let e = sought (after-row-of-number c) in (
       rw (c .before .load-node .ensures .row)
-          (sym (find-found _ _ (told (c .before .before .before .before .before .before)) _ e (rw (← c .before .before .before .before .before .node-count .ensures .0) (c .before .before .before .if1 .left)))),
+          (sym (find-found _ _ (told (after-enum-told (c .before .before))) _ e (rw (← after-node-count c .node-count .ensures .0) (c .before .before .before .if1 .left)))),
       ((rw (← e) (c .before .load-node .ensures .words)), (rw (← e) (c .before .load-node .ensures .node))),
     )
 

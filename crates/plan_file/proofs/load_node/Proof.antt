@@ -32,21 +32,28 @@ cast-copy-words c = search needs
 mul-copy-words : tie.Need-mul-copy-words
 mul-copy-words c = search needs
 
+-- places that the needs look back to
+abbrev at-start : tie.After-struct-known → tie.Start
+at-start c = c .before .before .before .before .before
+
 copy-words-requires : tie.Need-copy-words-requires
 copy-words-requires c κs =
     omega (
       arith,
-      node-inside (c .before .before .before .before .before .args .file .now) (c .before .before .before .before .before .pre .0) (c .before .before .before .before .before .args .row) (c .before .before .before .before .before .pre .1),
-      node-few (c .before .before .before .before .before .args .file .now) (c .before .before .before .before .before .pre .0) (c .before .before .before .before .before .args .row) (c .before .before .before .before .before .pre .1),
+      node-inside (at-start c .args .file .now) (at-start c .pre .0) (at-start c .args .row) (at-start c .pre .1),
+      node-few (at-start c .args .file .now) (at-start c .pre .0) (at-start c .args .row) (at-start c .pre .1),
       ap (λ (r : Row). r .count) (c .before .before .before .row-at .ensures),
       c .before .before .word-at .ensures,
     )
 
 returns : tie.Need-returns
 returns c =
-    rw (c .before .before .before .before .row-at .ensures)
-    (loaded (c .before .before .before .before .before .before .args .file .now) (λ i. c .before .before .before .before .before .shared-slice-known .given i .fits) (c .before .before .before .before .before .before .pre .0) _ (c .before .before .before .before .before .before .pre .1) _ _
-    (c .copy-words .ensures ∙ rw (c .before .before .before .word-at .ensures, c .before .before .before .before .row-at .ensures)))
+    let word = c .before .before .before in
+    let slice = word .before .before in
+    let start = slice .before in
+    rw (word .before .row-at .ensures)
+    (loaded (start .args .file .now) (λ i. slice .shared-slice-known .given i .fits) (start .pre .0) _ (start .pre .1) _ _
+    (c .copy-words .ensures ∙ rw (word .word-at .ensures, word .before .row-at .ensures)))
 
 pub load-node-spec : {M : Type 1} → statement M
 load-node-spec =

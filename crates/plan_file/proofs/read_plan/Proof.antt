@@ -24,13 +24,32 @@ check-file-requires c κs = search needs
 enum-known-checked : tie.Need-enum-known-checked
 enum-known-checked c = search needs
 
+-- places that the needs look back to
+abbrev at-start : tie.After-enum-told → tie.Start
+at-start c = c .before .before .before .before .before .before
+
+abbrev after-enum-told : tie.After-copy-rows-arg → tie.After-enum-told
+after-enum-told c = c .before .before .before .before
+
+abbrev after-node-count : tie.After-copy-words-arg → tie.After-node-count
+after-node-count c = c .before .before .before .before .before .before .before
+
+abbrev after-enum-told-2 : tie.After-copy-words-arg → tie.After-enum-told
+after-enum-told-2 c = after-enum-told (c .before .before .before .before)
+
+abbrev at-start-2 : tie.After-slice-known4 → tie.Start
+at-start-2 c = at-start (c .before .before .before .before .before .before .before .before .before .before .before)
+
+abbrev after-shared-slice-known : tie.After-slice-known4 → tie.After-shared-slice-known
+after-shared-slice-known c = c .before .before .before .before .before .before .before .before .before .before .before .before .before .before .before .before
+
 -- the file is accepted
-told : (c : tie.After-enum-told) → fileCheck (c .before .before .before .before .before .before .args .file .now) ≡ accepted
+told : (c : tie.After-enum-told) → fileCheck (at-start c .args .file .now) ≡ accepted
 told c = sym (c .before .before .check-file .ensures .0) ∙ ap outcome (c .enum-told .given .1)
 
 -- how many words the entries have
 counted : (c : tie.After-node-count)
-    → (length (c .before .before .before .before .before .before .before .args .file .now) - (8 + c .node-count .result * 8)) / 4 ≡ entryCount (rowsIn (c .before .before .before .before .before .before .before .args .file .now)) * entrySize
+    → (length (at-start (c .before) .args .file .now) - (8 + c .node-count .result * 8)) / 4 ≡ entryCount (rowsIn (at-start (c .before) .args .file .now)) * entrySize
 counted c = omega (arith, c .node-count .ensures .0, file-holds _ (told (c .before)) .ends)
 
 returns : tie.Need-returns
@@ -79,10 +98,10 @@ returns-3 c = (
 )
 
 copy-rows-requires : tie.Need-copy-rows-requires
-copy-rows-requires c κs = omega (arith, c .before .before .before .node-count .ensures .0, file-holds _ (told (c .before .before .before .before)) .header .contents)
+copy-rows-requires c κs = omega (arith, c .before .before .before .node-count .ensures .0, file-holds _ (told (after-enum-told c)) .header .contents)
 
 copy-words-requires : tie.Need-copy-words-requires
-copy-words-requires c κs = omega (arith, counted (c .before .before .before .before .before .before .before), (file-holds _ (told (c .before .before .before .before .before .before .before .before))) .ends)
+copy-words-requires c κs = omega (arith, counted (after-node-count c), (file-holds _ (told (after-enum-told-2 c))) .ends)
 
 same-length : tie.Need-same-length
 same-length c = search needs
@@ -92,14 +111,18 @@ same-length-2 c = search needs
 
 returns-4 : tie.Need-returns-4
 returns-4 c =
-    let n = c .before .before .before .before .before .before .before .before .before .before .node-count .ensures .0 in
-    let f = c .before .before .before .before .before .before .before .before .before .before .before .before .before .before .before .before .before .args .file .now in
-    let w = counted (c .before .before .before .before .before .before .before .before .before .before) in
-    let bytes : Bytes f = λ i. c .before .before .before .before .before .before .before .before .before .before .before .before .before .before .before .before .shared-slice-known .given i .fits in
+    let words = c .before .before .before in
+    let rows = words .before .before .before in
+    let room = rows .before .before in
+    let nodes = room .before .before in
+    let n = nodes .node-count .ensures .0 in
+    let f = at-start-2 c .args .file .now in
+    let w = counted nodes in
+    let bytes : Bytes f = λ i. after-shared-slice-known c .shared-slice-known .given i .fits in
     read-ensures bytes
     (record {
-      answer = sym (read-filled _ _ _ (told (c .before .before .before .before .before .before .before .before .before .before .before)) _ _ n (omega (arith, w)) (omega arith) (omega arith));
-      rowsThere = rw (← n) (c .before .before .before .before .before .before .copy-rows .ensures ∙ over-start _ _);
+      answer = sym (read-filled _ _ _ (told (after-enum-told-2 (c .before .before .before))) _ _ n (omega (arith, w)) (omega arith) (omega arith));
+      rowsThere = rw (← n) (rows .copy-rows .ensures ∙ over-start _ _);
       wordsThere =
           rw (words-of-entries f bytes (bodiesStart (nodeCount f)) (entryCount (rowsIn f)))
           ((rw (w, n) at (c .before .before .copy-words .ensures)) ∙ over-start _ _);

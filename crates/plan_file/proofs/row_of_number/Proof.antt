@@ -25,12 +25,22 @@ loop-holds c = (omega arith, (rw zero-add))
 row-at-requires : tie.Need-row-at-requires Inv-loop μ-loop
 row-at-requires c κs = search needs
 
+-- places that the needs look back to
+abbrev at-start : tie.After-row-at Inv-loop μ-loop → tie.Start Inv-loop μ-loop
+at-start c = c .before .before .before .before
+
+abbrev at-loop : tie.Then1 Inv-loop μ-loop → tie.At-loop Inv-loop μ-loop
+at-loop c = c .before .before .before .before
+
+abbrev at-loop-2 : tie.Else1 Inv-loop μ-loop → tie.At-loop Inv-loop μ-loop
+at-loop-2 c = c .before .before .before .before
+
 at-row : (c : tie.After-row-at Inv-loop μ-loop)
-    → AtHand (rowsFrom (c .before .before .before .before .args .file .now) 0 (c .before .before .before .before .args .nodes)) (c .before .before .loop .row) (c .row-at .result)
+    → AtHand (rowsFrom (at-start c .args .file .now) 0 (at-start c .args .nodes)) (c .before .before .loop .row) (c .row-at .result)
 at-row c = file-row _ _ _ _ (c .before .loop-test .taken) (c .row-at .ensures)
 
 returns : tie.Need-returns Inv-loop μ-loop
-returns c = sym (search-found _ (at-row (c .before .before)) (c .if1 .taken)) ∙ c .before .before .before .before .loop .inv .1
+returns c = sym (search-found _ (at-row (c .before .before)) (c .if1 .taken)) ∙ at-loop c .loop .inv .1
 
 add-row : tie.Need-add-row Inv-loop μ-loop
 add-row c = search needs
@@ -41,7 +51,7 @@ loop-less c = omega arith
 loop-again : tie.Need-loop-again Inv-loop μ-loop
 loop-again c = (
   omega arith,
-  sym (search-next _ (at-row (c .before .before)) (c .if1 .left)) ∙ c .before .before .before .before .loop .inv .1,
+  sym (search-next _ (at-row (c .before .before)) (c .if1 .left)) ∙ at-loop-2 c .loop .inv .1,
 )
 
 returns-2 : tie.Need-returns-2 Inv-loop μ-loop

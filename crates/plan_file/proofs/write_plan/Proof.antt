@@ -19,12 +19,31 @@ check-plan-requires c κs = search needs
 enum-known-checked : tie.Need-enum-known-checked
 enum-known-checked c = search needs
 
+-- places that the needs look back to
+abbrev at-start : tie.After-enum-told → tie.Start
+at-start c = c .before .before .before .before .before .before
+
+abbrev after-enum-told : tie.After-put-contents-arg → tie.After-enum-told
+after-enum-told c = c .before .before .before .before .before .before
+
+abbrev after-shared-slice-known : tie.After-slice-known4 → tie.After-shared-slice-known
+after-shared-slice-known c = c .before .before .before .before .before .before .before .before .before .before .before .before .before .before .before .before .before .before
+
+abbrev after-shared-slice-known2 : tie.After-slice-known4 → tie.After-shared-slice-known2
+after-shared-slice-known2 c = c .before .before .before .before .before .before .before .before .before .before .before .before .before .before .before .before .before
+
+abbrev after-enum-told-2 : tie.After-slice-known4 → tie.After-enum-told
+after-enum-told-2 c = after-enum-told (c .before .before .before .before .before .before .before)
+
+abbrev at-start-2 : tie.After-slice-known4 → tie.Start
+at-start-2 c = at-start (c .before .before .before .before .before .before .before .before .before .before .before .before .before)
+
 -- the plan is accepted
-told : (c : tie.After-enum-told) → wordsCheck (c .before .before .before .before .before .before .args .rows .now) (c .before .before .before .before .before .before .args .entries .now) ≡ accepted
+told : (c : tie.After-enum-told) → wordsCheck (at-start c .args .rows .now) (at-start c .args .entries .now) ≡ accepted
 told c = sym (c .before .before .check-plan .ensures .0) ∙ ap outcome (c .enum-told .given .1)
 
-few : (c : tie.After-enum-told) → length (c .before .before .before .before .before .before .args .rows .now) ≤ mostNodes
-few c = omega (arith, writer-holds _ _ _ (told c) .few, length-map (c .before .before .before .before .before .before .args .rows .now) rowOf)
+few : (c : tie.After-enum-told) → length (at-start c .args .rows .now) ≤ mostNodes
+few c = omega (arith, writer-holds _ _ _ (told c) .few, length-map (at-start c .args .rows .now) rowOf)
 
 returns : tie.Need-returns
 returns c = (
@@ -57,7 +76,7 @@ put-header-requires : tie.Need-put-header-requires
 put-header-requires c κs = search needs
 
 put-contents-requires : tie.Need-put-contents-requires
-put-contents-requires c κs = omega (arith, few (c .before .before .before .before .before .before), c .before .before .before .put-header .kept .0)
+put-contents-requires c κs = omega (arith, few (after-enum-told c), c .before .before .before .put-header .kept .0)
 
 put-words-requires : tie.Need-put-words-requires
 put-words-requires c κs = search needs
@@ -67,12 +86,15 @@ same-length c = search needs
 
 returns-3 : tie.Need-returns-3
 returns-3 c =
-    write-ensures (λ i. c .before .before .before .before .before .before .before .before .before .before .before .before .before .before .before .before .before .before .shared-slice-known .given i .fits)
-    (λ i. c .before .before .before .before .before .before .before .before .before .before .before .before .before .before .before .before .before .shared-slice-known2 .given i .fits)
+    let words = c .before .before .before in
+    let contents = words .before .before .before in
+    let header = contents .before .before in
+    write-ensures (λ i. after-shared-slice-known c .shared-slice-known .given i .fits)
+    (λ i. after-shared-slice-known2 c .shared-slice-known2 .given i .fits)
     (record {
-      answer = sym (write-fits _ _ _ (told (c .before .before .before .before .before .before .before .before .before .before .before .before .before)) (omega arith));
-      fileThere = rw (c .before .before .put-words .ensures, c .before .before .before .before .before .before .put-contents .ensures, c .before .before .before .before .before .before .before .before .before .before .put-header .ensures)
-          (written (c .before .before .before .before .before .before .before .before .before .before .before .before .before .before .before .before .before .before .before .args .rows .now) (c .before .before .before .before .before .before .before .before .before .before .before .before .before .before .before .before .before .before .before .args .entries .now) (told (c .before .before .before .before .before .before .before .before .before .before .before .before .before)) _ ∙ over-start _ _);
+      answer = sym (write-fits _ _ _ (told (after-enum-told-2 c)) (omega arith));
+      fileThere = rw (c .before .before .put-words .ensures, contents .put-contents .ensures, header .before .before .put-header .ensures)
+          (written (at-start-2 c .args .rows .now) (at-start-2 c .args .entries .now) (told (after-enum-told-2 c)) _ ∙ over-start _ _);
     })
 
 pub write-plan-spec : {M : Type 1} → statement M

@@ -37,8 +37,18 @@ enum-told c = search needs
 enum-told-2 : tie.Need-enum-told-2 Inv-loop μ-loop
 enum-told-2 c = search needs
 
+-- places that the needs look back to
+abbrev at-start : tie.After-entry-in Inv-loop μ-loop → tie.Start Inv-loop μ-loop
+at-start c = c .before .before .before .before
+
+abbrev at-loop : tie.After-enum-told2 Inv-loop μ-loop → tie.At-loop Inv-loop μ-loop
+at-loop c = c .before .before .before .before .before
+
+abbrev at-loop-2 : tie.After-enum-told Inv-loop μ-loop → tie.At-loop Inv-loop μ-loop
+at-loop-2 c = c .before .before .before .before .before
+
 at-entry : (c : tie.After-entry-in Inv-loop μ-loop)
-    → AtHand (entriesAt (c .before .before .before .before .args .file .now) (c .before .before .before .before .args .start) (c .before .before .before .before .args .count)) (c .before .before .loop .position) (c .entry-in .result)
+    → AtHand (entriesAt (at-start c .args .file .now) (at-start c .args .start) (at-start c .args .count)) (c .before .before .loop .position) (c .entry-in .result)
 at-entry c = run-hand (entries-run _) _ _ _ _ _ (c .before .loop-test .taken) (c .before .before .loop .inv .0) (c .entry-in .ensures)
 
 returns : tie.Need-returns Inv-loop μ-loop
@@ -46,7 +56,7 @@ returns c =
     let told = ap outcome (c .enum-told2 .given .1) in
     told
     ∙ sym (body-here (at-entry (c .before .before .before)) _ _ (sym (c .before .before .check-entry .ensures) ∙ told))
-    ∙ c .before .before .before .before .before .loop .inv .2
+    ∙ at-loop c .loop .inv .2
 
 add-k : tie.Need-add-k Inv-loop μ-loop
 add-k c = omega arith
@@ -62,7 +72,7 @@ loop-again c = (
   omega arith,
   omega arith,
   sym (body-here (at-entry (c .before .before .before)) _ _ (sym (c .before .before .check-entry .ensures) ∙ ap outcome (c .enum-told .given .1)))
-      ∙ c .before .before .before .before .before .loop .inv .2,
+      ∙ at-loop-2 c .loop .inv .2,
 )
 
 returns-2 : tie.Need-returns-2 Inv-loop μ-loop

@@ -35,8 +35,24 @@ loop-holds c = (omega arith, c .before .pre, refl)
 row-at-requires : tie.Need-row-at-requires Inv-loop μ-loop
 row-at-requires c κs = search needs
 
+-- places that the needs look back to
+abbrev at-start : tie.After-row-at Inv-loop μ-loop → tie.Start Inv-loop μ-loop
+at-start c = c .before .before .before .before
+
+abbrev after-row-at : tie.After-enum-told2 Inv-loop μ-loop → tie.After-row-at Inv-loop μ-loop
+after-row-at c = c .before .before .before .before
+
+abbrev at-loop : tie.After-enum-told2 Inv-loop μ-loop → tie.At-loop Inv-loop μ-loop
+at-loop c = c .before .before .before .before .before .before
+
+abbrev after-row-at-2 : tie.After-enum-told Inv-loop μ-loop → tie.After-row-at Inv-loop μ-loop
+after-row-at-2 c = c .before .before .before .before
+
+abbrev at-loop-2 : tie.After-enum-told Inv-loop μ-loop → tie.At-loop Inv-loop μ-loop
+at-loop-2 c = c .before .before .before .before .before .before
+
 at-row : (c : tie.After-row-at Inv-loop μ-loop)
-    → AtHand (rowsFrom (c .before .before .before .before .args .file .now) 0 (c .before .before .before .before .args .nodes)) (c .before .before .loop .row) (c .row-at .result)
+    → AtHand (rowsFrom (at-start c .args .file .now) 0 (at-start c .args .nodes)) (c .before .before .loop .row) (c .row-at .result)
 at-row c = file-row _ _ _ _ (c .before .loop-test .taken) (c .row-at .ensures)
 
 cast-count : tie.Need-cast-count Inv-loop μ-loop
@@ -55,14 +71,14 @@ returns : tie.Need-returns Inv-loop μ-loop
 returns c =
     let told = ap outcome (c .enum-told2 .given .1) in
     told
-    ∙ sym (bodies-here (entries-run _) (at-row (c .before .before .before .before)) _ _ refl _ (sym (c .before .before .check-body .ensures) ∙ told))
-    ∙ c .before .before .before .before .before .before .loop .inv .2
+    ∙ sym (bodies-here (entries-run _) (at-row (after-row-at c)) _ _ refl _ (sym (c .before .before .check-body .ensures) ∙ told))
+    ∙ at-loop c .loop .inv .2
 
 mul-start-2 : tie.Need-mul-start-2 Inv-loop μ-loop
 mul-start-2 c = search needs
 
 add-start-2 : tie.Need-add-start-2 Inv-loop μ-loop
-add-start-2 c = omega (arith, count-here (at-row (c .before .before .before .before)))
+add-start-2 c = omega (arith, count-here (at-row (after-row-at-2 c)))
 
 add-row : tie.Need-add-row Inv-loop μ-loop
 add-row c = search needs
@@ -72,11 +88,11 @@ loop-less c = omega arith
 
 loop-again : tie.Need-loop-again Inv-loop μ-loop
 loop-again c =
-    let row = at-row (c .before .before .before .before) in (
+    let row = at-row (after-row-at-2 c) in (
       omega arith,
       omega (arith, count-here row),
       sym (bodies-here (entries-run _) row _ _ refl _ (sym (c .before .before .check-body .ensures) ∙ ap outcome (c .enum-told .given .1)))
-          ∙ c .before .before .before .before .before .before .loop .inv .2,
+          ∙ at-loop-2 c .loop .inv .2,
     )
 
 returns-2 : tie.Need-returns-2 Inv-loop μ-loop

@@ -30,11 +30,24 @@ mul-if4 c = search needs
 add-if4 : tie.Need-add-if4
 add-if4 c = search needs
 
+-- places that the needs look back to
+abbrev after-opens : tie.Then4 → tie.After-opens
+after-opens c = c .before .before .before .before .before
+
+abbrev else2 : tie.Then4 → tie.Else2
+else2 c = c .before .before .before .before
+
+abbrev after-opens-2 : tie.Else4 → tie.After-opens
+after-opens-2 c = c .before .before .before .before .before
+
+abbrev else2-2 : tie.Else4 → tie.Else2
+else2-2 c = c .before .before .before .before
+
 returns-4 : tie.Need-returns-4
-returns-4 c = sym (header-cut _ (omega arith) (sym (c .before .before .before .before .before .opens .ensures) ∙ not-false _ (c .before .before .before .before .if2 .left)) (sym (c .before .before .before .counted .ensures) ∙ not-false _ (c .before .before .if3 .left)) (omega arith))
+returns-4 c = sym (header-cut _ (omega arith) (sym (after-opens c .opens .ensures) ∙ not-false _ (else2 c .if2 .left)) (sym (c .before .before .before .counted .ensures) ∙ not-false _ (c .before .before .if3 .left)) (omega arith))
 
 returns-5 : tie.Need-returns-5
-returns-5 c = sym (header-accepted _ (omega arith) (sym (c .before .before .before .before .before .opens .ensures) ∙ not-false _ (c .before .before .before .before .if2 .left)) (sym (c .before .before .before .counted .ensures) ∙ not-false _ (c .before .before .if3 .left)) (omega arith))
+returns-5 c = sym (header-accepted _ (omega arith) (sym (after-opens-2 c .opens .ensures) ∙ not-false _ (else2-2 c .if2 .left)) (sym (c .before .before .before .counted .ensures) ∙ not-false _ (c .before .before .if3 .left)) (omega arith))
 
 pub check-header-spec : {M : Type 1} → statement M
 check-header-spec =

@@ -42,21 +42,52 @@ row-holds-requires c κs = search needs
 placed-at-requires : tie.Need-placed-at-requires Inv-loop μ-loop
 placed-at-requires c κs = search needs
 
+-- places that the needs look back to
+abbrev at-start : tie.After-row-at Inv-loop μ-loop → tie.Start Inv-loop μ-loop
+at-start c = c .before .before .before .before
+
+abbrev at-loop : tie.Then1 Inv-loop μ-loop → tie.At-loop Inv-loop μ-loop
+at-loop c = c .before .before .before .before .before
+
+abbrev after-row-at : tie.Then2 Inv-loop μ-loop → tie.After-row-at Inv-loop μ-loop
+after-row-at c = c .before .before .before .before
+
+abbrev at-loop-2 : tie.Then2 Inv-loop μ-loop → tie.At-loop Inv-loop μ-loop
+at-loop-2 c = c .before .before .before .before .before .before
+
+abbrev after-row-at-2 : tie.After-struct-known2 Inv-loop μ-loop → tie.After-row-at Inv-loop μ-loop
+after-row-at-2 c = c .before .before .before .before .before .before
+
+abbrev after-row-holds : tie.After-struct-known2 Inv-loop μ-loop → tie.After-row-holds Inv-loop μ-loop
+after-row-holds c = c .before .before .before .before .before
+
+abbrev after-placed-at : tie.After-struct-known2 Inv-loop μ-loop → tie.After-placed-at Inv-loop μ-loop
+after-placed-at c = c .before .before .before .before
+
+abbrev at-loop-3 : tie.After-struct-known2 Inv-loop μ-loop → tie.At-loop Inv-loop μ-loop
+at-loop-3 c = c .before .before .before .before .before .before .before .before
+
+abbrev at-start-2 : tie.Then3 Inv-loop μ-loop → tie.Start Inv-loop μ-loop
+at-start-2 c = c .before .before .before .before
+
+abbrev at-start-3 : tie.Else3 Inv-loop μ-loop → tie.Start Inv-loop μ-loop
+at-start-3 c = c .before .before .before .before
+
 at-row : (c : tie.After-row-at Inv-loop μ-loop)
-    → AtHand (rowsFrom (c .before .before .before .before .args .file .now) 0 (c .before .before .before .before .args .nodes)) (c .before .before .loop .row) (c .row-at .result)
+    → AtHand (rowsFrom (at-start c .args .file .now) 0 (at-start c .args .nodes)) (c .before .before .loop .row) (c .row-at .result)
 at-row c = file-row _ _ _ _ (c .before .loop-test .taken) (c .row-at .ensures)
 
 returns : tie.Need-returns Inv-loop μ-loop
 returns c =
     sym (layout-here (at-row (c .before .before .before)) _ _ _ _ _ (sym (c .before .before .row-holds .ensures) ∙ not-true _ (c .if1 .taken)) refl)
-    ∙ c .before .before .before .before .before .loop .inv .3
+    ∙ at-loop c .loop .inv .3
 
 returns-2 : tie.Need-returns-2 Inv-loop μ-loop
 returns-2 c =
     sym
-    (layout-here (at-row (c .before .before .before .before)) _ _ _ _ _ (sym (c .before .before .before .row-holds .ensures) ∙ not-false _ (c .before .if1 .left))
+    (layout-here (at-row (after-row-at c)) _ _ _ _ _ (sym (c .before .before .before .row-holds .ensures) ∙ not-false _ (c .before .if1 .left))
     (sym (c .before .before .placed-at .ensures) ∙ not-true _ (c .if2 .taken)))
-    ∙ c .before .before .before .before .before .before .loop .inv .3
+    ∙ at-loop-2 c .loop .inv .3
 
 cast-least : tie.Need-cast-least Inv-loop μ-loop
 cast-least c = search needs
@@ -85,20 +116,20 @@ loop-again c = (
   omega arith,
   omega arith,
   sym
-      (layout-here (at-row (c .before .before .before .before .before .before)) _ _ _ _ _ (sym (c .before .before .before .before .before .row-holds .ensures) ∙ not-false _ (c .before .before .before .if1 .left))
-      (sym (c .before .before .before .before .placed-at .ensures) ∙ not-false _ (c .before .before .if2 .left)))
-      ∙ c .before .before .before .before .before .before .before .before .loop .inv .3,
+      (layout-here (at-row (after-row-at-2 c)) _ _ _ _ _ (sym (after-row-holds c .row-holds .ensures) ∙ not-false _ (c .before .before .before .if1 .left))
+      (sym (after-placed-at c .placed-at .ensures) ∙ not-false _ (c .before .before .if2 .left)))
+      ∙ at-loop-3 c .loop .inv .3,
 )
 
 returns-3 : tie.Need-returns-3 Inv-loop μ-loop
 returns-3 c =
-    sym (mustHold-refuses _ _ (ne-eqb (length (c .before .before .before .before .args .file .now)) (c .before .before .loop .required) (λ e. omega arith)))
+    sym (mustHold-refuses _ _ (ne-eqb (length (at-start-2 c .args .file .now)) (c .before .before .loop .required) (λ e. omega arith)))
     ∙ sym (layout-end _ _ (run-none (rows-run _) _ _ _ (c .before .loop-test .left)) _ _ _)
     ∙ c .before .before .loop .inv .3
 
 returns-4 : tie.Need-returns-4 Inv-loop μ-loop
 returns-4 c =
-    sym (mustHold-accepts _ _ (eq-eqb (length (c .before .before .before .before .args .file .now)) (c .before .before .loop .required) (omega arith)))
+    sym (mustHold-accepts _ _ (eq-eqb (length (at-start-3 c .args .file .now)) (c .before .before .loop .required) (omega arith)))
     ∙ sym (layout-end _ _ (run-none (rows-run _) _ _ _ (c .before .loop-test .left)) _ _ _)
     ∙ c .before .before .loop .inv .3
 

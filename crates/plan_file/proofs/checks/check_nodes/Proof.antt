@@ -35,9 +35,28 @@ shared-slice-read-row-of c = search needs
 row-of-requires : tie.Need-row-of-requires Inv-loop μ-loop
 row-of-requires c κs = search needs
 
+-- places that the needs look back to
+abbrev at-start : tie.After-row-of Inv-loop μ-loop → tie.Start Inv-loop μ-loop
+at-start c = c .before .before .before .before .before .before
+
+abbrev after-row-of : tie.After-enum-told2 Inv-loop μ-loop → tie.After-row-of Inv-loop μ-loop
+after-row-of c = c .before .before .before .before
+
+abbrev at-loop : tie.After-enum-told2 Inv-loop μ-loop → tie.At-loop Inv-loop μ-loop
+at-loop c = c .before .before .before .before .before .before .before
+
+abbrev after-row-of-2 : tie.After-enum-told Inv-loop μ-loop → tie.After-row-of Inv-loop μ-loop
+after-row-of-2 c = c .before .before .before .before
+
+abbrev at-loop-2 : tie.After-enum-told Inv-loop μ-loop → tie.At-loop Inv-loop μ-loop
+at-loop-2 c = c .before .before .before .before .before .before .before
+
+abbrev at-start-2 : tie.After-loop Inv-loop μ-loop → tie.Start Inv-loop μ-loop
+at-start-2 c = c .before .before .before .before
+
 at-row : (c : tie.After-row-of Inv-loop μ-loop)
-    → AtHand (map rowOf (c .before .before .before .before .before .before .args .rows .now)) (c .before .before .before .loop .row) (c .row-of .result)
-at-row c = memory-row (c .before .before .before .before .before .before .args .rows .now) _ _ (c .before .before .loop-test .taken) (c .row-of .ensures)
+    → AtHand (map rowOf (at-start c .args .rows .now)) (c .before .before .before .loop .row) (c .row-of .result)
+at-row c = memory-row (at-start c .args .rows .now) _ _ (c .before .before .loop-test .taken) (c .row-of .ensures)
 
 cast-count : tie.Need-cast-count Inv-loop μ-loop
 cast-count c = search needs
@@ -55,11 +74,11 @@ returns : tie.Need-returns Inv-loop μ-loop
 returns c =
     let told = ap outcome (c .enum-told2 .given .1) in
     told
-    ∙ sym (bodies-here (words-entries-run _) (at-row (c .before .before .before .before)) _ _ refl _ (sym (c .before .before .check-entries .ensures) ∙ told))
-    ∙ c .before .before .before .before .before .before .before .loop .inv .2
+    ∙ sym (bodies-here (words-entries-run _) (at-row (after-row-of c)) _ _ refl _ (sym (c .before .before .check-entries .ensures) ∙ told))
+    ∙ at-loop c .loop .inv .2
 
 add-first : tie.Need-add-first Inv-loop μ-loop
-add-first c = omega (arith, count-here (at-row (c .before .before .before .before)))
+add-first c = omega (arith, count-here (at-row (after-row-of-2 c)))
 
 add-row : tie.Need-add-row Inv-loop μ-loop
 add-row c = search needs
@@ -69,15 +88,15 @@ loop-less c = omega arith
 
 loop-again : tie.Need-loop-again Inv-loop μ-loop
 loop-again c =
-    let row = at-row (c .before .before .before .before) in (
+    let row = at-row (after-row-of-2 c) in (
       omega arith,
       omega (arith, count-here row),
       sym (bodies-here (words-entries-run _) row _ _ (omega arith) _ (sym (c .before .before .check-entries .ensures) ∙ ap outcome (c .enum-told .given .1)))
-          ∙ c .before .before .before .before .before .before .before .loop .inv .2,
+          ∙ at-loop-2 c .loop .inv .2,
     )
 
 returns-2 : tie.Need-returns-2 Inv-loop μ-loop
-returns-2 c = sym (bodies-end (words-entries-run _) _ _ _ (memory-none (c .before .before .before .before .args .rows .now) _ (c .loop-test .left))) ∙ c .before .loop .inv .2
+returns-2 c = sym (bodies-end (words-entries-run _) _ _ _ (memory-none (at-start-2 c .args .rows .now) _ (c .loop-test .left))) ∙ c .before .loop .inv .2
 
 pub check-nodes-spec : {M : Type 1} → statement M
 check-nodes-spec =

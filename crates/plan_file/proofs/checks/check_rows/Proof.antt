@@ -41,14 +41,33 @@ row-of-requires c κs = search needs
 row-holds-requires : tie.Need-row-holds-requires Inv-loop μ-loop
 row-holds-requires c κs = search needs
 
+-- places that the needs look back to
+abbrev at-start : tie.After-row-of Inv-loop μ-loop → tie.Start Inv-loop μ-loop
+at-start c = c .before .before .before .before .before
+
+abbrev at-loop : tie.Then1 Inv-loop μ-loop → tie.At-loop Inv-loop μ-loop
+at-loop c = c .before .before .before .before .before
+
+abbrev after-row-of : tie.After-struct-known2 Inv-loop μ-loop → tie.After-row-of Inv-loop μ-loop
+after-row-of c = c .before .before .before .before
+
+abbrev at-loop-2 : tie.After-struct-known2 Inv-loop μ-loop → tie.At-loop Inv-loop μ-loop
+at-loop-2 c = c .before .before .before .before .before .before .before
+
+abbrev at-start-2 : tie.Then2 Inv-loop μ-loop → tie.Start Inv-loop μ-loop
+at-start-2 c = c .before .before .before .before
+
+abbrev at-start-3 : tie.Else2 Inv-loop μ-loop → tie.Start Inv-loop μ-loop
+at-start-3 c = c .before .before .before .before
+
 at-row : (c : tie.After-row-of Inv-loop μ-loop)
-    → AtHand (map rowOf (c .before .before .before .before .before .args .rows .now)) (c .before .before .before .loop .i) (c .row-of .result)
-at-row c = memory-row (c .before .before .before .before .before .args .rows .now) _ _ (c .before .before .loop-test .taken) (c .row-of .ensures)
+    → AtHand (map rowOf (at-start c .args .rows .now)) (c .before .before .before .loop .i) (c .row-of .result)
+at-row c = memory-row (at-start c .args .rows .now) _ _ (c .before .before .loop-test .taken) (c .row-of .ensures)
 
 returns : tie.Need-returns Inv-loop μ-loop
 returns c =
     sym (tally-here (at-row (c .before .before)) _ _ _ _ (sym (c .before .row-holds .ensures) ∙ not-true _ (c .if1 .taken)))
-    ∙ c .before .before .before .before .before .loop .inv .3
+    ∙ at-loop c .loop .inv .3
 
 cast-least : tie.Need-cast-least Inv-loop μ-loop
 cast-least c = search needs
@@ -73,8 +92,8 @@ loop-again c = (
   omega arith,
   omega arith,
   omega arith,
-  sym (tally-here (at-row (c .before .before .before .before)) _ _ _ _ (sym (c .before .before .before .row-holds .ensures) ∙ not-false _ (c .before .before .if1 .left)))
-      ∙ c .before .before .before .before .before .before .before .loop .inv .3,
+  sym (tally-here (at-row (after-row-of c)) _ _ _ _ (sym (c .before .before .before .row-holds .ensures) ∙ not-false _ (c .before .before .if1 .left)))
+      ∙ at-loop-2 c .loop .inv .3,
 )
 
 mul-if2 : tie.Need-mul-if2 Inv-loop μ-loop
@@ -82,14 +101,14 @@ mul-if2 c = search needs
 
 returns-2 : tie.Need-returns-2 Inv-loop μ-loop
 returns-2 c =
-    sym (mustHold-refuses _ _ (ne-eqb (c .before .before .before .before .args .words) (c .before .before .loop .total * entrySize) (λ e. omega arith)))
-    ∙ sym (tally-end _ _ (memory-none (c .before .before .before .before .args .rows .now) _ (c .before .loop-test .left)) _ _ _)
+    sym (mustHold-refuses _ _ (ne-eqb (at-start-2 c .args .words) (c .before .before .loop .total * entrySize) (λ e. omega arith)))
+    ∙ sym (tally-end _ _ (memory-none (at-start-2 c .args .rows .now) _ (c .before .loop-test .left)) _ _ _)
     ∙ c .before .before .loop .inv .3
 
 returns-3 : tie.Need-returns-3 Inv-loop μ-loop
 returns-3 c =
-    sym (mustHold-accepts _ _ (eq-eqb (c .before .before .before .before .args .words) (c .before .before .loop .total * entrySize) (omega arith)))
-    ∙ sym (tally-end _ _ (memory-none (c .before .before .before .before .args .rows .now) _ (c .before .loop-test .left)) _ _ _)
+    sym (mustHold-accepts _ _ (eq-eqb (at-start-3 c .args .words) (c .before .before .loop .total * entrySize) (omega arith)))
+    ∙ sym (tally-end _ _ (memory-none (at-start-3 c .args .rows .now) _ (c .before .loop-test .left)) _ _ _)
     ∙ c .before .before .loop .inv .3
 
 pub check-rows-spec : {M : Type 1} → statement M

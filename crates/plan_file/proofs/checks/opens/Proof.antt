@@ -31,9 +31,16 @@ shared-slice-read-if3 c = search needs
 array-read-if3 : tie.Need-array-read-if3
 array-read-if3 c = search needs
 
+-- places that the needs look back to
+abbrev else1 : tie.Then3 → tie.Else1
+else1 c = c .before .before .before .before
+
+abbrev else1-2 : tie.After-shared-slice-known4 → tie.Else1
+else1-2 c = c .before .before .before .before .before
+
 returns-3 : tie.Need-returns-3
 unfolding openingTest
-returns-3 c = rw (eq-eqb _ _ (c .before .before .before .before .if1 .left), eq-eqb _ _ (c .before .before .if2 .left), ne-eqb _ _ (c .if3 .taken))
+returns-3 c = rw (eq-eqb _ _ (else1 c .if1 .left), eq-eqb _ _ (c .before .before .if2 .left), ne-eqb _ _ (c .if3 .taken))
 
 shared-slice-read-result : tie.Need-shared-slice-read-result
 shared-slice-read-result c = search needs
@@ -42,7 +49,7 @@ array-read-result : tie.Need-array-read-result
 array-read-result c = search needs
 
 returns-4 : tie.Need-returns-4
-returns-4 c = opens-rest _ (c .before .before .before .before .before .if1 .left) (c .before .before .before .if2 .left) (c .before .if3 .left)
+returns-4 c = opens-rest _ (else1-2 c .if1 .left) (c .before .before .before .if2 .left) (c .before .if3 .left)
 
 pub opens-spec : {M : Type 1} → statement M
 opens-spec =

@@ -55,8 +55,12 @@ loop-again c = (
 same-length : tie.Need-same-length Inv-loop μ-loop
 same-length c = search needs
 
+-- places that the needs look back to
+abbrev at-start : tie.After-loop Inv-loop μ-loop → tie.Start Inv-loop μ-loop
+at-start c = c .before .before .before .before
+
 returns : tie.Need-returns Inv-loop μ-loop
-returns c = let e : c .before .loop .row ≡ c .before .before .before .before .args .nodes = omega arith in rw (← e) (c .before .loop .inv .2)
+returns c = let e : c .before .loop .row ≡ at-start c .args .nodes = omega arith in rw (← e) (c .before .loop .inv .2)
 
 pub copy-rows-spec : {M : Type 1} → statement M
 copy-rows-spec =

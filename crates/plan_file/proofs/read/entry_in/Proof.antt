@@ -33,12 +33,19 @@ word-at-requires-5 c κs = search needs
 entry-with-requires : tie.Need-entry-with-requires
 entry-with-requires c κs = search needs
 
+-- places that the needs look back to
+abbrev after-word-at : tie.After-entry-with → tie.After-word-at
+after-word-at c = c .before .before .before .before .before
+
+abbrev after-word-at2 : tie.After-entry-with → tie.After-word-at2
+after-word-at2 c = c .before .before .before .before
+
 returns : tie.Need-returns
 returns c =
     rw (← words-five)
     (rw (
-      ← c .before .before .before .before .before .word-at .ensures,
-      ← c .before .before .before .before .word-at2 .ensures,
+      ← after-word-at c .word-at .ensures,
+      ← after-word-at2 c .word-at2 .ensures,
       ← c .before .before .before .word-at3 .ensures,
       ← c .before .before .word-at4 .ensures,
       ← c .before .word-at5 .ensures,

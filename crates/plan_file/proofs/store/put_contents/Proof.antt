@@ -72,18 +72,26 @@ add-row c = search needs
 loop-less : tie.Need-loop-less Inv-loop μ-loop
 loop-less c = omega arith
 
+-- places that the needs look back to
+abbrev at-start : tie.After-loop Inv-loop μ-loop → tie.Start Inv-loop μ-loop
+at-start c = c .before .before .before .before
+
 loop-again : tie.Need-loop-again Inv-loop μ-loop
 loop-again c =
-    let row = memory-row (c .before .before .before .before .before .before .before .before .before .before .before .args .rows .now) _ _ (c .before .before .before .before .before .before .before .loop-test .taken) refl in
+    let put = c .before .before .before in
+    let test = put .before .before .before in
+    let top = test .before .before in
+    let start = top .before .before .before in
+    let row = memory-row (start .args .rows .now) _ _ (test .before .loop-test .taken) refl in
     let r = ap (λ (r : Row). r .count) (c .before .row-of .ensures) in (
       omega arith,
-      omega (arith, c .before .before .before .before .put-row .kept .0),
+      omega (arith, put .before .put-row .kept .0),
       omega (arith, count-more row, r),
       omega (arith, r),
-      c .before .before .before .before .put-row .ensures
-          ∙ rw (c .before .before .before .before .before .before .before .before .loop .inv .4)
+      put .before .put-row .ensures
+          ∙ rw (top .loop .inv .4)
           (over-next _ 8 _ _ _ (contents-length row _) (omega arith)
-          ∙ ap (over _ 8) (contents-more row _ _ (c .before .before .before .before .before .before .before .before .loop .inv .2))),
+          ∙ ap (over _ 8) (contents-more row _ _ (top .loop .inv .2))),
     )
 
 same-length : tie.Need-same-length Inv-loop μ-loop
@@ -91,7 +99,7 @@ same-length c = search needs
 
 returns : tie.Need-returns Inv-loop μ-loop
 returns c =
-    let rows = c .before .before .before .before .args .rows .now in
+    let rows = at-start c .args .rows .now in
     rw (take-all (c .before .loop .row) (map rowOf rows) (omega (arith, length-map rows rowOf))) at (c .before .loop .inv .4)
 
 pub put-contents-spec : {M : Type 1} → statement M

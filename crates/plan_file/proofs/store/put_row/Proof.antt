@@ -20,11 +20,15 @@ put-word-requires-2 c κs = search needs
 same-length : tie.Need-same-length
 same-length c = search needs
 
+-- places that the needs look back to
+abbrev after-put-word : tie.After-slice-known3 → tie.After-put-word
+after-put-word c = c .before .before .before .before .before .before
+
 returns : tie.Need-returns
 unfolding low
 returns c =
     c .before .before .put-word2 .ensures
-    ∙ rw (c .before .before .before .before .before .before .put-word .ensures)
+    ∙ rw (after-put-word c .put-word .ensures)
     (over-next _ _ 4 (low 4 _) (low 4 _) refl (omega arith) ∙ ap (over _ _) (sym (row-bytes _ _)))
 
 pub put-row-spec : {M : Type 1} → statement M
