@@ -4,21 +4,6 @@ use borrow.Author.Needs.{needs}
 use Rattle.node_words.proofs.list.replace_at.Statement.{statement}
 use Rattle.node_words.proofs.list.replace_at.Tie as tie
 
-mul-store-entry : tie.Need-mul-store-entry
-mul-store-entry c = search needs
-
-store-entry-requires : tie.Need-store-entry-requires
-store-entry-requires c κs = search needs
-
-mul-clear-from : tie.Need-mul-clear-from
-mul-clear-from c = search needs
-
-clear-from-requires : tie.Need-clear-from-requires
-clear-from-requires c κs = search needs
-
-same-length : tie.Need-same-length
-same-length c = search needs
-
 returns : tie.Need-returns
 returns c =
     let a = c .before .before .before .before .before .before .before .before .before .args in
@@ -29,9 +14,9 @@ pub replace-at-spec : {M : Type 1} → statement M
 replace-at-spec =
     tie.close
     (tie.spec
-    mul-store-entry
-    store-entry-requires
-    mul-clear-from
-    clear-from-requires
-    same-length
+    (λ c. search needs)
+    (λ c κs. search needs)
+    (λ c. search needs)
+    (λ c κs. search needs)
+    (λ c. search needs)
     returns)

@@ -15,15 +15,6 @@ sound : (c : tie.After-enum-told)
     → let a = c .before .before .before .before .args in nodeCheck 0 (nodeOf (a .words .now) (a .count) (a .levels)) ≡ accepted
 sound c = sym (c .before .before .check-words .ensures) ∙ ap outcome (c .enum-told .given .1)
 
-check-words-requires : tie.Need-check-words-requires
-check-words-requires c κs = search needs
-
-enum-told : tie.Need-enum-told
-enum-told c = search needs
-
-enum-told-2 : tie.Need-enum-told-2
-enum-told-2 c = search needs
-
 returns : tie.Need-returns
 unfolding lentCheck
 returns c = ap outcome (c .enum-told2 .given .1)
@@ -46,9 +37,6 @@ returns-3 c =
     ∙ insert-full (nodeOf (a .words .now) (a .count) (a .levels)) (a .position) (a .e) (omega (arith, length-entries (a .words .now) 0 (a .count)))
     (omega (arith, length-entries (a .words .now) 0 (a .count))))
 
-check-entry-requires : tie.Need-check-entry-requires
-check-entry-requires c κs = search needs
-
 returns-4 : tie.Need-returns-4
 unfolding lentCheck
 returns-4 c =
@@ -63,11 +51,11 @@ pub check-insert-spec : {M : Type 1} → statement M
 check-insert-spec =
     tie.close
     (tie.spec
-    check-words-requires
-    enum-told
-    enum-told-2
+    (λ c κs. search needs)
+    (λ c. search needs)
+    (λ c. search needs)
     returns
     returns-2
     returns-3
-    check-entry-requires
+    (λ c κs. search needs)
     returns-4)

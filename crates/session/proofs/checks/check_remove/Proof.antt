@@ -15,15 +15,6 @@ sound : (c : tie.After-enum-told)
     → let a = c .before .before .before .before .args in nodeCheck 0 (nodeOf (a .words .now) (a .count) (a .levels)) ≡ accepted
 sound c = sym (c .before .before .check-words .ensures) ∙ ap outcome (c .enum-told .given .1)
 
-check-words-requires : tie.Need-check-words-requires
-check-words-requires c κs = search needs
-
-enum-told : tie.Need-enum-told
-enum-told c = search needs
-
-enum-told-2 : tie.Need-enum-told-2
-enum-told-2 c = search needs
-
 returns : tie.Need-returns
 unfolding lentCheck
 returns c = ap outcome (c .enum-told2 .given .1)
@@ -48,4 +39,10 @@ returns-3 c =
 pub check-remove-spec : {M : Type 1} → statement M
 check-remove-spec =
     tie.close
-    (tie.spec check-words-requires enum-told enum-told-2 returns returns-2 returns-3)
+    (tie.spec
+    (λ c κs. search needs)
+    (λ c. search needs)
+    (λ c. search needs)
+    returns
+    returns-2
+    returns-3)

@@ -13,22 +13,10 @@ sound : (c : tie.After-enum-told)
     → let a = c .before .before .before .before .args in nodeCheck 0 (nodeOf (a .words .now) (a .count) (a .open-levels)) ≡ accepted
 sound c = sym (c .before .before .check-words .ensures) ∙ ap outcome (c .enum-told .given .1)
 
-check-words-requires : tie.Need-check-words-requires
-check-words-requires c κs = search needs
-
-enum-told : tie.Need-enum-told
-enum-told c = search needs
-
-enum-told-2 : tie.Need-enum-told-2
-enum-told-2 c = search needs
-
 returns : tie.Need-returns
 unfolding lentCheck
 returns c = ap outcome (c .enum-told2 .given .1)
     ∙ sym (lent-stops (changing (settingLevels _)) _ _ (sym (c .before .before .check-words .ensures) ∙ ap outcome (c .enum-told2 .given .1)))
-
-check-levels-requires : tie.Need-check-levels-requires
-check-levels-requires c κs = search needs
 
 returns-2 : tie.Need-returns-2
 unfolding lentCheck operationCheck changeCheck
@@ -38,4 +26,10 @@ returns-2 c = c .check-levels .ensures
 pub check-set-levels-spec : {M : Type 1} → statement M
 check-set-levels-spec =
     tie.close
-    (tie.spec check-words-requires enum-told enum-told-2 returns check-levels-requires returns-2)
+    (tie.spec
+    (λ c κs. search needs)
+    (λ c. search needs)
+    (λ c. search needs)
+    returns
+    (λ c κs. search needs)
+    returns-2)

@@ -18,49 +18,13 @@ ready c =
     let a = c .before .before .before .before .before .before .before .before .args in
     insert-ready (part (a .words .now)) (getD (a .words .now) 1 0) (getD (a .words .now) 0 0) (a .position) (a .e) (sym (c .before .before .check-insert .ensures) ∙ ap outcome (c .enum-told .given .1))
 
-slice-read-count : tie.Need-slice-read-count
-slice-read-count c = search needs
-
-slice-read-check-insert : tie.Need-slice-read-check-insert
-slice-read-check-insert c = search needs
-
 cast-check-insert : tie.Need-cast-check-insert
 cast-check-insert c = omega (arith, c .before .slice-known2 .given 1)
-
-sub-check-insert : tie.Need-sub-check-insert
-sub-check-insert c = search needs
-
-part-check-insert-start : tie.Need-part-check-insert-start
-part-check-insert-start c = search needs
-
-part-check-insert-end : tie.Need-part-check-insert-end
-part-check-insert-end c = search needs
-
-check-insert-requires : tie.Need-check-insert-requires
-check-insert-requires c κs = search needs
-
-enum-told : tie.Need-enum-told
-enum-told c = search needs
-
-enum-told-2 : tie.Need-enum-told-2
-enum-told-2 c = search needs
-
-same-length : tie.Need-same-length
-same-length c = search needs
 
 returns : tie.Need-returns
 returns c =
     let s = c .before .before .before .before .before .before .before .before in
     part-refused (s .args .words .now) (s .pre) (inserting _ _) _ (c .before .before .check-insert .ensures) _ (ap outcome (c .enum-told2 .given .1))
-
-sub-insert-at : tie.Need-sub-insert-at
-sub-insert-at c = search needs
-
-part-insert-at-start : tie.Need-part-insert-at-start
-part-insert-at-start c = search needs
-
-part-insert-at-end : tie.Need-part-insert-at-end
-part-insert-at-end c = search needs
 
 cast-insert-at : tie.Need-cast-insert-at
 cast-insert-at c = omega (arith, ready (c .before))
@@ -72,12 +36,6 @@ insert-at-requires c κs =
 
 add-words : tie.Need-add-words
 add-words c = omega (arith, ready (c .before .before .before .before))
-
-slice-write-words : tie.Need-slice-write-words
-slice-write-words c = search needs
-
-same-length-2 : tie.Need-same-length-2
-same-length-2 c = search needs
 
 returns-2 : tie.Need-returns-2
 returns-2 c =
@@ -93,23 +51,23 @@ pub insert-spec : {M : Type 1} → statement M
 insert-spec =
     tie.close
     (tie.spec
-    slice-read-count
-    slice-read-check-insert
+    (λ c. search needs)
+    (λ c. search needs)
     cast-check-insert
-    sub-check-insert
-    part-check-insert-start
-    part-check-insert-end
-    check-insert-requires
-    enum-told
-    enum-told-2
-    same-length
+    (λ c. search needs)
+    (λ c. search needs)
+    (λ c. search needs)
+    (λ c κs. search needs)
+    (λ c. search needs)
+    (λ c. search needs)
+    (λ c. search needs)
     returns
-    sub-insert-at
-    part-insert-at-start
-    part-insert-at-end
+    (λ c. search needs)
+    (λ c. search needs)
+    (λ c. search needs)
     cast-insert-at
     insert-at-requires
     add-words
-    slice-write-words
-    same-length-2
+    (λ c. search needs)
+    (λ c. search needs)
     returns-2)

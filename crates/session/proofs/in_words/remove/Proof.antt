@@ -18,49 +18,13 @@ ready c =
     let a = c .before .before .before .before .before .before .before .before .args in
     remove-ready (part (a .words .now)) (getD (a .words .now) 1 0) (getD (a .words .now) 0 0) (a .position) (sym (c .before .before .check-remove .ensures) ∙ ap outcome (c .enum-told .given .1))
 
-slice-read-count : tie.Need-slice-read-count
-slice-read-count c = search needs
-
-slice-read-check-remove : tie.Need-slice-read-check-remove
-slice-read-check-remove c = search needs
-
 cast-check-remove : tie.Need-cast-check-remove
 cast-check-remove c = omega (arith, c .before .slice-known2 .given 1)
-
-sub-check-remove : tie.Need-sub-check-remove
-sub-check-remove c = search needs
-
-part-check-remove-start : tie.Need-part-check-remove-start
-part-check-remove-start c = search needs
-
-part-check-remove-end : tie.Need-part-check-remove-end
-part-check-remove-end c = search needs
-
-check-remove-requires : tie.Need-check-remove-requires
-check-remove-requires c κs = search needs
-
-enum-told : tie.Need-enum-told
-enum-told c = search needs
-
-enum-told-2 : tie.Need-enum-told-2
-enum-told-2 c = search needs
-
-same-length : tie.Need-same-length
-same-length c = search needs
 
 returns : tie.Need-returns
 returns c =
     let s = c .before .before .before .before .before .before .before .before in
     part-refused (s .args .words .now) (s .pre) (removing _) _ (c .before .before .check-remove .ensures) _ (ap outcome (c .enum-told2 .given .1))
-
-sub-remove-at : tie.Need-sub-remove-at
-sub-remove-at c = search needs
-
-part-remove-at-start : tie.Need-part-remove-at-start
-part-remove-at-start c = search needs
-
-part-remove-at-end : tie.Need-part-remove-at-end
-part-remove-at-end c = search needs
 
 cast-remove-at : tie.Need-cast-remove-at
 cast-remove-at c = omega (arith, ready (c .before))
@@ -72,12 +36,6 @@ remove-at-requires c κs =
 
 sub-words : tie.Need-sub-words
 sub-words c = omega (arith, ready (c .before .before .before .before))
-
-slice-write-words : tie.Need-slice-write-words
-slice-write-words c = search needs
-
-same-length-2 : tie.Need-same-length-2
-same-length-2 c = search needs
 
 returns-2 : tie.Need-returns-2
 returns-2 c =
@@ -93,23 +51,23 @@ pub remove-spec : {M : Type 1} → statement M
 remove-spec =
     tie.close
     (tie.spec
-    slice-read-count
-    slice-read-check-remove
+    (λ c. search needs)
+    (λ c. search needs)
     cast-check-remove
-    sub-check-remove
-    part-check-remove-start
-    part-check-remove-end
-    check-remove-requires
-    enum-told
-    enum-told-2
-    same-length
+    (λ c. search needs)
+    (λ c. search needs)
+    (λ c. search needs)
+    (λ c κs. search needs)
+    (λ c. search needs)
+    (λ c. search needs)
+    (λ c. search needs)
     returns
-    sub-remove-at
-    part-remove-at-start
-    part-remove-at-end
+    (λ c. search needs)
+    (λ c. search needs)
+    (λ c. search needs)
     cast-remove-at
     remove-at-requires
     sub-words
-    slice-write-words
-    same-length-2
+    (λ c. search needs)
+    (λ c. search needs)
     returns-2)

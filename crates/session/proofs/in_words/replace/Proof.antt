@@ -18,49 +18,13 @@ ready c =
     let a = c .before .before .before .before .before .before .before .before .args in
     replace-ready (part (a .words .now)) (getD (a .words .now) 1 0) (getD (a .words .now) 0 0) (a .position) (a .e) (sym (c .before .before .check-replace .ensures) ∙ ap outcome (c .enum-told .given .1))
 
-slice-read-count : tie.Need-slice-read-count
-slice-read-count c = search needs
-
-slice-read-check-replace : tie.Need-slice-read-check-replace
-slice-read-check-replace c = search needs
-
 cast-check-replace : tie.Need-cast-check-replace
 cast-check-replace c = omega (arith, c .before .slice-known2 .given 1)
-
-sub-check-replace : tie.Need-sub-check-replace
-sub-check-replace c = search needs
-
-part-check-replace-start : tie.Need-part-check-replace-start
-part-check-replace-start c = search needs
-
-part-check-replace-end : tie.Need-part-check-replace-end
-part-check-replace-end c = search needs
-
-check-replace-requires : tie.Need-check-replace-requires
-check-replace-requires c κs = search needs
-
-enum-told : tie.Need-enum-told
-enum-told c = search needs
-
-enum-told-2 : tie.Need-enum-told-2
-enum-told-2 c = search needs
-
-same-length : tie.Need-same-length
-same-length c = search needs
 
 returns : tie.Need-returns
 returns c =
     let s = c .before .before .before .before .before .before .before .before in
     part-refused (s .args .words .now) (s .pre) (replacing _ _) _ (c .before .before .check-replace .ensures) _ (ap outcome (c .enum-told2 .given .1))
-
-sub-replace-at : tie.Need-sub-replace-at
-sub-replace-at c = search needs
-
-part-replace-at-start : tie.Need-part-replace-at-start
-part-replace-at-start c = search needs
-
-part-replace-at-end : tie.Need-part-replace-at-end
-part-replace-at-end c = search needs
 
 cast-replace-at : tie.Need-cast-replace-at
 cast-replace-at c = omega (arith, ready (c .before))
@@ -69,9 +33,6 @@ replace-at-requires : tie.Need-replace-at-requires
 replace-at-requires c κs =
     let s = c .before .before .before .before .before .before .before .before .before in
     omega (arith, part-size (s .args .words .now) (s .pre), ready (c .before))
-
-same-length-2 : tie.Need-same-length-2
-same-length-2 c = search needs
 
 returns-2 : tie.Need-returns-2
 returns-2 c =
@@ -87,21 +48,21 @@ pub replace-spec : {M : Type 1} → statement M
 replace-spec =
     tie.close
     (tie.spec
-    slice-read-count
-    slice-read-check-replace
+    (λ c. search needs)
+    (λ c. search needs)
     cast-check-replace
-    sub-check-replace
-    part-check-replace-start
-    part-check-replace-end
-    check-replace-requires
-    enum-told
-    enum-told-2
-    same-length
+    (λ c. search needs)
+    (λ c. search needs)
+    (λ c. search needs)
+    (λ c κs. search needs)
+    (λ c. search needs)
+    (λ c. search needs)
+    (λ c. search needs)
     returns
-    sub-replace-at
-    part-replace-at-start
-    part-replace-at-end
+    (λ c. search needs)
+    (λ c. search needs)
+    (λ c. search needs)
     cast-replace-at
     replace-at-requires
-    same-length-2
+    (λ c. search needs)
     returns-2)
