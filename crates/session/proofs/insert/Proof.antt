@@ -3,7 +3,7 @@ use contract.Running.{givenOf, tables, tablesOf}
 use denote.Triple.Spec.{tripleOf}
 use denote.Triple.Table.{entered, cited}
 use Rattle.session.specs.Operations.{changing, inserting}
-use Rattle.session.proofs.LentTwo as walk
+use Rattle.session.proofs.Lent.{meets-entry}
 use Rattle.session.proofs.inserted as g
 use Rattle.session.proofs.inserted.Symbol as g-def
 use Rattle.session.proofs.inserted.Symbol.{name as #session·inserted}
@@ -18,6 +18,6 @@ unfolding code.routine tablesOf
 insert-spec 𝓤 H 𝓜 𝓖 𝓡 =
     entered 𝓤 H (tripleOf 𝓤 H (𝓖 .A) f.signature (f.spec 𝓤 H (𝓖 .A) (𝓜 .mem) (𝓡 .run)))
     (tables 𝓤 H 𝓜 𝓡 code.env .C) (tables 𝓤 H 𝓜 𝓡 code.env .Λ) #session·insert code.function (code.unfolded 𝓤 H 𝓜 𝓡)
-    (walk.meets (λ p e. changing (inserting p e)) #session·inserted 𝓤 H (𝓖 .A) (givenOf 𝓤 H 𝓜 𝓖) (𝓜 .mem) (𝓡 .run) (tablesOf 𝓤 H 𝓜 (tables 𝓤 H 𝓜 𝓡 code.env))
+    (meets-entry (λ p e. changing (inserting p e)) #session·inserted 𝓤 H (𝓖 .A) (givenOf 𝓤 H 𝓜 𝓖) (tablesOf 𝓤 H 𝓜 (tables 𝓤 H 𝓜 𝓡 code.env))
     (cited 𝓤 H (tripleOf 𝓤 H (𝓖 .A) g.signature (g.spec 𝓤 H (𝓖 .A) (𝓜 .mem) (𝓡 .run))) 𝓜 𝓡 code.env #session·inserted g-def.routine
     code.calls-session·inserted (g-thm.met 𝓤 H 𝓜 𝓖 𝓡)))

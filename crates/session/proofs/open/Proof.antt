@@ -4,7 +4,7 @@ use mir.Syntax.{w8}
 use denote.Triple.Spec.{tripleOf}
 use denote.Triple.Table.{entered, cited}
 use Rattle.session.specs.Operations.{opening}
-use Rattle.session.proofs.LentOne as walk
+use Rattle.session.proofs.Lent.{meets-number}
 use Rattle.session.proofs.opened as g
 use Rattle.session.proofs.opened.Symbol as g-def
 use Rattle.session.proofs.opened.Symbol.{name as #session·opened}
@@ -19,6 +19,6 @@ unfolding code.routine tablesOf
 open-spec 𝓤 H 𝓜 𝓖 𝓡 =
     entered 𝓤 H (tripleOf 𝓤 H (𝓖 .A) f.signature (f.spec 𝓤 H (𝓖 .A) (𝓜 .mem) (𝓡 .run)))
     (tables 𝓤 H 𝓜 𝓡 code.env .C) (tables 𝓤 H 𝓜 𝓡 code.env .Λ) #session·open code.function (code.unfolded 𝓤 H 𝓜 𝓡)
-    (walk.meets w8 opening #session·opened 𝓤 H (𝓖 .A) (givenOf 𝓤 H 𝓜 𝓖) (𝓜 .mem) (𝓡 .run) (tablesOf 𝓤 H 𝓜 (tables 𝓤 H 𝓜 𝓡 code.env))
+    (meets-number w8 opening #session·opened 𝓤 H (𝓖 .A) (givenOf 𝓤 H 𝓜 𝓖) (tablesOf 𝓤 H 𝓜 (tables 𝓤 H 𝓜 𝓡 code.env))
     (cited 𝓤 H (tripleOf 𝓤 H (𝓖 .A) g.signature (g.spec 𝓤 H (𝓖 .A) (𝓜 .mem) (𝓡 .run))) 𝓜 𝓡 code.env #session·opened g-def.routine
     code.calls-session·opened (g-thm.met 𝓤 H 𝓜 𝓖 𝓡)))
