@@ -23,6 +23,7 @@ use Rattle.session.specs.State.{nodeIn}
 use Rattle.session.specs.Operations.{
   changing,
   asking,
+  Change,
   Operation,
   inserting,
   removing,
@@ -173,7 +174,13 @@ module _ (n : Node) (first last i : ℕ) where
   unfolding timeAnswer
   time-given p = rw p
 
--- what an accepted operation may go by
+-- what an accepted operation may go by, on a list of `count` entries
+abbrev pub Ready : Change → ℕ → Type 0
+Ready (inserting p e) count = (p ≤ count) × (count < mostEntries)
+Ready (removing p) count = (p < count) × (count ≤ mostEntries)
+Ready (replacing p e) count = (p < count) × (count ≤ mostEntries)
+Ready (settingLevels l) count = count ≤ mostEntries
+
 module _ (ws : List ℕ) (count levels : ℕ) where
   abbrev n : Node
   n = nodeOf ws count levels
@@ -184,27 +191,14 @@ module _ (ws : List ℕ) (count levels : ℕ) where
   few : nodeCheck 0 n ≡ accepted → count ≤ mostEntries
   few p = omega (arith, node-accepted 0 n .0 p .fewEntries, sized)
 
-  module _ (p : ℕ) where
-    pub insert-ready : (e : Entry) → stepCheck (changing (inserting p e)) n ≡ accepted → (p ≤ count) × (count < mostEntries)
-    insert-ready e a =
-        let q = insert-accepted n p e (step-accepted (changing (inserting p e)) n a .1) in
-        (omega (arith, sized), omega (arith, sized))
-
-    pub remove-ready : stepCheck (changing (removing p)) n ≡ accepted → (p < count) × (count ≤ mostEntries)
-    unfolding lentCheck
-    remove-ready a =
-        let q = step-accepted (changing (removing p)) n a in
-        (omega (arith, sized, remove-accepted n p (q .1)), few (q .0))
-
-    pub replace-ready : (e : Entry) → stepCheck (changing (replacing p e)) n ≡ accepted → (p < count) × (count ≤ mostEntries)
-    unfolding lentCheck
-    replace-ready e a =
-        let q = step-accepted (changing (replacing p e)) n a in
-        (omega (arith, sized, replace-accepted n p e (q .1) .0), few (q .0))
-
-  pub levels-ready : (l : ℕ) → stepCheck (changing (settingLevels l)) n ≡ accepted → count ≤ mostEntries
+  pub change-ready : (c : Change) → stepCheck (changing c) n ≡ accepted → Ready c count
   unfolding lentCheck
-  levels-ready l a = few (step-accepted (changing (settingLevels l)) n a .0)
+  change-ready (inserting p e) a =
+      let q = insert-accepted n p e (step-accepted _ n a .1) in
+      (omega (arith, sized), omega (arith, sized))
+  change-ready (removing p) a = let q = step-accepted _ n a in (omega (arith, sized, remove-accepted n p (q .1)), few (q .0))
+  change-ready (replacing p e) a = let q = step-accepted _ n a in (omega (arith, sized, replace-accepted n p e (q .1) .0), few (q .0))
+  change-ready (settingLevels l) a = few (step-accepted _ n a .0)
 
   pub time-ready : (first last i : ℕ) → stepCheck (asking (timing first last i)) n ≡ accepted
       → AllHold (n .entries) × ((first ≤ i) × (i ≤ last) × (last < count) × (count ≤ mostEntries))

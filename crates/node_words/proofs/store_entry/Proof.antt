@@ -25,28 +25,9 @@ returns c = stored-five _ _ _
 
 pub store-entry-spec : {M : Type 1} → statement M
 store-entry-spec =
-    tie.close
-    (tie.spec
-    (λ c. search needs)
-    (λ c. search needs)
-    (λ c. search needs)
-    (λ c. search needs)
-    (λ c. search needs)
-    (λ c. search needs)
-    (λ c. search needs)
-    (λ c. search needs)
-    (λ c. search needs)
-    (λ c. search needs)
-    (λ c. search needs)
-    slice-write-words-2
-    (λ c. search needs)
-    (λ c. search needs)
-    slice-write-words-3
-    (λ c. search needs)
-    (λ c. search needs)
-    slice-write-words-4
-    (λ c. search needs)
-    (λ c. search needs)
-    slice-write-words-5
-    same-length
-    returns)
+    tie.close (tie.spec
+    (λ c. search needs) (λ c. search needs) (λ c. search needs) (λ c. search needs) (λ c. search needs)
+    (λ c. search needs) (λ c. search needs) (λ c. search needs) (λ c. search needs) (λ c. search needs)
+    (λ c. search needs) slice-write-words-2 (λ c. search needs) (λ c. search needs) slice-write-words-3
+    (λ c. search needs) (λ c. search needs) slice-write-words-4 (λ c. search needs) (λ c. search needs)
+    slice-write-words-5 same-length returns)

@@ -40,14 +40,6 @@ returns-2 c =
 
 pub mapped-spec : {M : Type 1} → statement M
 mapped-spec =
-    tie.close
-    (tie.spec
-    (λ c. search needs)
-    (λ c κs. search needs)
-    (λ c. search needs)
-    returns
-    (λ c. search needs)
-    cast-map-held
-    map-held-requires
-    (λ c. search needs)
-    returns-2)
+    tie.close (tie.spec
+    (λ c. search needs) (λ c κs. search needs) (λ c. search needs) returns (λ c. search needs) cast-map-held
+    map-held-requires (λ c. search needs) returns-2)

@@ -8,11 +8,4 @@ returns c =
     by-value _ _ (c .before .before .before .before .to-words .ensures) (c .before .before .«open» .ensures) (c .from-words .ensures)
 
 pub opened-spec : {M : Type 1} → statement M
-opened-spec =
-    tie.close
-    (tie.spec
-    (λ c κs. search needs)
-    (λ c. search needs)
-    (λ c κs. search needs)
-    (λ c κs. search needs)
-    returns)
+opened-spec = tie.close (tie.spec (λ c κs. search needs) (λ c. search needs) (λ c κs. search needs) (λ c κs. search needs) returns)

@@ -8,11 +8,4 @@ returns c =
     by-value _ _ (c .before .before .before .before .to-words .ensures) (c .before .before .remove .ensures) (c .from-words .ensures)
 
 pub removed-spec : {M : Type 1} → statement M
-removed-spec =
-    tie.close
-    (tie.spec
-    (λ c κs. search needs)
-    (λ c. search needs)
-    (λ c κs. search needs)
-    (λ c κs. search needs)
-    returns)
+removed-spec = tie.close (tie.spec (λ c κs. search needs) (λ c. search needs) (λ c κs. search needs) (λ c κs. search needs) returns)

@@ -8,11 +8,4 @@ returns c =
     by-value _ _ (c .before .before .before .before .to-words .ensures) (c .before .before .replace .ensures) (c .from-words .ensures)
 
 pub replaced-spec : {M : Type 1} → statement M
-replaced-spec =
-    tie.close
-    (tie.spec
-    (λ c κs. search needs)
-    (λ c. search needs)
-    (λ c κs. search needs)
-    (λ c κs. search needs)
-    returns)
+replaced-spec = tie.close (tie.spec (λ c κs. search needs) (λ c. search needs) (λ c κs. search needs) (λ c κs. search needs) returns)

@@ -26,12 +26,6 @@ returns-2 c =
 
 pub timed-spec : {M : Type 1} → statement M
 timed-spec =
-    tie.close
-    (tie.spec
-    (λ c. search needs)
-    (λ c κs. search needs)
-    (λ c. search needs)
-    returns
-    (λ c. search needs)
-    completion-test-requires
+    tie.close (tie.spec
+    (λ c. search needs) (λ c κs. search needs) (λ c. search needs) returns (λ c. search needs) completion-test-requires
     returns-2)

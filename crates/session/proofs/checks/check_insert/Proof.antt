@@ -49,13 +49,6 @@ returns-4 c =
 
 pub check-insert-spec : {M : Type 1} → statement M
 check-insert-spec =
-    tie.close
-    (tie.spec
-    (λ c κs. search needs)
-    (λ c. search needs)
-    (λ c. search needs)
-    returns
-    returns-2
-    returns-3
-    (λ c κs. search needs)
+    tie.close (tie.spec
+    (λ c κs. search needs) (λ c. search needs) (λ c. search needs) returns returns-2 returns-3 (λ c κs. search needs)
     returns-4)

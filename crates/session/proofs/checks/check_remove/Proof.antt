@@ -37,12 +37,4 @@ returns-3 c =
     ∙ remove-inside (nodeOf (a .words .now) (a .count) (a .levels)) (a .position) (omega (arith, length-entries (a .words .now) 0 (a .count))))
 
 pub check-remove-spec : {M : Type 1} → statement M
-check-remove-spec =
-    tie.close
-    (tie.spec
-    (λ c κs. search needs)
-    (λ c. search needs)
-    (λ c. search needs)
-    returns
-    returns-2
-    returns-3)
+check-remove-spec = tie.close (tie.spec (λ c κs. search needs) (λ c. search needs) (λ c. search needs) returns returns-2 returns-3)

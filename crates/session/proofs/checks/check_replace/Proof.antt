@@ -16,11 +16,5 @@ returns-2 c = c .check-entry .ensures
 
 pub check-replace-spec : {M : Type 1} → statement M
 check-replace-spec =
-    tie.close
-    (tie.spec
-    (λ c κs. search needs)
-    (λ c. search needs)
-    (λ c. search needs)
-    returns
-    (λ c κs. search needs)
-    returns-2)
+    tie.close (tie.spec
+    (λ c κs. search needs) (λ c. search needs) (λ c. search needs) returns (λ c κs. search needs) returns-2)

@@ -25,11 +25,5 @@ returns-2 c = c .check-levels .ensures
 
 pub check-set-levels-spec : {M : Type 1} → statement M
 check-set-levels-spec =
-    tie.close
-    (tie.spec
-    (λ c κs. search needs)
-    (λ c. search needs)
-    (λ c. search needs)
-    returns
-    (λ c κs. search needs)
-    returns-2)
+    tie.close (tie.spec
+    (λ c κs. search needs) (λ c. search needs) (λ c. search needs) returns (λ c κs. search needs) returns-2)

@@ -1,68 +1,24 @@
-use Prim.Native.Nat.{_≤_, _<_}
-use mathlib.Core.Path.{_∙_, sym, ap}
 use native.Mathlib.Omega.{arith}
-use lib.ListN.{getD}
-use Rattle.refusals.specs.Refusals.{outcome}
-use Rattle.task_model.specs.Limits.{mostEntries}
-use Rattle.session.specs.Operations.{replacing}
-use Rattle.session.proofs.Changing.{made-replaced}
-use Rattle.session.proofs.Checking.{replace-ready}
-use Rattle.session.proofs.InWords.{part, part-size, part-refused, part-accepted, put-back}
+use Rattle.session.specs.Operations.{replacing, changed}
+use Rattle.session.proofs.InWords.{PartReady, part-ready, part-refused, part-accepted}
 use borrow.Author.Needs.{needs}
 use Rattle.session.proofs.in_words.replace.Statement.{statement}
 use Rattle.session.proofs.in_words.replace.Tie as tie
 
 -- what the checks let the change go by
-ready : (c : tie.After-enum-told) → let a = c .before .before .before .before .before .before .before .before .args in (a .position < getD (a .words .now) 1 0) × (getD (a .words .now) 1 0 ≤ mostEntries)
-ready c =
-    let a = c .before .before .before .before .before .before .before .before .args in
-    replace-ready (part (a .words .now)) (getD (a .words .now) 1 0) (getD (a .words .now) 0 0) (a .position) (a .e) (sym (c .before .before .check-replace .ensures) ∙ ap outcome (c .enum-told .given .1))
-
-cast-check-replace : tie.Need-cast-check-replace
-cast-check-replace c = omega (arith, c .before .slice-known2 .given 1)
-
-returns : tie.Need-returns
-returns c =
-    let s = c .before .before .before .before .before .before .before .before in
-    part-refused (s .args .words .now) (s .pre) (replacing _ _) _ (c .before .before .check-replace .ensures) _ (ap outcome (c .enum-told2 .given .1))
-
-cast-replace-at : tie.Need-cast-replace-at
-cast-replace-at c = omega (arith, ready (c .before))
-
-replace-at-requires : tie.Need-replace-at-requires
-replace-at-requires c κs =
-    let s = c .before .before .before .before .before .before .before .before .before in
-    omega (arith, part-size (s .args .words .now) (s .pre), ready (c .before))
+ready : (c : tie.After-enum-told) → let a = c .before .before .before .before .before .before .before .before .args in PartReady (replacing (a .position) (a .e)) (a .words .now)
+ready c = let s = c .before .before .before .before .before .before .before .before in part-ready (s .args .words .now) (s .pre) (replacing _ _) _ (c .before .before .check-replace .ensures) (c .enum-told .given .1)
 
 returns-2 : tie.Need-returns-2
-returns-2 c =
-    let s = c .before .before .before .before .before .before .before .before .before .before .before .before in
-    let a = s .args in
-    let w = a .words .now in
-    let n = getD w 1 0 in
-    part-accepted w (s .pre) (replacing (a .position) (a .e)) _ (c .before .before .before .before .before .before .check-replace .ensures) (ap outcome (c .before .before .before .before .enum-told .given .1)) _
-    (made-replaced (part w) n (getD w 0 0) _ (a .position) (a .e) (ready (c .before .before .before .before) .0) (c .before .before .replace-at .ensures)) _
-    (put-back w (s .pre) _)
+unfolding changed
+returns-2 c = part-accepted _ (c .before .before .before .before .before .before .before .before .before .before .before .before .pre) (replacing _ _) _ (c .before .before .before .before .before .before .check-replace .ensures) (c .before .before .before .before .enum-told .given .1) (c .before .before .replace-at .ensures)
 
 pub replace-spec : {M : Type 1} → statement M
 replace-spec =
-    tie.close
-    (tie.spec
+    tie.close (tie.spec
+    (λ c. search needs) (λ c. search needs) (λ c. omega (arith, c .before .slice-known2 .given 1)) (λ c. search needs)
+    (λ c. search needs) (λ c. search needs) (λ c κs. search needs) (λ c. search needs) (λ c. search needs)
     (λ c. search needs)
-    (λ c. search needs)
-    cast-check-replace
-    (λ c. search needs)
-    (λ c. search needs)
-    (λ c. search needs)
-    (λ c κs. search needs)
-    (λ c. search needs)
-    (λ c. search needs)
-    (λ c. search needs)
-    returns
-    (λ c. search needs)
-    (λ c. search needs)
-    (λ c. search needs)
-    cast-replace-at
-    replace-at-requires
-    (λ c. search needs)
-    returns-2)
+    (λ c. part-refused _ (c .before .before .before .before .before .before .before .before .pre) (replacing _ _) _ (c .before .before .check-replace .ensures) (c .enum-told2 .given .1))
+    (λ c. search needs) (λ c. search needs) (λ c. search needs) (λ c. omega (arith, ready (c .before)))
+    (λ c κs. omega (arith, ready (c .before))) (λ c. search needs) returns-2)
