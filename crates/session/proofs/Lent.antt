@@ -20,7 +20,7 @@ use prog.Wp.{Heap, Env, Spot, spotOf, Calls, Loops, WpFn, Tables}
 use ghost.Atoms.{Atoms, sem}
 use contract.Monad.{Fun, fact}
 use contract.Lifetimes.{Lfts}
-use types.Kit.{Given, Item, Goal, Sq, Go, allocs, params′, ‵, raw, _⊛_, some, later, atRet, prop, runs, frees, _$_, _∵_, !, qed, by, move, keep, drop, use0, use1, use2, split, join, pick, fsplit, fsplit3, fjoin, fjoin3, feqI, rewrite, suffices, frame, await, done}
+use types.Kit.{Given, Item, Goal, Sq, Go, allocs, params′, ‵, raw, _⊛_, some, later, atRet, runs, frees, _$_, _∵_, !, qed, by, move, keep, drop, use0, use1, use2, split, join, pick, fsplit, fsplit3, fjoin, fjoin3, feqI, rewrite, suffices, frame, await, done}
 use types.Run.{Walks as Goes-to, Finds, Opds, look, look-raw, init, store-raw, forget, stop, hop, fld, from, load, of-opd, and-then, no-more, land, assigns, returns, enter, alloc1, alloc0, params1, pass1, pass0, free1, free0}
 use types.Part.{whole, sub, look-in}
 use types.SemTy.{Body}
@@ -30,7 +30,7 @@ use denote.Laws.{Is, Are, Ises, Spells, valss, Tellss, shows}
 use denote.Memory.{mem, pointee, partAt}
 use denote.Plain.{UInt, uint-vals, uint-tells, uint-lawful}
 use denote.Builtin.{usize, RefMutOf}
-use denote.Ref.{RefT, MutRef, ShrRef, ptr-vals, mut-tells, shr-tells, now}
+use denote.Ref.{MutRef, ShrRef, ptr-vals, mut-tells, shr-tells, now}
 use denote.Signature.{Slot, plain, typesAt}
 use denote.Steps.{opens, closes, looks, shuts, owned, peeks, heard, nothing, only}
 use denote.Struct.Steps.{spelt}
@@ -38,7 +38,6 @@ use denote.Struct.Laws as LL
 use denote.Enum.Laws as EL
 use denote.Triple.Statement.{Contract, Triple}
 use denote.Triple.Call.{calls-at}
-use denote.Triple.Entry.{onEntry}
 use denote.Triple.End.{Kepts, Fins}
 use denote.Triple.Spec.{Meets, tripleOf}
 use denote.Triple.Walked.{says, Stays, stay-ref, stay-none-ref, stay-dropped, fitsOf, hasOf, walkOf, AllGo, goes-dropped, goes-ref, goes-none-ref, ends-at, walked, walk-meets}
