@@ -51,7 +51,7 @@ use Rattle.session.proofs.mapped as g
 use Rattle.session.proofs.mapped.Symbol as g-def
 use Rattle.session.proofs.mapped.Symbol.{name as #session·mapped}
 use Rattle.session.proofs.mapped.Met as g-thm
-use Rattle.session.proofs.map.Key.{name as #session·map}
+use Rattle.session.proofs.map.Key.{name}
 use Rattle.session.proofs.map as f
 use Rattle.session.proofs.map.Statement as stated
 use Rattle.session.proofs.map.Code as code
@@ -135,7 +135,6 @@ map-meets 𝓤 H A W at-mem run 𝓣 known =
 pub map-spec : {M : Type 1} → stated.statement M
 unfolding code.routine tablesOf
 map-spec 𝓤 H 𝓜 𝓖 𝓡 =
-    entered 𝓤 H (tripleOf 𝓤 H (𝓖 .A) f.signature (f.spec 𝓤 H (𝓖 .A) (𝓜 .mem) (𝓡 .run)))
-    (tables 𝓤 H 𝓜 𝓡 code.env .C) (tables 𝓤 H 𝓜 𝓡 code.env .Λ) #session·map code.function (code.unfolded 𝓤 H 𝓜 𝓡)
+    entered 𝓤 H _ _ _ name code.function (code.unfolded 𝓤 H 𝓜 𝓡)
     (map-meets 𝓤 H (𝓖 .A) (givenOf 𝓤 H 𝓜 𝓖) (𝓜 .mem) (𝓡 .run) (tablesOf 𝓤 H 𝓜 (tables 𝓤 H 𝓜 𝓡 code.env))
-    (cited 𝓤 H (With 𝓤 H (𝓖 .A) (𝓜 .mem) (𝓡 .run)) 𝓜 𝓡 code.env #session·mapped g-def.routine code.calls-session·mapped (g-thm.met 𝓤 H 𝓜 𝓖 𝓡)))
+    (cited 𝓤 H _ 𝓜 𝓡 code.env #session·mapped g-def.routine code.calls-session·mapped (g-thm.met 𝓤 H 𝓜 𝓖 𝓡)))
