@@ -1,6 +1,6 @@
 -- Laws of checks that follow one another, and of what a check's answer leaves of a session.
 use Prim.Native.Nat.{ℕ, _≤_, _<_}
-use mathlib.Core.Path.{_≡_, sym}
+use mathlib.Core.Path.{_≡_, _∙_, sym, ap}
 use mathlib.Core.Bool.{true, _&&_}
 use mathlib.Core.List.{List}
 use native.Mathlib.Omega.{arith}
@@ -8,7 +8,10 @@ use lib.ListN.{length}
 use lib.Dec.{leb, ltb}
 use borrow.Author.Tests.{le-leb, lt-leb, lt-ltb, le-ltb, leb-true, ltb-true}
 use Rattle.task_model.specs.declared.Entry.{Entry}
-use Rattle.refusals.specs.Refusals.{Numbered, at, accepted, refused, _andThen_}
+use Rattle.refusals.specs.declared.Refusal.{Refusal}
+use Rattle.refusals.specs.declared.Checked.{Checked}
+use Rattle.refusals.specs.declared.Checked.the-variants.{Accepted, Refused}
+use Rattle.refusals.specs.Refusals.{Numbered, Outcome, at, accepted, refused, outcome, _andThen_}
 use Rattle.task_model.specs.Limits.{mostLevels, mostEntries, Node, AllHold}
 use Rattle.task_model.specs.Checks.{entryCheck, nodeCheck}
 use Rattle.node_words.specs.Words.{nodeOf}
@@ -73,6 +76,14 @@ module _ (o : Operation) (n : Node) where
   pub step-accepted : stepCheck o n ≡ accepted → (lentCheck o n ≡ accepted) × (operationCheck o n ≡ accepted)
   unfolding stepCheck
   step-accepted p = both-accepted _ _ p
+
+-- the same, of what the checks of a lent session answered
+module _ (o : Operation) (n : Node) (lent : Checked) (p : outcome lent ≡ lentCheck o n) where
+  pub lent-refused : {r : Refusal} → lent ≡ Refused r → outcome lent ≡ stepCheck o n
+  lent-refused e = ap outcome e ∙ sym (lent-stops o n _ (sym p ∙ ap outcome e))
+
+  pub lent-accepted : lent ≡ Accepted → {own : Outcome} → own ≡ operationCheck o n → own ≡ stepCheck o n
+  lent-accepted e h = h ∙ sym (lent-goes-on o n (sym p ∙ ap outcome e))
 
 -- each operation's checks
 module _ (n : Node) (p : ℕ) where
