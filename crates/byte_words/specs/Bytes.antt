@@ -3,11 +3,11 @@ use Prim.Native.Nat.{ℕ, zero, suc, _+_, _*_, _/_, _%_, _<_}
 use mathlib.Core.List.{List, [], _∷_, _++_}
 use lib.ListN.{getD}
 
--- A list of bytes.
+-- Every number of the list is a byte.
 abbrev pub Bytes : List ℕ → Type 0
 Bytes f = (i : ℕ) → getD f i 0 < 256
 
--- The `k` bytes of a number, low byte first.
+-- The low `k` bytes of a number, low byte first.
 unfoldable pub low : ℕ → ℕ → List ℕ
 low zero n = []
 low (suc k) n = n % 256 ∷ low k (n / 256)
@@ -17,7 +17,7 @@ unfoldable pub bytesOf : List ℕ → List ℕ
 bytesOf [] = []
 bytesOf (w ∷ ws) = low 4 w ++ bytesOf ws
 
--- The number that four bytes from byte `k` on hold, low byte first: a word.
+-- The word in the four bytes from byte `k` on, low byte first.
 unfoldable pub wordAt : List ℕ → ℕ → ℕ
 wordAt f k = getD f k 0 + getD f (k + 1) 0 * 256 + getD f (k + 2) 0 * 65536 + getD f (k + 3) 0 * 16777216
 

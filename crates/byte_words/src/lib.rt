@@ -12,7 +12,7 @@ pub fn wide(x: u8) -> u32
     x as u32
 }
 
-// The word that four bytes hold, low byte first.
+// The word in the four bytes from byte `k` on, low byte first.
 pub fn word_at(file: &[u8], k: usize) -> u32
     requires { ⌜ k + 4 ≤ length (now file) ⌝ }
     ensures { λ w. ⌜ w ≡ wordAt (now (file .entry)) k ⌝ }
@@ -23,7 +23,7 @@ pub fn word_at(file: &[u8], k: usize) -> u32
         + wide(file[k + 3]) * 16777216
 }
 
-// Copies words of a file, from byte `k` on, to a buffer's start.
+// Copies `count` words of a file, from byte `k` on, to the start of `words`.
 pub fn copy_words(file: &[u8], k: usize, words: &mut [u32], count: usize)
     requires { ⌜ (k + count * 4 ≤ length (now file)) × (count ≤ length (now words)) ⌝ }
     ensures { λ _. ⌜ now (words .exit) ≡ over (now (words .entry)) 0 (wordsFrom (now (file .entry)) k count) ⌝ }
@@ -35,7 +35,7 @@ pub fn copy_words(file: &[u8], k: usize, words: &mut [u32], count: usize)
     }
 }
 
-// Stores a word as four bytes, low byte first.
+// Stores a word as four bytes from byte `k` on, low byte first.
 pub fn put_word(file: &mut [u8], k: usize, word: u32)
     requires { ⌜ k + 4 ≤ length (now file) ⌝ }
     ensures { λ _. ⌜ now (file .exit) ≡ over (now (file .entry)) k (low 4 word) ⌝ }

@@ -1,4 +1,4 @@
--- Demands that are equal because what they read is.
+-- Demands are equal if everything that they read is equal.
 use Prim.Native.Nat.{ℕ, _+_, _-_, _*_, _≤_, _<_}
 use mathlib.Core.Path.{_≡_, _∙_, ap, ap₂, sym}
 use mathlib.Core.Bool.{_&&_, _||_, not}

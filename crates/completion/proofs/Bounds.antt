@@ -1,4 +1,4 @@
--- Bounds of what the code adds up, by the limits of an entry and of a node; and what is known of the limit of an entry.
+-- Bounds on the sums in the code, from the limits of an entry and of a node; and bounds on `limit`.
 use Prim.Native.Nat.{ℕ, _+_, _*_, _≤_}
 use native.Mathlib.Omega.{arith}
 use Rattle.task_model.specs.declared.Entry.{Entry}

@@ -1,4 +1,4 @@
--- The demand and the start by group bounds.
+-- The demand and the initial time, computed from the bounds of a group.
 use Prim.Native.Nat.{ℕ, _+_, _-_, _≤_, _<_, zero-le}
 use mathlib.Core.Path.{_≡_, _∙_, sym}
 use mathlib.Core.List.{List}

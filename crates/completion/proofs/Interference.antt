@@ -1,5 +1,5 @@
--- The demand as one sum of shares, and what follows for any levels: it never falls, the test starts at the demand of the
--- first tick, and it rises only with a release.
+-- The demand as one sum, with a term for each entry. For any levels it follows that the demand never falls and rises only
+-- with a release, and that the test starts at the demand of the first tick.
 use Prim.Native.Nat.{ℕ, _+_, _-_, _*_, _≤_, _<_, zero-le, min}
 use mathlib.Core.Path.{_≡_, _∙_, refl, ap, ap₂, sym}
 use mathlib.Core.Bool.{Bool, true, false, _&&_, _||_, not, true≢false}

@@ -1,4 +1,4 @@
--- Laws of the completion time test, one subject to a file, and its theorems.
+-- Laws of the completion time test, one subject per file, and its theorems.
 pub mod Bounds
 pub mod Sums
 pub mod Releases

@@ -1,4 +1,4 @@
--- The ceiling, the releases in a stretch of time, and the shares of a demand.
+-- The ceiling, the releases in an interval, and the interference of one entry.
 use Prim.Native.Nat.{ℕ, _+_, _-_, _*_, _/_, _≤_, _<_, min}
 use mathlib.Core.Path.{_≡_}
 use native.Mathlib.Nat.{zero-add, mul-zero, le-trans, le-antisymm, le-div-iff-mul-le, div-lt-iff-lt-mul, div-mul-le-self, mul-div-le, mul-one, one-mul, add-mul, mul-comm, mul-le-mul-left, mul-le-mul-right, min-le-left, min-eq-right}

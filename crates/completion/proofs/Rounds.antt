@@ -1,4 +1,4 @@
--- The rounds of the test by the iterates of the demand, for any demand w that never falls and any deadline d.
+-- The rounds of the test, in terms of the iterates of the demand, for any demand w that never falls and any deadline d.
 use Prim.Native.Nat.{ℕ, zero, suc, _+_, _-_, _≤_, _<_, zero-le}
 use mathlib.Core.Path.{_≡_, _∙_, refl, ap, ap₂, sym, subst}
 use mathlib.Core.Logic.{_⊎_, ⊎-elim, _↔_, by-cases}

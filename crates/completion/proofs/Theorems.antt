@@ -1,5 +1,5 @@
--- The theorems of the completion time test, for any levels of the entries and any blocking of the timed one; those of a
--- group, for any group bounds.
+-- The theorems of the completion time test. They hold for any levels of the entries and any blocking of the timed entry.
+-- Theorems about a group hold for any group bounds.
 use Prim.Native.Nat.{ℕ, _+_, _≤_, _<_}
 use mathlib.Core.Path.{_≡_, _∙_, refl, ap, sym}
 use mathlib.Core.Bool.{true, false, false≢true}

@@ -1,4 +1,4 @@
--- The demand and the start of an entry in a named group, by the words that hold the node.
+-- The demand and the initial time of an entry in a named group, computed from the words of the node.
 use Prim.Native.Nat.{ℕ, _+_, _-_, _≤_, _<_}
 use mathlib.Core.Path.{_≡_, _∙_, ap, sym}
 use mathlib.Core.List.{List}

@@ -22,7 +22,7 @@ unfoldable pub sumTo : (ℕ → ℕ) → ℕ → ℕ
 sumTo f zero = 0
 sumTo f (suc n) = sumTo f n + f n
 
--- x where the test holds, and else 0.
+-- x if the test holds, and else 0.
 abbrev pub only : Bool → ℕ → ℕ
 only true x = x
 only false x = 0
@@ -31,34 +31,35 @@ only false x = 0
 abbrev pub moreUrgent : (ℕ → ℕ) → ℕ → ℕ → Bool
 moreUrgent level i j = ltb (level j) (level i)
 
--- It is another entry on the level of the entry at i.
+-- The entry at j is another entry on the level of the entry at i.
 abbrev pub sharesLevel : (ℕ → ℕ) → ℕ → ℕ → Bool
 sharesLevel level i j = eqb (level j) (level i) && not (eqb j i)
 
--- What an entry on a more urgent level runs in `t` ticks: C × ⌈ t / T ⌉.
+-- The interference of an entry on a more urgent level in `t` ticks: C × ⌈ t / T ⌉.
 unfoldable pub higherLevelInterference : Entry → ℕ → ℕ
 higherLevelInterference e t = e .wcet * releases e t
 
--- What another entry on the level of an entry with `calls` remote calls runs: C × min(⌈ t / T ⌉, r + 1).
+-- The interference of another entry on the same level in `t` ticks, for an entry with `calls` remote calls (r):
+-- C × min(⌈ t / T ⌉, r + 1).
 unfoldable pub sameLevelInterference : Entry → ℕ → ℕ → ℕ
 sameLevelInterference e calls t = e .wcet * min (releases e t) (calls + 1)
 
--- The demand of the entry at i at time t, where less urgent work can hold it up for b ticks: its own C and b, the entries
--- on more urgent levels, and the others on its own.
+-- The demand of the entry at i at time t, with a blocking of b ticks: its own C, plus b, plus the interference of the
+-- entries on more urgent levels, plus that of the other entries on its own level.
 unfoldable pub demandWith : ℕ → List Entry → (ℕ → ℕ) → ℕ → ℕ → ℕ
 demandWith b es level i t =
     entryAt es i .wcet + b
     + sumTo (λ j. only (moreUrgent level i j) (higherLevelInterference (entryAt es j) t)) (length es)
     + sumTo (λ j. only (sharesLevel level i j) (sameLevelInterference (entryAt es j) (entryAt es i .calls) t)) (length es)
 
--- The demand: its own C and B, the entries on more urgent levels, and the others on its own.
+-- The demand: the same with the entry's own B.
 abbrev pub demand : List Entry → (ℕ → ℕ) → ℕ → ℕ → ℕ
 demand es level i t = demandWith (entryAt es i .blocking) es level i t
 
--- Where the test starts: b, and C of every entry on its own and more urgent levels, itself included.
+-- The initial time t0 of the test: b plus the C of every entry on its own and more urgent levels, itself included.
 unfoldable pub initialTimeWith : ℕ → List Entry → (ℕ → ℕ) → ℕ → ℕ
 initialTimeWith b es level i = b + sumTo (λ j. only (leb (level j) (level i)) (entryAt es j .wcet)) (length es)
 
--- With B of the entry at i.
+-- The same with the entry's own B.
 abbrev pub initialTime : List Entry → (ℕ → ℕ) → ℕ → ℕ
 initialTime es level i = initialTimeWith (entryAt es i .blocking) es level i

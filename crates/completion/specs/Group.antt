@@ -1,21 +1,23 @@
--- A group of neighbours: the entries of one level. Those before it are more urgent, those after it less.
+-- A group: the entries of one level, which are neighbours in the list. Entries before the group are more urgent, entries
+-- after it less.
 use Prim.Native.Nat.{ℕ, _≤_, _<_}
 use mathlib.Core.Path.{_≡_}
 use mathlib.Core.Bool.{true, false}
 use lib.Dec.{ltb}
 use Rattle.task_model.specs.Limits.{mostEntries}
 
--- Positions that name a group of n entries, from `first` to `last`, and the entry at i in it.
+-- Among n entries, at most 64, the group from `first` to `last` contains the entry at i.
 abbrev pub InGroup : ℕ → ℕ → ℕ → ℕ → Type 0
 InGroup n first last i = (first ≤ i) × (i ≤ last) × (last < n) × (n ≤ mostEntries)
 
--- The group of the entry at i is from `first` to `last`, among n entries with the levels `level`.
+-- Under the levels `level` of n entries, the group of the entry at i is from `first` to `last`.
 pub record IsGroup (n first last i : ℕ) (level : ℕ → ℕ) : Type 0 where
   pub before : (j : ℕ) → j < first → level j < level i
   pub inside : (j : ℕ) → first ≤ j → j ≤ last → level j ≡ level i
   pub after : (j : ℕ) → last < j → j < n → level i < level j
 
--- The level of position j where a group is named by its first and last position: 1 before it, 2 in it, 3 after it.
+-- Levels for a group that is named by its first and last position: position j has level 1 before the group, 2 in it, 3
+-- after it.
 unfoldable pub groupLevel : ℕ → ℕ → ℕ → ℕ
 groupLevel first last j =
     elim (ltb j first) [

@@ -3,5 +3,5 @@ pub mod Demand
 pub mod Test
 pub mod Group
 pub mod Rounds
--- Of these only the theorems speak.
+-- Only the theorems use these.
 pub mod Right

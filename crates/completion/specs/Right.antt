@@ -1,4 +1,4 @@
--- What is right of an answer of the test, by the demand alone.
+-- When an answer of the test is right, stated by the demand alone.
 use Prim.Native.Nat.{ℕ, _≤_}
 use mathlib.Core.Path.{_≡_}
 use mathlib.Core.Bool.{false}
@@ -9,25 +9,25 @@ use Rattle.task_model.specs.Limits.{entryAt}
 use Rattle.completion.specs.Demand.{demandWith}
 use Rattle.completion.specs.Test.{Completion, on-time, limit, isOnTime, roundsIn, roundsBound}
 
--- The least time whose demand, with the blocking b, is at most that time: the demand equals it there, it is at least 1, and
--- at most the entry's limit, its deadline.
+-- `time` is the least t whose demand, with the blocking b, is at most t. It is at least 1 and at most the entry's limit,
+-- which is its deadline. The demand at `time` equals `time`.
 pub record LeastTime (b : ℕ) (es : List Entry) (level : ℕ → ℕ) (i time : ℕ) : Type 0 where
   pub some : 1 ≤ time
   pub due : time ≤ limit (entryAt es i)
   pub equal : demandWith b es level i time ≡ time
   pub first : (t : ℕ) → demandWith b es level i t ≤ t → time ≤ t
 
--- No time up to the limit has a demand of at most that time.
+-- No t up to the limit has a demand of at most t.
 abbrev pub NoTime : ℕ → List Entry → (ℕ → ℕ) → ℕ → Type 0
 NoTime b es level i = (t : ℕ) → t ≤ limit (entryAt es i) → demandWith b es level i t ≤ t → ⊥
 
--- An answer for the entry at i, with the blocking b, is right: the time of an entry that is on time is the least, an entry
--- is late exactly if there is no such time, and the rounds are within their bound.
+-- An answer for the entry at i, with the blocking b, is right. If the answer is on time, its time is the least as above.
+-- The answer is late exactly if there is no such time up to the limit. Its rounds are within their bound.
 pub record RightWith (b : ℕ) (es : List Entry) (level : ℕ → ℕ) (i : ℕ) (o : Completion) : Type 0 where
   pub least : (time rounds : ℕ) → o ≡ on-time time rounds → LeastTime b es level i time
   pub lateIfNone : isOnTime o ≡ false ↔ NoTime b es level i
   pub bounded : roundsIn o ≤ roundsBound es level i
 
--- With its own B.
+-- The same with the entry's own B.
 abbrev pub RightTiming : List Entry → (ℕ → ℕ) → ℕ → Completion → Type 0
 RightTiming es level i o = RightWith (entryAt es i .blocking) es level i o

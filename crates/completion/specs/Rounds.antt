@@ -1,17 +1,18 @@
--- What the rounds are, without the test: the iterates of the demand from the start value.
+-- The rounds, defined without the test: by the iterates of the demand from the initial time.
 use Prim.Native.Nat.{ℕ, zero, suc, _+_, _≤_, _<_}
 use mathlib.Core.Path.{_≡_}
 
--- The iterates t0, t1, .. of w from t0.
+-- Iterate k of w from t0. The iterates are t0, w t0, w (w t0) and so on.
 unfoldable pub iterates : (ℕ → ℕ) → ℕ → ℕ → ℕ
 iterates w t0 zero = t0
 iterates w t0 (suc k) = w (iterates w t0 k)
 
--- A time at which the demand equals the time.
+-- t is a fixed point: the demand at t equals t.
 abbrev pub Fixed : (ℕ → ℕ) → ℕ → Type 0
 Fixed w t = w t ≡ t
 
--- On time at `time` in `rounds` rounds: the iterate before the last round is the first fixed one, and at most the limit d.
+-- On time at `time` in `rounds` rounds: iterate `rounds` - 1 is `time`. It is the first iterate that is a fixed point, and
+-- is at most the limit d.
 pub record FixedIn (w : ℕ → ℕ) (t0 d time rounds : ℕ) : Type 0 where
   pub last : ℕ
   pub counted : rounds ≡ last + 1
@@ -20,7 +21,8 @@ pub record FixedIn (w : ℕ → ℕ) (t0 d time rounds : ℕ) : Type 0 where
   pub first : (j : ℕ) → j < last → Fixed w (iterates w t0 j) → ⊥
   pub due : time ≤ d
 
--- Late in `rounds` rounds: as many iterates are at most the limit d and none of them is fixed, and the next is above it.
+-- Late in `rounds` rounds: the first `rounds` iterates are at most the limit d, and none of them is a fixed point. The next
+-- iterate is above d.
 pub record LateIn (w : ℕ → ℕ) (t0 d rounds : ℕ) : Type 0 where
   pub within : (j : ℕ) → j < rounds → iterates w t0 j ≤ d
   pub moving : (j : ℕ) → j < rounds → Fixed w (iterates w t0 j) → ⊥

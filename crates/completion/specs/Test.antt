@@ -22,12 +22,12 @@ abbrev pub completion : Timing → Completion
 completion (OnTime time rounds) = on-time time rounds
 completion (Late rounds) = late rounds
 
--- The limit of an entry: the last time, counted from its release, by which it may end. It is its deadline, D.
+-- The limit of an entry: the last time, counted from its release, by which it may end. This is the deadline D.
 unfoldable pub limit : Entry → ℕ
 limit e = e .deadline
 
--- While t is at most the limit d, the demand w is evaluated at t: if it equals t, t is the completion time, and else
--- it becomes the next t. `rounds` counts the evaluations made so far, and no more than `fuel` are made.
+-- While t is at most the limit d, evaluate the demand w at t. If w t equals t, t is the completion time; otherwise w t
+-- becomes the next t. `rounds` counts the evaluations so far, and at most `fuel` more are made.
 unfoldable pub iterate : (ℕ → ℕ) → ℕ → ℕ → ℕ → ℕ → Completion
 iterate w d zero t rounds = late rounds
 iterate w d (suc fuel) t rounds =
@@ -39,15 +39,15 @@ iterate w d (suc fuel) t rounds =
       ]
     ]
 
--- Every evaluation but the last raises t, so d + 1 - t of them are enough.
+-- The test from t on. Every evaluation but the last raises t, so d + 1 - t evaluations are enough.
 unfoldable pub testFrom : (ℕ → ℕ) → ℕ → ℕ → ℕ → Completion
 testFrom w d t rounds = iterate w d (d + 1 - t) t rounds
 
--- The test of the entry at i, where less urgent work can hold it up for b ticks.
+-- The test of the entry at i, with a blocking of b ticks.
 unfoldable pub testWith : ℕ → List Entry → (ℕ → ℕ) → ℕ → Completion
 testWith b es level i = testFrom (demandWith b es level i) (limit (entryAt es i)) (initialTimeWith b es level i) 0
 
--- The completion time test of the entry at i: with its own B.
+-- The completion time test of the entry at i, with its own B.
 abbrev pub completionTest : List Entry → (ℕ → ℕ) → ℕ → Completion
 completionTest es level i = testWith (entryAt es i .blocking) es level i
 
@@ -61,7 +61,7 @@ abbrev pub roundsIn : Completion → ℕ
 roundsIn (on-time time rounds) = rounds
 roundsIn (late rounds) = rounds
 
--- The bound on rounds: 1, and over the entries on the own and the more urgent levels without i, ⌈ D of i / T ⌉ - 1.
+-- The bound on rounds: 1 plus the sum of ⌈ D of i / T ⌉ - 1 over all entries but i on its own and more urgent levels.
 unfoldable pub roundsBound : List Entry → (ℕ → ℕ) → ℕ → ℕ
 roundsBound es level i =
     1 + sumTo (λ j. only (leb (level j) (level i) && not (eqb j i)) (releases (entryAt es j) (entryAt es i .deadline) - 1)) (length es)

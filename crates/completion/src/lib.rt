@@ -36,7 +36,7 @@ pub fn limit_of(e: Entry) -> u32
     e.deadline
 }
 
-// How often an entry is released in `t` ticks. The first period needs no division.
+// How often an entry is released in `t` ticks, at most. Up to the end of the first period no division is needed.
 fn releases_in(e: Entry, t: u32) -> u32
     requires { ⌜ TimesHold e ⌝ ∗ ⌜ (1 ≤ t) × (t ≤ mostTicks) ⌝ }
     ensures { λ n. ⌜ n ≡ releases e t ⌝ }
@@ -47,7 +47,7 @@ fn releases_in(e: Entry, t: u32) -> u32
     (t + (e.period - 1)) / e.period
 }
 
-// What an entry on a more urgent level runs in `t` ticks.
+// The interference of an entry on a higher level in `t` ticks.
 fn higher_level_interference(e: Entry, t: u32) -> u64
     requires { ⌜ TimesHold e ⌝ ∗ ⌜ (1 ≤ t) × (t ≤ mostTicks) ⌝ }
     ensures { λ x. ⌜ x ≡ higherLevelInterference e t ⌝ }
@@ -55,8 +55,8 @@ fn higher_level_interference(e: Entry, t: u32) -> u64
     e.wcet as u64 * releases_in(e, t) as u64
 }
 
-// What another entry on the level of an entry with `calls` remote calls runs in `t` ticks.
-// Past `calls` periods the count is at its limit, and no division is needed.
+// The interference of another entry on the same level in `t` ticks, for an entry with `calls` remote calls. It is limited
+// to `calls` + 1 jobs. After `calls` periods that limit is reached, and no division is needed.
 fn same_level_interference(e: Entry, calls: u8, t: u32) -> u64
     requires { ⌜ TimesHold e ⌝ ∗ ⌜ (1 ≤ t) × (t ≤ mostTicks) ⌝ }
     ensures { λ x. ⌜ x ≡ sameLevelInterference e calls t ⌝ }
@@ -67,7 +67,7 @@ fn same_level_interference(e: Entry, calls: u8, t: u32) -> u64
     higher_level_interference(e, t)
 }
 
-// What the entries before position `end` run in `t` ticks on more urgent levels.
+// The interference in `t` ticks of the entries before position `end`, which are on higher levels.
 fn higher_level_sum(words: &NodeWords, end: usize, t: u32) -> u64
     requires { ⌜ AllHold (entriesOf (now words) end) ⌝ ∗ ⌜ end ≤ mostEntries ⌝ ∗ ⌜ (1 ≤ t) × (t ≤ mostTicks) ⌝ }
     ensures { λ x. ⌜ x ≡ sumTo (λ j. higherLevelInterference (entryOf (now (words .entry)) j) t) end ⌝ }
@@ -79,7 +79,8 @@ fn higher_level_sum(words: &NodeWords, end: usize, t: u32) -> u64
     sum
 }
 
-// What the entries from position `begin` up to `end` run in `t` ticks beside an entry with `calls` remote calls.
+// The interference in `t` ticks of the entries from position `begin` to just before `end`, for an entry with `calls` remote
+// calls on their level.
 fn same_level_sum(words: &NodeWords, begin: usize, end: usize, calls: u8, t: u32) -> u64
     requires { ⌜ AllHold (entriesOf (now words) end) ⌝ ∗ ⌜ (begin ≤ end) × (end ≤ mostEntries) ⌝ ∗ ⌜ (1 ≤ t) × (t ≤ mostTicks) ⌝ }
     ensures { λ x. ⌜ x ≡ sumTo (λ j. sameLevelInterference (entryOf (now (words .entry)) j) calls t) end
@@ -92,8 +93,7 @@ fn same_level_sum(words: &NodeWords, begin: usize, end: usize, calls: u8, t: u32
     sum
 }
 
-// The demand at `t` of the entry at `i`, in the group from `first` to `last`, where less urgent work can hold it up for
-// `blocking` ticks.
+// The demand at `t` of the entry at `i`, in the group from `first` to `last`, with a blocking of `blocking` ticks.
 pub fn demand_at(
     words: &NodeWords,
     count: usize,
@@ -115,7 +115,7 @@ pub fn demand_at(
         + same_level_sum(words, i + 1, last + 1, own.calls, t)
 }
 
-// The longest runs of the entries before position `end`, added up.
+// The sum of C over the entries before position `end`.
 pub fn wcet_sum(words: &NodeWords, end: usize) -> u64
     requires { ⌜ AllHold (entriesOf (now words) end) ⌝ ∗ ⌜ end ≤ mostEntries ⌝ }
     ensures { λ x. ⌜ x ≡ sumTo (λ j. entryOf (now (words .entry)) j .wcet) end ⌝ }
@@ -128,7 +128,7 @@ pub fn wcet_sum(words: &NodeWords, end: usize) -> u64
     sum
 }
 
-// Where the test of the entry at `i` starts, in the group from `first` to `last`.
+// The initial time t0 of the test of the entry at `i`, in the group from `first` to `last`.
 fn initial_time(
     words: &NodeWords,
     count: usize,
@@ -143,8 +143,8 @@ fn initial_time(
     blocking as u64 + wcet_sum(words, last + 1)
 }
 
-// Times the entry at `i` of a node, in the group from `first` to `last`, where less urgent work can hold it up for `blocking`
-// ticks; the entries before the group are more urgent.
+// Times the entry at `i` of a node, in the group from `first` to `last`, with a blocking of `blocking` ticks. The entries
+// before the group are on higher levels.
 fn test_with(
     words: &NodeWords,
     count: usize,
@@ -173,7 +173,8 @@ fn test_with(
     Timing::Late { rounds }
 }
 
-// Times the entry at `i` of a node, in the group from `first` to `last`; the entries before it are more urgent.
+// Times the entry at `i` of a node, in the group from `first` to `last`, with its own B. The entries before the group are
+// on higher levels.
 pub fn completion_test(
     words: &NodeWords,
     count: usize,

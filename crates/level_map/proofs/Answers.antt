@@ -1,4 +1,4 @@
--- What the program answers and writes, against the map of the node.
+-- The program's answer, and the levels that it writes, agree with the map of the node.
 use Prim.Native.Nat.{ℕ, _≤_, _<_}
 use mathlib.Core.Path.{_≡_, refl, sym, _∙_, ap}
 use mathlib.Core.Option.{none}

@@ -1,4 +1,4 @@
--- Cuts and their levels: the groups that cuts name are the entries of each level.
+-- Cuts and their levels: each group between cuts has all entries of one level.
 use Prim.Native.Nat.{ℕ, zero, suc, _+_, _-_, _≤_, _<_, zero-le}
 use mathlib.Core.Path.{_≡_, refl, sym, _∙_}
 use mathlib.Core.List.{List, [], _∷_, _++_, append-assoc}

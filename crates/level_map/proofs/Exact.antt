@@ -1,5 +1,5 @@
--- The search is exact, over any test with the one law that it needs: the levels of its cuts are the first of the maps,
--- in order of preference, that passes.
+-- The search is exact, for any test with the one law that it needs: its cuts give the first passing map in order of
+-- preference.
 use Prim.Native.Nat.{ℕ, _-_, _≤_, _<_}
 use mathlib.Core.Path.{_≡_, sym, _∙_, ap}
 use mathlib.Core.Bool.{Bool, true}

@@ -1,4 +1,4 @@
--- Whether an entry is on time depends on its group alone, so a choice among assignments is one among groups.
+-- Whether an entry is on time depends only on its group. So a choice among assignments is a choice among groupings.
 use Prim.Native.Nat.{ℕ, zero, suc, _+_, _-_, _≤_, _<_}
 use mathlib.Core.Path.{_≡_, refl, sym, _∙_, ap}
 use mathlib.Core.Bool.{true}

@@ -1,5 +1,4 @@
--- The last group of a map, apart from the rest: the maps with one level more are those of fewer entries, each with a
--- last group.
+-- Splits off the last group of a map: a map with one more level is a map of fewer entries, followed by a last group.
 use Prim.Native.Nat.{ℕ, zero, suc, _+_, _-_, _≤_, _<_}
 use mathlib.Core.Path.{_≡_, refl, sym, ap}
 use mathlib.Core.List.{List, [], _∷_, _++_}

@@ -1,4 +1,4 @@
--- Laws of the map, one subject to a file, and its theorems.
+-- Laws of the map, one subject per file, and its theorems.
 pub mod Tests
 pub mod Lists
 pub mod Levels

@@ -1,4 +1,4 @@
--- Lists that a loop fills, a part with one value; and what stands in a list behind its head.
+-- Lists in which a loop fills a range with one value; and the elements of a list after its head.
 use Prim.Native.Nat.{ℕ, zero, suc, _+_, _-_, _≤_, _<_}
 use mathlib.Core.Path.{_≡_, refl, ap}
 use mathlib.Core.List.{List, [], _∷_, _++_}

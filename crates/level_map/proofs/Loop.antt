@@ -1,4 +1,4 @@
--- What the program's loop keeps while it cuts off groups, and what its ways out answer, over any test of groups.
+-- The invariant of the loop that cuts off groups, and the answer at each of its exits, for any test of groups.
 use Prim.Native.Nat.{ℕ, zero, suc, _+_, _-_, _≤_, _<_}
 use mathlib.Core.Path.{_≡_, refl, sym, _∙_, ap}
 use mathlib.Core.Bool.{Bool}

@@ -1,4 +1,4 @@
--- Maps by the levels that they use: a map with c levels is an assignment to the levels 1 to c that uses every one.
+-- Maps by the levels that they use: a map with c levels is an assignment to the levels 1 to c that uses each of them.
 use Prim.Native.Nat.{ℕ, suc, _≤_, _<_}
 use mathlib.Core.Path.{_≡_, sym, _∙_}
 use mathlib.Core.List.{List, [], _∷_}

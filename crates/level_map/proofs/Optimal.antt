@@ -1,4 +1,4 @@
--- The search's answer is the choice of 'The map', over any test of an entry in its group.
+-- The search answers with the map that `Chosen` defines, for any test of an entry in its group.
 use Prim.Native.Nat.{ℕ, zero, suc, _+_, _-_, _≤_, _<_, zero-le}
 use mathlib.Core.Path.{_≡_, sym, _∙_, ap}
 use mathlib.Core.Bool.{Bool, true}

@@ -1,5 +1,5 @@
--- The search over any test `ok i a e` of the entry at i in the group from position a up to, and without, position e:
--- what it finds, and that it leads every list of passing groups.
+-- The search, for any test `ok i a e` of the entry at i in the group from position a to just before e: what it finds, and
+-- that no list of passing groups is ahead of it.
 use Prim.Native.Nat.{ℕ, zero, suc, _+_, _-_, _≤_, _<_, zero-le}
 use mathlib.Core.Path.{_≡_, refl, sym, _∙_}
 use mathlib.Core.Bool.{Bool, true, false, true≢false, false≢true}

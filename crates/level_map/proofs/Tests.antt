@@ -1,4 +1,4 @@
--- Tests: by cases, and as numbers that `omega` reads.
+-- Laws of tests: by cases, and as facts about numbers that `omega` reads.
 use Prim.Native.Nat.{ℕ, _+_, _-_, min}
 use mathlib.Core.Path.{_≡_, refl}
 use mathlib.Core.Bool.{Bool, true, false}

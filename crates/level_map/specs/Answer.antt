@@ -1,5 +1,5 @@
 -- What the mapper answers (docs/SPEC.md, 'The order of the checks' and 'Promise 3: maps'). What it leaves in the buffer is
--- `left` of task_model's specs/Answers.
+-- `left` in specs/Answers of the crate refusals.
 use Prim.Native.Nat.{ℕ, _≤_}
 use mathlib.Core.Path.{_≡_}
 use mathlib.Core.Bool.{Bool, true, false}
@@ -22,11 +22,12 @@ abbrev pub answer : MappedNode → Answer ℕ
 answer (Levels count) = gives count
 answer (Refused r) = refuses (numbered r)
 
--- Whether there is a map; and its levels, one an entry, with none where there is no map.
+-- Whether there is a map.
 abbrev pub isSome : Option (List ℕ) → Bool
 isSome none = false
 isSome (some m) = true
 
+-- The levels of a map, one per entry, or the empty list if there is no map.
 abbrev pub levelsIn : Option (List ℕ) → List ℕ
 levelsIn none = []
 levelsIn (some m) = m
@@ -35,28 +36,27 @@ levelsIn (some m) = m
 unfoldable pub mapOf : Node → List ℕ
 mapOf n = levelsIn (theMap (n .entries) (n .levels))
 
--- Mapping a node that is at hand into a buffer of `room` bytes: 10 where a byte an entry does not fit, then 11 where no map
+-- The checks for mapping a node into a buffer of `room` bytes: 10 if there are fewer bytes than entries, then 11 if no map
 -- passes.
 unfoldable pub heldCheck : Node → ℕ → Outcome
 heldCheck n room =
     mustHold (leb (length (n .entries)) room) (at 10 0 0)
     andThen mustHold (isSome (theMap (n .entries) (n .levels))) (at 11 0 0)
 
--- It gives the count of the map's levels.
+-- The answer for mapping a node: the refusal, or the count of the map's levels.
 unfoldable pub heldAnswer : Node → ℕ → Answer ℕ
 heldAnswer n room = giving (heldCheck n room) (levelsUsed (mapOf n))
 
--- Promise 3: refused exactly when nothing passes, and what is given is the best. Of a map that is given with a count it
--- says: it is an assignment that lets every entry end by its deadline; it is the choice of 'The map' in docs/SPEC.md; its
--- different levels are as many as the count says, and no such assignment uses fewer.
+-- Promise 3 for a map m that is given with a count. Under m every entry ends by its deadline. m is the choice that
+-- docs/SPEC.md, 'The map', describes. It uses `count` different levels, and no passing assignment uses fewer.
 pub record Mapping (es : List Entry) (most count : ℕ) (m : List ℕ) : Type 0 where
   pub passing : Passing es most m
   pub chosen : Chosen (NoneLate es) most (length es) m
   pub counted : levelsUsed m ≡ count
   pub fewest : (a : List ℕ) → Passing es most a → count ≤ levelsUsed a
 
--- Promise 3 of an answer, with the map read from the buffer's start: refused exactly when no assignment lets every entry
--- end by its deadline; and otherwise a map.
+-- Promise 3 for an answer, with the map m read from the buffer's start. The answer is refusal 11 exactly if no assignment
+-- passes. Otherwise it is a count, with a map as above.
 pub record BestMapOrNone (es : List Entry) (most : ℕ) (a : Answer ℕ) (m : List ℕ) : Type 0 where
   pub refusal : (a ≡ refuses (at 11 0 0)) ↔ ((l : List ℕ) → Passing es most l → ⊥)
   pub given : (a ≡ refuses (at 11 0 0)) ⊎ ((count : ℕ) × (a ≡ gives count) × Mapping es most count m)

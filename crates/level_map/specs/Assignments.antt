@@ -8,29 +8,29 @@ use lib.Dec.{eqb}
 use Rattle.task_model.specs.declared.Entry.{Entry}
 use Rattle.completion.specs.Test.{completionTest, isOnTime}
 
--- An assignment is a list with one level an entry: the level of the entry at position i. Level 1 is the most urgent.
+-- The level of the entry at position i. An assignment is a list with one level per entry; level 1 is the most urgent.
 abbrev pub levelOf : List ℕ → ℕ → ℕ
 levelOf a i = getD a i 0
 
--- Each of n entries has a level from 1 to `most`, and levels never fall along the list. They may begin above 1, and may
--- skip.
+-- An assignment: each of n entries has a level from 1 to `most`, and levels never fall along the list. They may begin above
+-- 1 and may leave levels out.
 pub record Assignment (n most : ℕ) (a : List ℕ) : Type 0 where
   pub each : length a ≡ n
   pub low : (i : ℕ) → i < n → 1 ≤ levelOf a i
   pub high : (i : ℕ) → i < n → levelOf a i ≤ most
   pub rising : (i : ℕ) → suc i < n → levelOf a i ≤ levelOf a (suc i)
 
--- No entry is late: the completion time test answers on time for each. Entries with equal levels are a group, and the
--- test sees levels alone.
+-- No entry is late: the completion time test answers on time for each. Entries with equal levels are a group; the test
+-- needs only the levels.
 abbrev pub NoneLate : List Entry → List ℕ → Type 0
 NoneLate es a = (i : ℕ) → i < length es → isOnTime (completionTest es (levelOf a) i) ≡ true
 
--- An assignment to the levels 1 to `most` that lets every entry end by its deadline.
+-- A passing assignment: to the levels 1 to `most`, with every entry ending by its deadline.
 pub record Passing (es : List Entry) (most : ℕ) (a : List ℕ) : Type 0 where
   pub assignment : Assignment (length es) most a
   pub inTime : NoneLate es a
 
--- 1 where the test holds, and else 0.
+-- 1 if the test holds, and else 0.
 abbrev pub one : Bool → ℕ
 one true = 1
 one false = 0
@@ -40,7 +40,7 @@ abbrev pub sizeOf : ℕ → List ℕ → ℕ
 sizeOf l [] = 0
 sizeOf l (x ∷ xs) = one (eqb x l) + sizeOf l xs
 
--- The levels used: the different levels, counted. Each is counted where it stands last.
+-- The levels used: how many different levels there are. Each is counted at its last occurrence.
 abbrev pub levelsUsed : List ℕ → ℕ
 levelsUsed [] = 0
 levelsUsed (x ∷ xs) = one (eqb (sizeOf x xs) 0) + levelsUsed xs

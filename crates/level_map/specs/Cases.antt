@@ -17,10 +17,11 @@ use Rattle.level_map.specs.Map.{theMap}
 abbrev pub entry : ℕ → ℕ → ℕ → ℕ → ℕ → ℕ → Entry
 entry n c t d r b = record { number = n; kind = 1; calls = r; wcet = c; period = t; deadline = d; blocking = b }
 
--- Unless said, r and B are 0.
+-- A task with r and B 0.
 abbrev pub task : ℕ → ℕ → ℕ → ℕ → Entry
 task n c t d = entry n c t d 0 0
 
+-- The entries of each case.
 abbrev pub caseP : List Entry
 caseP = task 1 20 100 100 ∷ task 2 30 145 145 ∷ task 3 68 150 150 ∷ []
 
@@ -57,62 +58,67 @@ countTo (suc n) = countTo n ++ (suc n ∷ [])
 abbrev pub numbers : List Entry → List ℕ
 numbers es = map (λ (e : Entry). e .number) es
 
--- Every entry's answer under the levels `a`.
+-- The answers for the first n entries, under the levels `a`.
 unfoldable pub answersTo : List Entry → List ℕ → ℕ → List Completion
 answersTo es a zero = []
 answersTo es a (suc n) = answersTo es a n ++ (completionTest es (levelOf a) n ∷ [])
 
+-- The answers for all entries.
 abbrev pub answers : List Entry → List ℕ → List Completion
 answers es a = answersTo es a (length es)
 
--- The completion time alone.
+-- The completion time of an answer, if it has one.
 abbrev pub timeIn : Completion → Option ℕ
 timeIn (on-time time rounds) = some time
 timeIn (late rounds) = none
 
+-- The completion times of all entries.
 abbrev pub times : List Entry → List ℕ → List (Option ℕ)
 times es a = map timeIn (answers es a)
 
--- A misread demand: ⌊t/T⌋ for the other entries of the own level, as Bethmangalkar prints it (equation 4.2).
+-- A wrong demand: ⌊t/T⌋ for the other entries on the same level, as Bethmangalkar prints it (equation 4.2).
 unfoldable pub floorDemand : List Entry → (ℕ → ℕ) → ℕ → ℕ → ℕ
 floorDemand es level i t =
     entryAt es i .wcet + entryAt es i .blocking
     + sumTo (λ j. only (moreUrgent level i j) (higherLevelInterference (entryAt es j) t)) (length es)
     + sumTo (λ j. only (sharesLevel level i j) (entryAt es j .wcet * min (t / entryAt es j .period) (entryAt es i .calls + 1))) (length es)
 
--- Another: one run only of each other entry of the own level.
+-- Another wrong demand: only one job of each other entry on the same level.
 unfoldable pub oneRunDemand : List Entry → (ℕ → ℕ) → ℕ → ℕ → ℕ
 oneRunDemand es level i t =
     entryAt es i .wcet + entryAt es i .blocking
     + sumTo (λ j. only (moreUrgent level i j) (higherLevelInterference (entryAt es j) t)) (length es)
     + sumTo (λ j. only (sharesLevel level i j) (entryAt es j .wcet)) (length es)
 
--- The least of n times from t on whose demand is at most the time.
+-- Among the n times from t on, the least whose demand is at most that time, if there is one.
 unfoldable pub leastFrom : (ℕ → ℕ) → ℕ → ℕ → Option ℕ
 leastFrom w zero t = none
 leastFrom w (suc n) t = elim (leb (w t) t) [ true ↦ some t | false ↦ leastFrom w n (suc t) ]
 
--- What a line of the table says of a node.
+-- What a line of the table says about a node, given by its entries.
 pub data Claim : Type 0 where
-  -- with so many levels it is a node within the limits, and its entries are numbered 1, 2, 3 and so on
+  -- with this count of levels, it is a node within the limits, and its entries are numbered 1, 2, 3 and so on
   a-node : (es : List Entry) (levels : ℕ) → Claim
-  -- with so many levels, this is its map, with so many levels used
+  -- with this count of levels, its map is m, which uses `used` levels
   maps-to : (es : List Entry) (levels : ℕ) (m : List ℕ) (used : ℕ) → Claim
-  -- with so many levels it has no map
+  -- with this count of levels, it has no map
   no-map : (es : List Entry) (levels : ℕ) → Claim
-  -- under these levels, each entry's answer, with the rounds; or the times alone
+  -- under the levels `a`, the answers for its entries, with the rounds; or the times alone
   answered : (es : List Entry) (a : List ℕ) → List Completion → Claim
   timed : (es : List Entry) (a : List ℕ) → List (Option ℕ) → Claim
-  -- under these levels, the answer for the entry at i
+  -- under the levels `a`, the answer for the entry at i
   answered-at : (es : List Entry) (a : List ℕ) (i : ℕ) → Completion → Claim
-  -- under these levels, the entry at i is late; were its deadline `t`, it would take `t`
+  -- under the levels `a`, the entry at i is late; with a deadline of t, it would end at t
   would-take : (es : List Entry) (a : List ℕ) (i t : ℕ) → Claim
+  -- under the levels `a`, the entry at i is late
   late-at : (es : List Entry) (a : List ℕ) (i : ℕ) → Claim
-  -- under these levels, the floor would have the entry at i end at `t`, by its deadline
+  -- under the levels `a`, with the floor, the entry at i would end at t, by its deadline
   floor-at : (es : List Entry) (a : List ℕ) (i t : ℕ) → Claim
-  -- one own-level run only would have the entry at i end at `t`; it does not end then
+  -- under the levels `a`, with one job per other entry of its level, the entry at i would end at t; its real demand at t is
+  -- above t
   one-run-at : (es : List Entry) (a : List ℕ) (i t : ℕ) → Claim
 
+-- What each line means.
 abbrev pub Holds : Claim → Type 0
 Holds (a-node es levels) =
     NodeHolds (record { levels = levels; entries = es }) × (numbers es ≡ countTo (length es))
@@ -130,11 +136,12 @@ Holds (one-run-at es a i t) =
     (timeIn (testFrom (oneRunDemand es (levelOf a) i) (entryAt es i .deadline) (initialTime es (levelOf a) i) 0) ≡ some t)
     × (t < demand es (levelOf a) i t)
 
+-- Every line of a list holds.
 abbrev pub All : List Claim → Type 0
 All [] = Unit
 All (c ∷ cs) = Holds c × All cs
 
--- The table. Positions count from 0: entry 1 of a listing is at 0.
+-- The table. Positions count from 0: the entry with number 1 is at position 0.
 unfoldable pub cases : List Claim
 cases =
     -- P: the map and the figures of its listing. Q: third D 138, same times. R: third D 137, no map.
@@ -146,21 +153,21 @@ cases =
     ∷ answered caseQ (1 ∷ 2 ∷ 2 ∷ []) (on-time 20 1 ∷ on-time 138 2 ∷ on-time 138 2 ∷ [])
     ∷ a-node caseR 2
     ∷ no-map caseR 2
-    -- F: P with 1 level, no map: entry 1 would take 118. The floor would pass it.
+    -- F: P with 1 level, no map: entry 1 would take 118. With the floor, all three would be on time.
     ∷ a-node caseF 1
     ∷ no-map caseF 1
     ∷ would-take caseF (1 ∷ 1 ∷ 1 ∷ []) 0 118
     ∷ floor-at caseF (1 ∷ 1 ∷ 1 ∷ []) 0 20
     ∷ floor-at caseF (1 ∷ 1 ∷ 1 ∷ []) 1 30
     ∷ floor-at caseF (1 ∷ 1 ∷ 1 ∷ []) 2 68
-    -- H: third alone late, last two together late; all on level 1: times 5, 5, 8.
+    -- H: the third is late alone, and late together with the second. All on level 1: times 5, 5, 8.
     ∷ a-node caseH 3
     ∷ late-at caseH (1 ∷ 2 ∷ 3 ∷ []) 2
     ∷ late-at caseH (1 ∷ 1 ∷ 2 ∷ []) 2
     ∷ late-at caseH (1 ∷ 2 ∷ 2 ∷ []) 2
     ∷ maps-to caseH 3 (1 ∷ 1 ∷ 1 ∷ []) 1
     ∷ timed caseH (1 ∷ 1 ∷ 1 ∷ []) (some 5 ∷ some 5 ∷ some 8 ∷ [])
-    -- S: no map, for the third reaches 148, and all on one level the first needs 128.
+    -- S: no map. The third would take 148; with all on one level, the first would take 128.
     ∷ a-node caseS 3
     ∷ no-map caseS 3
     ∷ would-take caseS (1 ∷ 2 ∷ 3 ∷ []) 2 148
@@ -171,7 +178,8 @@ cases =
     ∷ a-node caseU 2
     ∷ maps-to caseU 2 (1 ∷ 1 ∷ 2 ∷ []) 2
     ∷ timed caseU (1 ∷ 1 ∷ 2 ∷ []) (some 60 ∷ some 60 ∷ some 148 ∷ [])
-    -- V: together, second 16, rounds 2; apart, 18, rounds 3. One own-level run only gives 15 and is wrong.
+    -- V: on one level, the second has time 16, rounds 2; on two levels, 18, rounds 3. With one own-level job only it would
+    -- be 15, which is wrong.
     ∷ a-node caseV 2
     ∷ answered-at caseV (1 ∷ 1 ∷ []) 1 (on-time 16 2)
     ∷ answered-at caseV (1 ∷ 2 ∷ []) 1 (on-time 18 3)

@@ -1,4 +1,4 @@
--- What the search asks of a group, and of where it can start. No public promise goes by it.
+-- When a group passes, and where it can start: what the search computes. No public promise mentions it.
 use Prim.Native.Nat.{ℕ, _+_, _-_, _≤_, _<_}
 use mathlib.Core.Path.{_≡_}
 use mathlib.Core.Bool.{Bool, true}
@@ -14,16 +14,16 @@ use Rattle.level_map.specs.declared.Start.the-variants.{At, Nowhere}
 abbrev pub added : ℕ → ℕ
 added end = 0
 
--- The entry at i is on time in the group from position `first` up to, and without, `end`, where the end of the group adds
--- `more` ticks to its blocking.
+-- The entry at i is on time in the group from `first` to just before `end`, if the end of the group adds `more` ticks to
+-- its blocking.
 abbrev pub onTimeIn : List Entry → ℕ → ℕ → ℕ → ℕ → Bool
 onTimeIn es more i first end = isOnTime (testWith (entryAt es i .blocking + more) es (groupLevel first (end - 1)) i)
 
--- None of the entries from `first` up to, and without, `end` is late as a group.
+-- The group from `first` to just before `end` passes: none of its entries is late.
 abbrev pub GroupPasses : List Entry → ℕ → ℕ → ℕ → Type 0
 GroupPasses es more end first = (i : ℕ) → first ≤ i → i < end → onTimeIn es more i first end ≡ true
 
--- The least start of a passing group that ends before `end`, or that there is none.
+-- The least start of a passing group that ends just before `end`, or that there is none.
 abbrev pub LeastStart : (ℕ → Type 0) → ℕ → Start → Type 0
 LeastStart Passes end (At start) = (start < end) × Passes start × ((b : ℕ) → b < start → Passes b → ⊥)
 LeastStart Passes end Nowhere = (b : ℕ) → b < end → Passes b → ⊥

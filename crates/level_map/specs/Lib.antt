@@ -3,6 +3,6 @@ pub mod Assignments
 pub mod Map
 pub mod Answer
 pub mod Cases
--- Need no belief: they name what the search asks, and where it cuts a node into groups.
+-- A reader need not believe these: they name what the search computes about groups, and where it cuts a node.
 pub mod Groups
 pub mod Cuts

@@ -1,4 +1,4 @@
-// The map of a node: each entry's level, on as few levels as the deadlines allow.
+// The map of a node: a level for each entry, with as few levels as the deadlines allow.
 ghost use mathlib.Core.Path.{_≡_};
 ghost use mathlib.Core.List.{_∷_, _++_};
 ghost use Prim.Native.Nat.{_-_, _≤_};
@@ -19,13 +19,13 @@ use on_time::start_bound;
 use refusals::Refusal;
 use task_model::MOST_ENTRIES;
 
-// A map, with the number of its levels, or why there is none.
+// The number of levels of the map that was written, or why there is none.
 pub enum MappedNode {
     Levels(u8),
     Refused(Refusal),
 }
 
-// Into how many groups a node's map cuts it, or that no map passes.
+// The number of groups in a node's map, or that no map passes.
 pub enum Cut {
     Groups(u8),
     NoMap,
@@ -37,9 +37,9 @@ enum Start {
     Nowhere,
 }
 
-// The least start of a group that ends just before `end` and has no late entry. An entry that is late stays late in each
-// group that starts later and has it, since what leaves its level becomes more urgent: so the next start to try is behind
-// it, and the last entries, which rule out the most starts, are asked first. Of a longer group its lateness says nothing.
+// The least start of a group that ends just before `end` and has no late entry. A late entry is also late in every narrower
+// group that contains it, because the entries that leave its level become more urgent. So the next start to try is one past
+// the late entry. Tests begin with the last entry, because it rules out the most starts. A wider group may still pass.
 // `added` is what the end of the group adds to the blocking of its entries.
 fn least_start(words: &NodeWords, count: usize, end: usize, added: u32) -> Start
     requires { ⌜ AllHold (entriesOf (now words) count) ⌝ ∗ ⌜ (end ≤ count) × (count ≤ mostEntries) × (added ≤ mostTicks) ⌝ }
@@ -64,9 +64,9 @@ fn least_start(words: &NodeWords, count: usize, end: usize, added: u32) -> Start
     Start::Nowhere
 }
 
-// Cuts a node into the groups of its map, on at most `most` levels: from the least urgent end, each group as long as it can
-// be. Leaves where each group starts at the front of `cuts`, the least urgent first, so that the last start is 0; with fewer
-// levels the cuts are the same, or too many.
+// Cuts a node into the groups of its map, with at most `most` levels. It works from the least urgent end and makes each
+// group as long as possible. It writes the start of each group to the front of `cuts`, least urgent group first, so the
+// last start is 0. The cuts do not depend on `most`: if there are more groups than levels, there is no map.
 pub fn find_cuts(words: &NodeWords, count: usize, most: u8, cuts: &mut [u8; MOST_ENTRIES]) -> Cut
     requires { ⌜ AllHold (entriesOf (now words) count) ⌝ ∗ ⌜ (count ≤ mostEntries) × (length (now cuts) ≡ mostEntries) ⌝ }
     ensures { λ a. ⌜ CutAnswer (theMap (entriesOf (now (words .entry)) count) most) count most a (now (cuts .exit)) ⌝ }
@@ -88,14 +88,14 @@ pub fn find_cuts(words: &NodeWords, count: usize, most: u8, cuts: &mut [u8; MOST
     Cut::Groups(groups)
 }
 
-// A position that an array of cuts holds.
+// A cut as a position.
 fn position(cut: u8) -> usize
     ensures { λ p. ⌜ p ≡ cut ⌝ }
 {
     cut as usize
 }
 
-// Where the group that starts at `cuts[g]` ends: where the next less urgent one starts, or behind the last entry.
+// One past the last entry of the group that starts at `cuts[g]`: the start of the next less urgent group, or `count`.
 pub fn group_end(cuts: &[u8; MOST_ENTRIES], g: u8, count: usize) -> usize
     requires { ⌜ g ≤ mostEntries ⌝ }
     ensures { λ e. ⌜ e ≡ getD (count ∷ now (cuts .entry)) g 0 ⌝ }
@@ -106,7 +106,7 @@ pub fn group_end(cuts: &[u8; MOST_ENTRIES], g: u8, count: usize) -> usize
     position(cuts[g as usize - 1])
 }
 
-// Writes the level of a group at its entries, those from `start` up to `end`.
+// Writes the level of a group for its entries, from `start` to just before `end`.
 fn fill_level(out: &mut [u8], start: usize, end: usize, level: u8)
     requires { ⌜ (start ≤ end) × (end ≤ length (now out)) ⌝ }
     ensures { λ a. ⌜ now (out .exit) ≡ take start (now (out .entry)) ++ (replicate (end - start) level ++ drop end (now (out .entry))) ⌝ }
@@ -116,7 +116,7 @@ fn fill_level(out: &mut [u8], start: usize, end: usize, level: u8)
     }
 }
 
-// Writes each entry's level, group by group; the bytes beyond are kept.
+// Writes each entry's level, group by group, and keeps the bytes beyond.
 fn write_levels(cuts: &[u8; MOST_ENTRIES], groups: u8, count: usize, out: &mut [u8])
     requires { ⌜ (groups ≤ length (now cuts)) × (count ≤ mostEntries) × (count ≤ length (now out)) ⌝ ∗ ⌜ Falling (take groups (now cuts)) count ⌝ }
     ensures { λ a. ⌜ now (out .exit) ≡ levelsOfCuts (take groups (now (cuts .entry))) count ++ drop count (now (out .entry)) ⌝ }
@@ -129,8 +129,8 @@ fn write_levels(cuts: &[u8; MOST_ENTRIES], groups: u8, count: usize, out: &mut [
     }
 }
 
-// Maps a node that is at hand and within the limits: one byte an entry from the start of `out`. Refuses a buffer with less
-// than a byte an entry (10), and a node without a map (11), and leaves the buffer untouched then.
+// Maps a node in memory that is within the limits: writes one byte per entry from the start of `out`. Refuses a buffer with
+// fewer bytes than entries (10), then a node without a map (11). A refusal leaves the buffer untouched.
 pub fn map_held(words: &NodeWords, count: usize, levels: u8, out: &mut [u8]) -> MappedNode
     requires { ⌜ NodeHolds (nodeOf (now words) count levels) ⌝ }
     ensures answered { λ a. ⌜ answer a ≡ heldAnswer (nodeOf (now (words .entry)) count levels) (length (now (out .entry))) ⌝ }

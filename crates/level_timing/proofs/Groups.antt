@@ -1,4 +1,5 @@
--- Under levels that never fall, the entries of one level are neighbours: the group from the first to the last of them.
+-- Under levels that never fall, the entries of one level are neighbours: they are the group from the first to the last of
+-- them.
 use Prim.Native.Nat.{ℕ, zero, suc, _+_, _-_, _≤_, _<_}
 use mathlib.Core.Path.{_≡_, _∙_, refl, ap}
 use mathlib.Core.List.{List}

@@ -8,13 +8,13 @@ use Rattle.level_map.specs.Assignments.{levelOf}
 abbrev pub NeverFalls : ℕ → List ℕ → Type 0
 NeverFalls n a = (j : ℕ) → suc j < n → levelOf a j ≤ levelOf a (suc j)
 
--- The first entry of the group of the entry at i: from there to i all levels are equal, and the one before differs.
+-- `first` begins the group of the entry at i: from there to i all levels are equal, and the level before differs.
 pub record FirstOf (a : List ℕ) (i first : ℕ) : Type 0 where
   pub within : first ≤ i
   pub same : (j : ℕ) → first ≤ j → j ≤ i → levelOf a j ≡ levelOf a i
   pub other : (j : ℕ) → suc j ≡ first → levelOf a j ≡ levelOf a i → ⊥
 
--- The last one, among n entries.
+-- `last` ends the group of the entry at i, among n entries.
 pub record LastOf (n : ℕ) (a : List ℕ) (i last : ℕ) : Type 0 where
   pub within : i ≤ last
   pub inside : last < n

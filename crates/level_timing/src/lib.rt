@@ -1,4 +1,4 @@
-// The timing of an entry under a list of levels: equal levels are a group.
+// Times an entry under a list of levels. Entries with equal levels are a group.
 ghost use mathlib.Core.Path.{_≡_};
 ghost use Prim.Native.Nat.{_≤_, _<_};
 ghost use Rattle.task_model.specs.Limits.{mostEntries, AllHold};
@@ -25,7 +25,7 @@ fn group_first(levels: &[u8; MOST_ENTRIES], i: usize) -> usize
     first
 }
 
-// The last position of the group of the entry at `i`, of `count` entries.
+// The last position of the group of the entry at `i`, among `count` entries.
 fn group_last(levels: &[u8; MOST_ENTRIES], count: usize, i: usize) -> usize
     requires { ⌜ (i < count) × (count ≤ mostEntries) ⌝ }
     ensures { λ last. ⌜ LastOf count (now (levels .entry)) i last ⌝ }

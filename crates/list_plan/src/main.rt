@@ -1,4 +1,4 @@
-// Lists the plan file on standard input: the listing, or the one line that the file is refused with, and nothing else.
+// Lists the plan file on standard input: writes its listing, or one line with the refusal, and nothing else.
 ghost use mathlib.Core.Path.{_≡_};
 ghost use mathlib.Core.List.{List};
 ghost use Prim.Native.Nat.{ℕ, _<_};
@@ -8,11 +8,11 @@ ghost use Rattle.listing.specs.Listing.{listing};
 ghost use Rattle.list_plan.specs.Input.{ReadOf};
 use listing::Listed;
 
-// One byte more than an input may have: an input of this length is refused, so the rest of it need not be read.
+// One byte more than an input may have. An input of this length is refused, so the rest of it need not be read.
 const READ_MOST: usize = 65537;
 
-// Makes the text that is written for an input of which the first `n` bytes of `array` were read: its listing, from the
-// start of a buffer that every listing fits into. Answers its length.
+// Lists an input of which the first `n` bytes of `array` were read. Writes the listing from the start of `text`, which has
+// room for every listing, and returns its length.
 fn list_read(array: &[u8], n: usize, text: &mut [u8; listing::MOST_TEXT]) -> usize
     requires { ⌜ Counts n (now array) ⌝ ∗ ⌜ 65536 < length (now array) ⌝ ∗ ⌜ length (now text) ≡ 115625 ⌝ }
     ensures { λ m. ⌜ Counts m (now (text .exit)) ⌝ }

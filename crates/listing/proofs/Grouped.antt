@@ -1,4 +1,4 @@
--- The lines of a node group by group: under the levels of its cuts they are those of the whole.
+-- The lines of a node, written group by group, are its lines under the levels of its cuts.
 use Prim.Native.Nat.{ℕ, zero, suc, _+_, _-_, _≤_, _<_}
 use mathlib.Core.Path.{_≡_, _∙_, refl, ap, ap₂, sym}
 use mathlib.Core.List.{List, [], _∷_, _++_, append-assoc, append-nil}

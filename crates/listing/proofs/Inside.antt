@@ -1,4 +1,4 @@
--- Texts that stand in a listing: a node's, and in it an entry's.
+-- A node's lines occur in the listing, and an entry's line occurs in its node's lines.
 use Prim.Native.Nat.{ℕ, zero, suc, _<_}
 use mathlib.Core.Path.{_≡_, _∙_, refl, sym, ap}
 use mathlib.Core.Logic.{by-cases}

@@ -1,4 +1,4 @@
--- A line as it grows: what was written of it, and how long that can be.
+-- A line while it is written: its text so far, and a bound on its length.
 use Prim.Native.Nat.{ℕ, _+_, _≤_, _<_, _^_, zero-le}
 use mathlib.Core.Path.{_≡_, _∙_}
 use mathlib.Core.List.{List, [], _++_}

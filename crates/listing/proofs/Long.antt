@@ -1,4 +1,4 @@
--- An input that is longer than any plan is answered as its beginning is.
+-- An input that is longer than any plan gets the same answer as its beginning.
 use Prim.Native.Nat.{ℕ, zero, suc, _+_, _*_, _≤_, _<_}
 use mathlib.Core.Path.{_≡_, _∙_, refl, ap, ap₂, sym}
 use mathlib.Core.Bool.{Bool, true, false, _&&_}

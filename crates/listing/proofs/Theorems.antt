@@ -1,4 +1,4 @@
--- The theorems of the listing, beside case P (Cases) and long inputs (Long).
+-- The theorems of the listing, apart from case P (Cases) and long inputs (Long).
 use Prim.Native.Nat.{ℕ, _<_}
 use mathlib.Core.Path.{_≡_, _∙_, ap, sym}
 use mathlib.Core.Bool.{false≢true}

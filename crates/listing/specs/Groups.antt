@@ -1,4 +1,4 @@
--- The lines of a group, which the program writes at a time. No public promise goes by them.
+-- The lines of one group, as the program writes them. No public promise mentions them.
 use Prim.Native.Nat.{ℕ, zero, suc, _+_}
 use mathlib.Core.List.{List, [], _++_}
 use Rattle.task_model.specs.declared.Entry.{Entry}
@@ -7,7 +7,7 @@ use Rattle.completion.specs.Group.{groupLevel}
 use Rattle.completion.specs.Test.{Completion, on-time, late, completionTest}
 use Rattle.listing.specs.Lines.{entryLine}
 
--- The line of an entry on a level, by the answer of its test; none where it is late.
+-- The line of an entry on a level, from the answer of its test. A late entry has no line.
 abbrev pub timedLine : Entry → ℕ → Completion → List ℕ
 timedLine e level (on-time time rounds) = entryLine (e .number) level time rounds
 timedLine e level (late rounds) = []

@@ -1,8 +1,8 @@
 -- What a reader of the listing must believe.
 pub mod Lines
 pub mod Listing
--- Need no belief: bounds that the functions inside go by, and the text of a group.
+-- A reader need not believe these: bounds that only internal functions use, and the text of a group.
 pub mod Room
 pub mod Groups
--- Of these only the theorems speak.
+-- Only the theorems use these.
 pub mod Timed

@@ -19,7 +19,7 @@ use Rattle.listing.specs.declared.Listed.{Listed}
 use Rattle.listing.specs.declared.Listed.the-variants.{Text, Refused}
 use Rattle.listing.specs.Lines.{planLine, nodeLine, noMapLine, entryLine, refusedLine}
 
--- The line of the entry at i under the levels of a map. No entry of a map is late.
+-- The line of the entry at i under the levels of a map. Under a node's map, no entry is late.
 unfoldable pub entryText : List Entry → List ℕ → ℕ → List ℕ
 entryText es m i =
     elim (completionTest es (levelOf m) i) [
@@ -32,7 +32,7 @@ unfoldable pub entriesText : List Entry → List ℕ → ℕ → List ℕ
 entriesText es m zero = []
 entriesText es m (suc n) = entriesText es m n ++ entryText es m n
 
--- A node: its number, the levels used, the levels available, and its entries; or that it has no map.
+-- The lines of a node: its number, the levels used, the levels available, and its entries; or that it has no map.
 unfoldable pub nodeText : ℕ → Node → List ℕ
 nodeText number n =
     elim (theMap (n .entries) (n .levels)) [
@@ -40,15 +40,16 @@ nodeText number n =
       | none ↦ noMapLine number
     ]
 
--- The first n nodes, in contents order.
+-- The lines of the first n nodes, in contents order.
 unfoldable pub nodesText : Plan → ℕ → List ℕ
 nodesText p zero = []
 nodesText p (suc n) = nodesText p n ++ nodeText (rowIn (p .rows) n .number) (nodeOfRow p n)
 
+-- The listing of a plan: its first line, and its nodes.
 unfoldable pub planText : Plan → List ℕ
 planText p = planLine (length (p .rows)) ++ nodesText p (length (p .rows))
 
--- A plan file: its listing, or the one line that it is refused with.
+-- The listing of a file: that of its plan, or one line with the refusal.
 unfoldable pub listing : List ℕ → List ℕ
 listing f =
     elim (fileCheck f) [
@@ -56,14 +57,16 @@ listing f =
       | accepted ↦ planText (planIn f)
     ]
 
--- The answer for a text: its length, or 10 where it does not fit. Its buffer then is `left` of task_model's specs/Answers.
+-- The answer for a text: its length, or 10 if it does not fit. What is left in the buffer is `left` in specs/Answers of the
+-- crate refusals.
 unfoldable pub textAnswer : List ℕ → ℕ → Answer ℕ
 textAnswer t room = giving (mustHold (leb (length t) room) (at 10 0 0)) (length t)
 
--- The answer for a file is that for its listing.
+-- The answer for a file: that for its listing.
 abbrev pub listAnswer : List ℕ → ℕ → Answer ℕ
 listAnswer f room = textAnswer (listing f) room
 
+-- What the code's answer says.
 abbrev pub listedGives : Listed → Answer ℕ
 listedGives (Text n) = gives n
 listedGives (Refused r) = refuses (numbered r)

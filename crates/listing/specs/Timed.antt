@@ -1,4 +1,4 @@
--- What an entry line says of its entry, and where it stands.
+-- What an entry's line says about the entry, and where the line occurs.
 use Prim.Native.Nat.{ℕ}
 use mathlib.Core.Path.{_≡_}
 use mathlib.Core.List.{List, _++_}
@@ -10,8 +10,8 @@ use Rattle.level_map.specs.Assignments.{levelOf}
 use Rattle.listing.specs.Lines.{entryLine}
 use Rattle.listing.specs.Listing.{entryText}
 
--- The entry at i has its line, with its completion time and its rounds under the map m, and these are right: the time is
--- the least, at most its deadline, and the rounds are within their bound.
+-- The entry at i has a line with its completion time and its rounds under the map m. Both are right: the time is the least,
+-- and at most the deadline; the rounds are within their bound.
 pub record TimedLine (es : List Entry) (m : List ℕ) (i : ℕ) : Type 0 where
   pub time : ℕ
   pub rounds : ℕ
@@ -19,7 +19,7 @@ pub record TimedLine (es : List Entry) (m : List ℕ) (i : ℕ) : Type 0 where
   pub tested : completionTest es (levelOf m) i ≡ on-time time rounds
   pub right : RightTiming es (levelOf m) i (on-time time rounds)
 
--- A text stands in another one: some text before it, itself, and some text after it.
+-- The text `part` occurs in `whole`, with some text before it and some text after it.
 pub record StandsIn (whole part : List ℕ) : Type 0 where
   pub before : List ℕ
   pub after : List ℕ

@@ -1,6 +1,7 @@
-// The whole listing, for a buffer of any length. How long a text is, is known only at its end, and a buffer that is too short
-// for it must stay untouched. So it is written straight into a buffer that has room for any plan of as many nodes, and else
-// into an array first. An array is filled with zeros when it is made: the fewer the nodes, the shorter the array.
+// The whole listing, for a buffer of any length. The length of the text is known only when it is complete, and a buffer
+// that is too short must stay untouched. So the text is written straight into the buffer if it has room for any plan with
+// this number of nodes, and otherwise into an array first. A new array is filled with zeros, which takes time, so plans
+// with fewer nodes get a shorter array.
 use super::Listed;
 use super::MOST_TEXT;
 use super::NODE_LINES;
@@ -21,7 +22,7 @@ ghost use Rattle.listing.specs.Lines.{refusedLine};
 ghost use Rattle.listing.specs.Listing.{listing, textAnswer, listAnswer, listedGives};
 ghost use Rattle.listing.specs.Room.{planMost};
 
-// Copies a text to the start of a buffer; refuses one that is too short (10).
+// Copies a text to the start of a buffer. Refuses a buffer that is too short (10).
 fn copy_text(text: &[u8], out: &mut [u8]) -> Listed
     ensures { λ a. ⌜ listedGives a ≡ textAnswer (now (text .entry)) (length (now (out .entry))) ⌝ }
     ensures { λ a. ⌜ now (out .exit) ≡ left (listedGives a) (now (text .entry)) (now (out .entry)) ⌝ }
@@ -33,7 +34,7 @@ fn copy_text(text: &[u8], out: &mut [u8]) -> Listed
     Listed::Text(text.len())
 }
 
-// The one line of a file that is refused.
+// The one line for a refused file.
 fn list_refusal(r: Refusal, out: &mut [u8]) -> Listed
     ensures { λ a. ⌜ listedGives a ≡ textAnswer (refusedLine (numbered r)) (length (now (out .entry))) ⌝ }
     ensures { λ a. ⌜ now (out .exit) ≡ left (listedGives a) (refusedLine (numbered r)) (now (out .entry)) ⌝ }
@@ -44,7 +45,7 @@ fn list_refusal(r: Refusal, out: &mut [u8]) -> Listed
     copy_text(&line[..n], out)
 }
 
-// The listing of an accepted file, made in `text` first.
+// The listing of an accepted file, written into `text` first.
 fn list_through(file: &[u8], nodes: usize, text: &mut [u8], out: &mut [u8]) -> Listed
     requires { ⌜ (fileCheck (now file) ≡ accepted) × (nodes ≡ nodeCount (now file)) ⌝ ∗ ⌜ planMost nodes ≤ length (now text) ⌝ }
     ensures { λ a. ⌜ listedGives a ≡ listAnswer (now (file .entry)) (length (now (out .entry))) ⌝ }
@@ -55,7 +56,7 @@ fn list_through(file: &[u8], nodes: usize, text: &mut [u8], out: &mut [u8]) -> L
     copy_text(&text[..n], out)
 }
 
-// The same of up to two nodes, with an array of its own.
+// The same for up to two nodes, with an array of its own.
 fn list_two(file: &[u8], nodes: usize, out: &mut [u8]) -> Listed
     requires { ⌜ (fileCheck (now file) ≡ accepted) × (nodes ≡ nodeCount (now file)) ⌝ ∗ ⌜ nodes ≤ 2 ⌝ }
     ensures { λ a. ⌜ listedGives a ≡ listAnswer (now (file .entry)) (length (now (out .entry))) ⌝ }
@@ -66,7 +67,7 @@ fn list_two(file: &[u8], nodes: usize, out: &mut [u8]) -> Listed
     list_through(file, nodes, &mut text, out)
 }
 
-// The same of up to eight nodes.
+// The same for up to eight nodes.
 fn list_eight(file: &[u8], nodes: usize, out: &mut [u8]) -> Listed
     requires { ⌜ (fileCheck (now file) ≡ accepted) × (nodes ≡ nodeCount (now file)) ⌝ ∗ ⌜ nodes ≤ 8 ⌝ }
     ensures { λ a. ⌜ listedGives a ≡ listAnswer (now (file .entry)) (length (now (out .entry))) ⌝ }
@@ -77,7 +78,7 @@ fn list_eight(file: &[u8], nodes: usize, out: &mut [u8]) -> Listed
     list_through(file, nodes, &mut text, out)
 }
 
-// The same of any plan.
+// The same for any plan.
 fn list_any(file: &[u8], nodes: usize, out: &mut [u8]) -> Listed
     requires { ⌜ (fileCheck (now file) ≡ accepted) × (nodes ≡ nodeCount (now file)) ⌝ }
     ensures { λ a. ⌜ listedGives a ≡ listAnswer (now (file .entry)) (length (now (out .entry))) ⌝ }
@@ -88,8 +89,8 @@ fn list_any(file: &[u8], nodes: usize, out: &mut [u8]) -> Listed
     list_through(file, nodes, &mut text, out)
 }
 
-// Lists a plan file, or writes the one line that it is refused with, from the start of `out`. Refuses only a buffer that
-// is too short for the text (10), and leaves it untouched then; `MOST_TEXT` bytes always suffice.
+// Lists a plan file from the start of `out`; for a refused file, the text is one line with the refusal. Refuses only a
+// buffer that is too short for the text (10), and leaves it untouched. `MOST_TEXT` bytes always suffice.
 pub fn list_plan(file: &[u8], out: &mut [u8]) -> Listed
     ensures { λ a. ⌜ listedGives a ≡ listAnswer (now (file .entry)) (length (now (out .entry))) ⌝ }
     ensures { λ a. ⌜ now (out .exit) ≡ left (listedGives a) (listing (now (file .entry))) (now (out .entry)) ⌝ }

@@ -1,5 +1,5 @@
-// The listing of a plan file, into a lent buffer. Each function writes from a position on, and answers the position
-// after what it wrote.
+// Writes the listing of a plan file into a lent buffer. Each function writes from position `at` on, and returns the
+// position after its text.
 mod aside;
 
 pub use aside::list_plan;
@@ -33,15 +33,15 @@ use task_model::MOST_ENTRIES;
 use text::put_bytes;
 use text::put_field;
 
-// The bytes of a first line, and of a node's lines, at most: 29 for its own and 56 for each of 64 entries.
+// The most bytes of the first line, and of a node's lines: 29 for its own line and 56 for each of 64 entries.
 const PLAN_LINE: usize = 9;
 
 const NODE_LINES: usize = 29 + 56 * MOST_ENTRIES;
 
-// No listing has more bytes.
+// The most bytes of a listing.
 pub const MOST_TEXT: usize = PLAN_LINE + 32 * NODE_LINES;
 
-// How long the text is that was written, or that it does not fit.
+// The length of the text that was written, or the refusal if it does not fit.
 pub enum Listed {
     Text(usize),
     Refused(Refusal),
@@ -145,7 +145,7 @@ fn put_refused_line(out: &mut [u8], at: usize, r: Refusal) -> usize
     put_bytes(out, next, b"\n")
 }
 
-// The line of the entry at `i`, in the group from `first` to `last` on a level.
+// The line of the entry at `i`, in the group from `first` to `last` on level `level`.
 fn put_entry(
     words: &NodeWords,
     count: usize,
@@ -170,7 +170,7 @@ fn put_entry(
     put_entry_line(out, at, e.number, level, time, rounds)
 }
 
-// The lines of a group: the entries from `first` up to `end`, on a level.
+// The lines of a group: the entries from `first` to just before `end`, on level `level`.
 fn put_group(
     words: &NodeWords,
     count: usize,
@@ -193,8 +193,8 @@ fn put_group(
     next
 }
 
-// The lines of a node's entries in listed order, group by group from where its map is cut; the most urgent group is the last
-// one in `cuts`.
+// The lines of a node's entries in listed order, group by group. `cuts` has the starts of the groups, the most urgent group
+// last.
 fn put_entries(
     words: &NodeWords,
     count: usize,
@@ -220,7 +220,7 @@ fn put_entries(
     next
 }
 
-// A node: its line and those of its entries, or that it has no map.
+// The lines of a node: its own line and those of its entries, or the line that it has no map.
 fn put_node(file: &[u8], row: usize, out: &mut [u8], at: usize) -> usize
     requires { ⌜ (fileCheck (now file) ≡ accepted) × (row < nodeCount (now file)) ⌝ ∗ ⌜ at + nodeMost ≤ length (now out) ⌝ }
     ensures { λ end.
@@ -239,7 +239,7 @@ fn put_node(file: &[u8], row: usize, out: &mut [u8], at: usize) -> usize
     put_entries(&words, count, &cuts, groups, out, next)
 }
 
-// The first `nodes` nodes, in contents order.
+// The lines of the first `nodes` nodes, in contents order.
 fn put_nodes(file: &[u8], nodes: usize, out: &mut [u8], at: usize) -> usize
     requires { ⌜ (fileCheck (now file) ≡ accepted) × (nodes ≤ nodeCount (now file)) ⌝
         ∗ ⌜ at + nodeMost * nodes ≤ length (now out) ⌝ }

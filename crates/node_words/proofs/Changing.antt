@@ -1,4 +1,4 @@
--- Laws of a list of entries that is changed where its words lie.
+-- Laws of a list of entries that is changed in place, in its words.
 use Prim.Native.Nat.{ℕ, suc, _+_, _-_, _*_, _≤_, _<_}
 use mathlib.Core.Path.{_≡_, _∙_, sym, ap}
 use mathlib.Core.List.{List, _∷_, _++_, append-assoc}

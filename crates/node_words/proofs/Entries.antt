@@ -1,4 +1,4 @@
--- Laws of the entries that words hold, and of their checks one by one.
+-- Laws of the entries that words hold, and of checking them one by one.
 use Prim.Native.Nat.{ℕ, zero, suc, _+_, _-_, _≤_, _<_}
 use mathlib.Core.Path.{_≡_, _∙_, refl, ap}
 use mathlib.Core.List.{List, _∷_}

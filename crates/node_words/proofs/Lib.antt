@@ -1,7 +1,7 @@
--- Laws that the functions' proofs and other crates cite.
+-- Laws for the proofs of functions, here and in other crates.
 pub mod Entries
 pub mod Words
 pub mod Copying
 pub mod Lists
--- A list that is changed where its words lie.
+-- A list that is changed in place, in its words.
 pub mod Changing

@@ -1,4 +1,4 @@
--- The lists that the changes make of a list: how long they are, and what holds of each of their entries.
+-- Lists after a change: their length, and what holds for each entry.
 use Prim.Native.Nat.{ℕ, zero, suc, _+_, _-_, _≤_, _<_}
 use mathlib.Core.Path.{_≡_, _∙_}
 use mathlib.Core.List.{List, [], _∷_, _++_}

@@ -1,5 +1,5 @@
--- Entries and their words: what is written of an entry is read as that entry, and the other way round. The first four laws
--- are about one entry; all others go by them and know neither how many words it has nor what is in them.
+-- Entries and their words: reading undoes writing, and writing undoes reading. The first four laws are about one entry. All
+-- others follow from them, and depend neither on the number of words of an entry nor on their contents.
 use Prim.Native.Nat.{ℕ, zero, suc, _+_, _-_, _*_, _/_, _%_, _≤_, _<_}
 use mathlib.Core.Path.{_≡_, _∙_, refl, sym, ap}
 use mathlib.Core.List.{List, [], _∷_, _++_, append-assoc}

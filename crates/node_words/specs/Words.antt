@@ -1,15 +1,16 @@
--- How entries lie in memory: five words of 32 bits to an entry, in the order and the widths of a plan file. The first
--- word has the number in its low 16 bits, then the kind and the calls in 8 bits each; then follow C, T, D and B.
+-- Entries in memory: five words of 32 bits per entry, with the fields in the order and the widths of a plan file. The first
+-- word has the number in its low 16 bits, then the kind and the calls in 8 bits each. The other words are C, T, D and B.
 use Prim.Native.Nat.{ℕ, zero, suc, _+_, _*_, _/_, _%_, _<_}
 use mathlib.Core.List.{List, [], _∷_, _++_}
 use lib.ListN.{getD}
 use Rattle.task_model.specs.declared.Entry.{Entry}
 use Rattle.task_model.specs.Limits.{mostEntries, Node}
 
--- The words of an entry, and of a node with all the entries that it may have.
+-- How many words an entry has.
 abbrev pub entrySize : ℕ
 entrySize = 5
 
+-- How many words a node has, with room for all its entries.
 abbrev pub nodeSize : ℕ
 nodeSize = mostEntries * entrySize
 
@@ -18,7 +19,7 @@ unfoldable pub entryWords : Entry → List ℕ
 entryWords e =
     (e .number + e .kind * 65536 + e .calls * 16777216) ∷ e .wcet ∷ e .period ∷ e .deadline ∷ e .blocking ∷ []
 
--- The entry that the words from word `k` on hold.
+-- The entry in the words from word `k` on.
 unfoldable pub entryFrom : List ℕ → ℕ → Entry
 entryFrom ws k =
     record {
@@ -45,13 +46,15 @@ unfoldable pub entriesFrom : List ℕ → ℕ → ℕ → List Entry
 entriesFrom ws j zero = []
 entriesFrom ws j (suc n) = entryOf ws j ∷ entriesFrom ws (suc j) n
 
+-- The first `n` entries.
 abbrev pub entriesOf : List ℕ → ℕ → List Entry
 entriesOf ws n = entriesFrom ws 0 n
 
+-- The node that has the first `n` entries and this number of levels.
 abbrev pub nodeOf : List ℕ → ℕ → ℕ → Node
 nodeOf ws n levels = record { levels = levels; entries = entriesOf ws n }
 
--- The widths of an entry's fields in bits: number 16, kind and r 8 each, C, T, D and B 32 each.
+-- An entry fits its words. The widths of its fields in bits: number 16, kind and r 8 each, C, T, D and B 32 each.
 pub record EntryFits (e : Entry) : Type 0 where
   pub number : e .number < 65536
   pub kind : e .kind < 256
@@ -61,10 +64,11 @@ pub record EntryFits (e : Entry) : Type 0 where
   pub deadline : e .deadline < 4294967296
   pub blocking : e .blocking < 4294967296
 
+-- Every entry of a list fits.
 abbrev pub EntriesFit : List Entry → Type 0
 EntriesFit [] = Unit
 EntriesFit (e ∷ es) = EntryFits e × EntriesFit es
 
--- Words of 32 bits.
+-- Every number of the list is a word of 32 bits.
 abbrev pub WordsFit : List ℕ → Type 0
 WordsFit ws = (i : ℕ) → getD ws i 0 < 4294967296

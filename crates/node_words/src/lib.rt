@@ -17,7 +17,7 @@ ghost use Rattle.task_model.specs.Limits.{mostEntries};
 ghost use Rattle.task_model.specs.Checks.{entriesCheck, nodeCheck};
 ghost use Rattle.node_words.specs.Words.{entrySize, nodeSize, entryWords, entryFrom, entryOf, entriesFrom, nodeOf};
 
-// How many words of 32 bits hold an entry, and a node with all the entries it may have (specs/Words.antt).
+// Sizes in words of 32 bits: of an entry, and of a node with room for all its entries (specs/Words.antt).
 pub const ENTRY_WORDS: usize = 5;
 
 pub const NODE_WORDS: usize = MOST_ENTRIES * ENTRY_WORDS;
@@ -41,7 +41,7 @@ pub fn entry_with(head: u32, wcet: u32, period: u32, deadline: u32, blocking: u3
     }
 }
 
-// The entry that five words of a slice hold, from word `k` on.
+// The entry in the five words of a slice from word `k` on.
 pub fn entry_of(words: &[u32], k: usize) -> Entry
     requires { ⌜ k + entrySize ≤ length (now words) ⌝ }
     ensures { λ e. ⌜ e ≡ entryFrom (now (words .entry)) k ⌝ }
@@ -55,7 +55,7 @@ pub fn entry_of(words: &[u32], k: usize) -> Entry
     )
 }
 
-// The entry at a position of a node's words.
+// The entry at a position of a node.
 pub fn entry_at(words: &NodeWords, position: usize) -> Entry
     requires { ⌜ position < mostEntries ⌝ }
     ensures { λ e. ⌜ e ≡ entryOf (now (words .entry)) position ⌝ }
@@ -75,8 +75,7 @@ pub fn store_entry(words: &mut [u32], k: usize, e: Entry)
     words[k + 4] = e.blocking;
 }
 
-// Accepts `count` entries that are all within the limits, from entry `first` of the words on; refuses the first that is
-// not.
+// Checks `count` entries, from entry `first` of the words on. Refuses the first that is not within the limits (7, 8).
 pub fn check_entries(row: usize, words: &[u32], first: usize, count: usize) -> Checked
     requires { ⌜ (first + count) * entrySize ≤ length (now words) ⌝ }
     ensures { λ a. ⌜ outcome a ≡ entriesCheck row 0 (entriesFrom (now (words .entry)) first count) ⌝ }
@@ -93,14 +92,14 @@ pub fn check_entries(row: usize, words: &[u32], first: usize, count: usize) -> C
     Checked::Accepted
 }
 
-// Accepts a node within the limits; refuses its level or entry count (4), then its first entry that breaks one.
+// Checks a node: its counts of levels and entries (4), then each entry (7, 8).
 pub fn check_node(row: usize, words: &NodeWords, count: usize, levels: u8) -> Checked
     ensures { λ a. ⌜ outcome a ≡ nodeCheck row (nodeOf (now (words .entry)) count levels) ⌝ }
 {
     check_words(row, words, count, levels as u32)
 }
 
-// The same for a node whose words lie in a slice, and a level count of 32 bits.
+// The same for a node whose words are a slice, and whose level count has 32 bits.
 pub fn check_words(row: usize, words: &[u32], count: usize, levels: u32) -> Checked
     requires { ⌜ nodeSize ≤ length (now words) ⌝ }
     ensures { λ a. ⌜ outcome a ≡ nodeCheck row (nodeOf (now (words .entry)) count levels) ⌝ }

@@ -1,5 +1,5 @@
-// The list of entries in the words of a node: what a change makes of them in place, whatever is checked of it. Every word
-// beyond the last entry is zero after it.
+// Changes of a node's list of entries, made in place in its words and without any check. After a change, every word beyond
+// the last entry is zero.
 use super::ENTRY_WORDS;
 use super::store_entry;
 use task_model::Entry;
@@ -12,7 +12,8 @@ ghost use Rattle.task_model.specs.Limits.{mostEntries};
 ghost use Rattle.node_words.specs.Words.{entrySize, nodeSize, wordsOf, entriesOf};
 ghost use Rattle.node_words.specs.Lists.{zeros, zeroPadded, insertAt, removeAt, replaceAt};
 
-// Moves `n` words up by one entry, from word `at` on, the last of them first.
+// Moves the `n` words from word `at` on up by one entry. The last word moves first, so none is overwritten before it has
+// moved.
 fn move_up(words: &mut [u32], at: usize, n: usize)
     requires { ⌜ at + entrySize + n ≤ length (now words) ⌝ }
     ensures { λ _. ⌜ now (words .exit) ≡ paste (now (words .entry)) (at + entrySize) (drop at (now (words .entry))) n ⌝ }
@@ -24,7 +25,7 @@ fn move_up(words: &mut [u32], at: usize, n: usize)
     }
 }
 
-// Moves `n` words down by one entry to word `at`, the first of them first.
+// Moves `n` words down by one entry, to word `at`. The first word moves first.
 fn move_down(words: &mut [u32], at: usize, n: usize)
     requires { ⌜ at + entrySize + n ≤ length (now words) ⌝ }
     ensures { λ _. ⌜ now (words .exit) ≡ paste (now (words .entry)) at (drop (at + entrySize) (now (words .entry))) n ⌝ }
@@ -45,7 +46,7 @@ pub fn clear_from(words: &mut [u32], at: usize)
     }
 }
 
-// Keeps a list of `count` entries, and nothing beyond it.
+// Keeps the first `count` entries, and clears every word beyond them.
 pub fn keep_list(words: &mut [u32], count: usize)
     requires { ⌜ (length (now words) ≡ nodeSize) × (count ≤ mostEntries) ⌝ }
     ensures { λ _. ⌜ now (words .exit) ≡ zeroPadded (wordsOf (entriesOf (now (words .entry)) count)) ⌝ }

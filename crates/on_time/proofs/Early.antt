@@ -1,4 +1,4 @@
--- What decides whether an entry is on time without its rounds, by the words that hold the node.
+-- Facts that decide whether an entry is on time without following its rounds, over the words of the node.
 use Prim.Native.Nat.{ℕ, _+_, _-_, _*_, _/_, _≤_, _<_}
 use native.Mathlib.Nat.{add-mul, mul-comm, one-mul, div-lt-iff-lt-mul}
 use mathlib.Core.Path.{_≡_, sym}

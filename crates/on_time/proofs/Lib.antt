@@ -1,4 +1,4 @@
--- Laws by which an answer needs fewer rounds.
+-- Laws that let a verdict need fewer rounds.
 pub mod Utilisation
 pub mod Early
 pub mod StartBound

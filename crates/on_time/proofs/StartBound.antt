@@ -1,4 +1,4 @@
--- The position behind the last entry that one run of each entry makes late.
+-- One past the last entry i < end with D < B + the sum of C before `end`.
 use Prim.Native.Nat.{ℕ, zero, suc, _+_, _-_, _≤_, _<_}
 use mathlib.Core.Path.{_≡_, _∙_, refl, sym}
 use mathlib.Core.Bool.{Bool, true, false}

@@ -1,4 +1,4 @@
--- The load of the more urgent entries, as a bound on the time at which a demand can be met.
+-- The utilisation of the entries on higher levels, as a lower bound on the time at which a demand can be met.
 use Prim.Native.Nat.{ℕ, zero, suc, _+_, _-_, _*_, _/_, _≤_, _<_, zero-le}
 use mathlib.Core.Path.{_≡_, refl, sym}
 use mathlib.Core.Logic.{by-cases}

@@ -1,5 +1,5 @@
 -- What a reader must believe.
 pub mod Deciding
--- Need no belief: they name what the code adds up and skips to spare rounds.
+-- A reader need not believe these: they name the sums and the bound that save the search rounds and tests.
 pub mod Utilisation
 pub mod StartBound

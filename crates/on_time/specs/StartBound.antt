@@ -1,4 +1,4 @@
--- A lower bound on the start of a group that ends just before `end` and passes. It spares the search tests; no public
+-- A lower bound on the start of a group that ends just before `end` and passes. It saves the search tests; no public
 -- promise mentions it.
 use Prim.Native.Nat.{ℕ, zero, suc, _+_}
 use mathlib.Core.Bool.{Bool, true, false}
@@ -9,7 +9,7 @@ use Rattle.task_model.specs.Limits.{entryAt}
 use Rattle.completion.specs.Demand.{sumTo}
 use Rattle.completion.specs.Test.{limit}
 
--- The limit of the entry at i is below B + the sum of C before `end`, so it is late wherever its group starts.
+-- The limit of the entry at i is below B + the sum of C before `end`. So the entry is late wherever its group starts.
 unfoldable pub lateByRuns : List Entry → ℕ → ℕ → Bool
 lateByRuns es end i = ltb (limit (entryAt es i)) (entryAt es i .blocking + sumTo (λ j. entryAt es j .wcet) end)
 
@@ -18,6 +18,6 @@ unfoldable pub pastLast : (ℕ → Bool) → ℕ → ℕ
 pastLast test zero = 0
 pastLast test (suc n) = elim (test n) [ true ↦ suc n | false ↦ pastLast test n ]
 
--- One past the last entry before `end` that is late in this way, or 0.
+-- One past the last entry before `end` with `lateByRuns`, or 0.
 unfoldable pub startBound : List Entry → ℕ → ℕ
 startBound es end = pastLast (lateByRuns es end) end

@@ -1,4 +1,4 @@
--- The utilisation of the entries on higher levels. It gives a lower bound on a completion time and so spares rounds; no
+-- The utilisation of the entries on higher levels. It gives a lower bound on a completion time and so saves rounds; no
 -- public promise mentions it.
 use Prim.Native.Nat.{ℕ, _*_, _/_}
 use lib.Dec.{ltb}
@@ -9,15 +9,16 @@ use Rattle.completion.specs.Demand.{only}
 abbrev pub fullUtilisation : ℕ
 fullUtilisation = 17179869184
 
--- C / T, rounded down.
+-- The utilisation C / T of an entry, rounded down.
 unfoldable pub utilisation : Entry → ℕ
 utilisation e = (fullUtilisation * e .wcet) / e .period
 
--- In t ticks an entry runs for at least its utilisation times t, and for at least C. The bound up to a limit d uses the
--- first for an entry that is released again before d (T < d), and the second for all others. These are the two parts of an
--- entry of the first kind, and 0 for one of the second.
+-- In t ticks an entry on a higher level runs for at least its utilisation times t, and for at least C. The lower bound up
+-- to a limit d uses the utilisation of entries that are released again before d (T < d), and C of all others. This is the
+-- utilisation of an entry with T < d, and else 0.
 unfoldable pub recurringUtilisation : ℕ → Entry → ℕ
 recurringUtilisation d e = only (ltb (e .period) d) (utilisation e)
 
+-- C of an entry with T < d, and else 0.
 unfoldable pub recurringWcet : ℕ → Entry → ℕ
 recurringWcet d e = only (ltb (e .period) d) (e .wcet)

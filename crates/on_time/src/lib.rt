@@ -77,8 +77,8 @@ fn spare_utilisation(utilisation: u64) -> u64
 }
 
 // A lower bound on the completion time of an entry: its initial time, or later if the entries on higher levels, those
-// before `first`, use much of the processor. What they leave must do for the work that is released once. If they leave
-// nothing, the demand is never met, and any time past the limit will do.
+// before `first`, use much of the processor. The work that is released once must fit into what they leave. If they leave
+// nothing, the demand is never met, and any time past the limit is a lower bound.
 fn completion_bound(words: &NodeWords, first: usize, limit: u32, initial: u64) -> u64
     requires { ⌜ AllHold (entriesOf (now words) first) ⌝ ∗ ⌜ first ≤ mostEntries ⌝
         ∗ ⌜ (sumTo (λ j. entryOf (now words) j .wcet) first < initial) × (initial ≤ limit) × (limit ≤ mostTicks) ⌝ }

@@ -1,4 +1,4 @@
--- Laws of the entries of a file, and of their check entry by entry and node by node.
+-- Laws of the entries of a file, and of checking them entry by entry and node by node.
 use Prim.Native.Nat.{ℕ, zero, suc, _+_, _-_, _*_, _≤_, _<_}
 use mathlib.Core.Path.{_≡_, _∙_, refl, ap}
 use mathlib.Core.List.{List, [], _∷_}

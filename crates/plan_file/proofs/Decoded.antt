@@ -1,4 +1,4 @@
--- The encoding of a plan within the checks is accepted, and holds that plan.
+-- The encoding of an accepted plan is an accepted file, and holds that plan.
 use Prim.Native.Nat.{ℕ, suc, _+_, _*_, _≤_, _<_}
 use mathlib.Core.Path.{_≡_, _∙_, refl, sym, ap}
 use mathlib.Core.List.{List, [], _∷_, _++_, append-assoc, append-nil}

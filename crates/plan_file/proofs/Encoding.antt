@@ -1,4 +1,4 @@
--- Laws of the encoding: lengths, and one row more at the end.
+-- Laws of the encoding: its lengths, and one more row at the end.
 use Prim.Native.Nat.{ℕ, _+_, _*_}
 use mathlib.Core.Path.{_≡_, refl, sym}
 use mathlib.Core.List.{List, [], _∷_, _++_, append-assoc, append-nil}

@@ -1,4 +1,4 @@
--- A function's second promise from its first. The sizes of bytes and words are what the types of its slices say.
+-- Derives a function's second promise from its first. The types of its slices bound bytes and words.
 use Prim.Native.Nat.{ℕ}
 use mathlib.Core.Path.{_≡_, _∙_, sym}
 use mathlib.Core.Logic.{_↔_}

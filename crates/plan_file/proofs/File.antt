@@ -1,4 +1,4 @@
--- What an accepted file says, and the file's checks one after another.
+-- What follows if a file is accepted, and the file's checks one after another.
 use Prim.Native.Nat.{ℕ, _+_, _*_}
 use mathlib.Core.Path.{_≡_}
 use mathlib.Core.List.{List}

@@ -1,4 +1,4 @@
--- What lies in a file, or in words of 32 bits, keeps the file's widths; and words hold what they are the words of.
+-- Rows and entries in a file, or in words of 32 bits, fit the file's widths; and the words of rows hold these rows.
 use Prim.Native.Nat.{ℕ, zero, suc, _+_, _*_}
 use mathlib.Core.Path.{_≡_, _∙_, refl}
 use mathlib.Core.List.{List, [], _∷_, map}

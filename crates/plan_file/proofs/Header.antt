@@ -1,4 +1,4 @@
--- What an accepted header says.
+-- What follows if a header is accepted.
 use Prim.Native.Nat.{ℕ, _≤_, _<_}
 use mathlib.Core.Path.{_≡_}
 use mathlib.Core.Bool.{true, false, _&&_}

@@ -1,4 +1,4 @@
--- Laws that the functions' proofs and other crates cite, and the theorems of plan files.
+-- Laws for the proofs of functions, here and in other crates, and the theorems of plan files.
 -- Checks one after another, and what their tests say.
 pub mod Tests
 -- Words, and the fields that they hold.
@@ -10,7 +10,7 @@ pub mod Bodies
 pub mod File
 pub mod Nodes
 pub mod Memory
--- The parts of a plan that the writer is handed, and what it stores.
+-- The parts of a plan that the writer is given, and what it stores.
 pub mod Encoding
 pub mod Rows
 pub mod Listed
@@ -19,7 +19,7 @@ pub mod WriterChecks
 pub mod Finding
 pub mod Reading
 pub mod Writing
--- Reader and writer are inverse.
+-- Reader and writer undo each other.
 pub mod Encoded
 pub mod Decoded
 pub mod Bytes
@@ -27,8 +27,8 @@ pub mod Fits
 -- What is accepted is within the limits.
 pub mod Limits
 pub mod Theorems
--- The same of the buffers, as calls leave them.
+-- The same for the buffers, as the calls leave them.
 pub mod RoundTrips
--- What functions ensure beside their answer.
+-- What functions promise beside their answer.
 pub mod Ensured
 pub mod Examples

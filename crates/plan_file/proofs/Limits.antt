@@ -1,4 +1,5 @@
--- A plan is accepted by the writer's checks exactly if it is within the limits; a file that is too long for one is not.
+-- The writer's checks accept a plan exactly if it is within the limits. A file that is longer than any plan's is not
+-- accepted.
 use Prim.Native.Nat.{ℕ, zero, suc, _+_, _*_, _/_, _≤_, _<_}
 use mathlib.Core.Path.{_≡_, _∙_, refl}
 use mathlib.Core.List.{List, [], _∷_}

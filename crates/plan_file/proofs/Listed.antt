@@ -1,4 +1,4 @@
--- Laws of the entries that the writer is handed, and of their check row by row.
+-- Laws of the entries that the writer is given, and of checking them row by row.
 use Prim.Native.Nat.{ℕ, zero, suc, _+_, _-_, _≤_, _<_}
 use mathlib.Core.Path.{_≡_, _∙_, refl, ap}
 use mathlib.Core.List.{List, _∷_}

@@ -1,4 +1,4 @@
--- Laws of the words of a file as a plan or a node lies in memory.
+-- Laws of the words of a file, taken as a plan or a node in memory.
 use Prim.Native.Nat.{ℕ, zero, suc, _+_, _*_, _<_}
 use mathlib.Core.Path.{_≡_, _∙_, refl, sym, ap}
 use mathlib.Core.List.{List, _++_}

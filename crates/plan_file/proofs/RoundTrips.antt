@@ -1,4 +1,4 @@
--- The round trips of what the calls leave in the buffers.
+-- Reader and writer undo each other, from the buffers as the calls leave them.
 use Prim.Native.Nat.{ℕ, _*_, _/_, _≤_}
 use mathlib.Core.Path.{_≡_, _∙_, refl, sym, ap}
 use mathlib.Core.Bool.{Bool, true, false}

@@ -1,4 +1,4 @@
--- Laws of the rows that the writer is handed, one word to a row, and of their check row by row.
+-- Laws of the rows that the writer is given, one word per row, and of checking them row by row.
 use Prim.Native.Nat.{ℕ, _+_, _-_, _*_, _≤_, _<_}
 use mathlib.Core.Path.{_≡_, _∙_, sym, ap}
 use mathlib.Core.Bool.{true, false}

@@ -1,4 +1,4 @@
--- What the tests of a file's header and of a row say of the numbers.
+-- What the tests of a file's header and of a row say about their numbers.
 use Prim.Native.Nat.{ℕ, _≤_}
 use mathlib.Core.Path.{_≡_}
 use mathlib.Core.Bool.{true, false, _&&_}

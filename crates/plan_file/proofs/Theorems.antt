@@ -1,4 +1,5 @@
--- The theorems of plan files. Those of memory speak of what the contracts of `read_plan`, `write_plan` and `find_node` name.
+-- The theorems of plan files. Theorems about memory use the definitions that the contracts of `read_plan`, `write_plan` and
+-- `find_node` cite.
 use Prim.Native.Nat.{ℕ, zero, suc, _+_, _*_, _/_, _≤_, _<_}
 use mathlib.Core.Path.{_≡_, _∙_, refl, sym, ap}
 use mathlib.Core.Logic.{_↔_, ⊎-elim}

@@ -1,4 +1,4 @@
--- What the writer answers, check by check, and what its stores leave.
+-- What the writer answers, check by check, and what its stores leave in the buffer.
 use Prim.Native.Nat.{ℕ, _+_, _*_, _/_, _≤_, _<_}
 use mathlib.Core.Path.{_≡_, _∙_, sym, ap}
 use mathlib.Core.List.{List, map, _++_}

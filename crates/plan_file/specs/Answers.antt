@@ -1,4 +1,4 @@
--- What the reader, the writer and the finder answer.
+-- What the reader (`read_plan`), the writer (`write_plan`) and the finder (`find_node`) answer.
 use Prim.Native.Nat.{ℕ, _+_, _*_}
 use mathlib.Core.Bool.{Bool, _&&_}
 use mathlib.Core.Path.{_≡_}
@@ -27,23 +27,24 @@ pub record Sizes : Type 0 where
   pub rows : ℕ
   pub entries : ℕ
 
--- The buffers are long enough: a word for each row, and those of the entries.
+-- The buffers are long enough: one word per row, and five per entry.
 abbrev pub roomTest : Plan → ℕ → ℕ → Bool
 roomTest p rowRoom wordRoom = leb (length (p .rows)) rowRoom && leb (length (p .entries) * entrySize) wordRoom
 
--- The reader: the file's checks, then 10 where a lent buffer is too short.
+-- The reader's answer: the file's checks, then 10 if a lent buffer is too short. It gives how many rows and entries it
+-- filled.
 unfoldable pub readAnswer : List ℕ → ℕ → ℕ → Answer Sizes
 readAnswer f rowRoom wordRoom =
     giving
     (fileCheck f andThen mustHold (roomTest (planIn f) rowRoom wordRoom) (at 10 0 0))
     (record { rows = length (planIn f .rows); entries = length (planIn f .entries) })
 
--- Each case of the reader's answer.
+-- What the code's answer says.
 abbrev pub readGives : ReadPlan → Answer Sizes
 readGives (read.Filled rows entries) = gives (record { rows = rows; entries = entries })
 readGives (read.Refused r) = refuses (numbered r)
 
--- The writer: its checks, then 10 where the lent buffer is too short for the file. It gives the file's length.
+-- The writer's answer: its checks, then 10 if the lent buffer is too short for the file. It gives the file's length.
 unfoldable pub writeAnswer : List ℕ → List ℕ → ℕ → Answer ℕ
 writeAnswer rows words room =
     giving
@@ -51,46 +52,46 @@ writeAnswer rows words room =
     andThen mustHold (leb (length (encoding (planOf rows words))) room) (at 10 0 0))
     (length (encoding (planOf rows words)))
 
--- Each case of the writer's answer.
+-- What the code's answer says.
 abbrev pub writeGives : Written → Answer ℕ
 writeGives (written.Length n) = gives n
 writeGives (written.Refused r) = refuses (numbered r)
 
--- A call of the reader on a file and two lent buffers: what it answers, and what it leaves in the buffers, the words of
--- the rows in one and those of the entries in the other.
+-- A call of the reader on a file and two lent buffers: its answer, and the buffers as it leaves them. One gets the words of
+-- the rows, the other the words of the entries.
 pub record ReadCall (f rows words : List ℕ) (a : Answer Sizes) (rowsLeft wordsLeft : List ℕ) : Type 0 where
   pub answer : a ≡ readAnswer f (length rows) (length words)
   pub rowsThere : rowsLeft ≡ left a (map rowWord (planIn f .rows)) rows
   pub wordsThere : wordsLeft ≡ left a (wordsOf (planIn f .entries)) words
 
--- A call of the writer on a plan in memory and a lent buffer: what it answers, and what it leaves in the buffer, the plan's
+-- A call of the writer on a plan in memory and a lent buffer: its answer, and the buffer as it leaves it, with the plan's
 -- file.
 pub record WriteCall (rows words file : List ℕ) (a : Answer ℕ) (fileLeft : List ℕ) : Type 0 where
   pub answer : a ≡ writeAnswer rows words (length file)
   pub fileThere : fileLeft ≡ left a (encoding (planOf rows words)) file
 
--- The finder gives a node's levels and how many entries it has.
+-- The finder gives a node's count of levels and its count of entries.
 pub record Shape : Type 0 where
   pub levels : ℕ
   pub count : ℕ
 
--- The finder: the file's checks, then 9.
+-- The finder's answer: the file's checks, then 9 if no node has the number.
 unfoldable pub findAnswer : List ℕ → ℕ → Answer Shape
 findAnswer f number =
     giving (findCheck f number) (record { levels = nodeFound f number .levels; count = length (nodeFound f number .entries) })
 
--- Each case of the finder's answer.
+-- What the code's answer says.
 abbrev pub findGives : FoundNode → Answer Shape
 findGives (found.Found levels count) = gives (record { levels = levels; count = count })
 findGives (found.Refused r) = refuses (numbered r)
 
--- Where a node is given, the words hold it as a node lies in memory.
+-- If a node is given, the words hold this node.
 abbrev pub Holding : Answer Shape → List ℕ → Node → Type 0
 Holding (gives s) words n = nodeOf words (s .count) (s .levels) ≡ n
 Holding (refuses r) words n = Unit
 
--- A node is loaded: the row is given; its entries' words stand from the start on, with all beyond them kept; and the
--- words hold the node of that row.
+-- A node is loaded: r is its row, the words of its entries are at the start of the array, and the words beyond are kept. So
+-- the array holds the node of that row.
 pub record Loaded (f : List ℕ) (i : ℕ) (r : Row) (old new : List ℕ) : Type 0 where
   pub row : r ≡ rowAt f i
   pub words : new ≡ wordsOf (nodeOfRow (planIn f) i .entries) ++ drop (length (wordsOf (nodeOfRow (planIn f) i .entries))) old

@@ -1,4 +1,4 @@
--- The checks of a plan file, and the writer's of a plan, each in its order (docs/SPEC.md, 'The order of the checks').
+-- The checks of a plan file, and the writer's checks of a plan, in their order (docs/SPEC.md, 'The order of the checks').
 use Prim.Native.Nat.{ℕ, suc, _+_, _*_}
 use mathlib.Core.Bool.{Bool, _&&_}
 use mathlib.Core.List.{List, [], _∷_}
@@ -13,11 +13,11 @@ use Rattle.plan_file.specs.Plan.{mostNodes, Plan, entryCount, planOf}
 use Rattle.plan_file.specs.Encoding.{openingBytes, headerLength, entryLength, bodiesStart}
 use Rattle.plan_file.specs.Decoding.{nodeCount, offsetAt, rowsIn, entriesIn}
 
--- Byte `i` of a file is that of the opening.
+-- Byte `i` of a file equals byte `i` of the opening.
 abbrev pub opensAt : List ℕ → ℕ → Bool
 opensAt f i = eqb (getD f i 0) (getD openingBytes i 0)
 
--- The four opening bytes.
+-- The file begins with the four opening bytes.
 unfoldable pub openingTest : List ℕ → Bool
 openingTest f = opensAt f 0 && opensAt f 1 && opensAt f 2 && opensAt f 3
 
@@ -29,16 +29,16 @@ countTest nodes = leb 1 nodes && leb nodes mostNodes
 unfoldable pub zerosTest : List ℕ → Bool
 zerosTest f = eqb (getD f 5 0) 0 && eqb (getD f 6 0) 0 && eqb (getD f 7 0) 0
 
--- A row: its number is not below the least that may follow, it has 1 to 64 levels and up to 64 entries.
+-- A row: its number is at least `least`, and it has 1 to 64 levels and up to 64 entries.
 unfoldable pub rowTest : ℕ → Row → Bool
 rowTest least r = leb least (r .number) && sizeTest (r .levels) (r .count)
 
--- Row by row from index `i` on (4). The next number is above this one; the first may be 0.
+-- Rows one by one, from index `i` on (4). Each number must be above the one before; the first may be 0.
 unfoldable pub rowsCheck : ℕ → ℕ → List Row → Outcome
 rowsCheck i least [] = accepted
 rowsCheck i least (r ∷ rs) = mustHold (rowTest least r) (at 4 i 0) andThen rowsCheck (suc i) (suc (r .number)) rs
 
--- The same in a file: 4, then 5. The next body begins where this one ends.
+-- The same in a file: for each row 4, then 5. Each body must begin where the one before ends.
 unfoldable pub contentsCheck : List ℕ → ℕ → ℕ → ℕ → List Row → Outcome
 contentsCheck f i least required [] = accepted
 contentsCheck f i least required (r ∷ rs) =
@@ -46,12 +46,12 @@ contentsCheck f i least required (r ∷ rs) =
     andThen mustHold (eqb (offsetAt f i) required) (at 5 i 0)
     andThen contentsCheck f (suc i) (suc (r .number)) (required + r .count * entryLength) rs
 
--- Entry by entry of each row from index `i` on: 7 and 8, with the row and the position in its node.
+-- The entries of each row, from index `i` on, one by one: 7 and 8, with the row and the entry's position in its node.
 unfoldable pub nodesCheck : ℕ → List Row → List Entry → Outcome
 nodesCheck i [] es = accepted
 nodesCheck i (r ∷ rs) es = entriesCheck i 0 (take (r .count) es) andThen nodesCheck (suc i) rs (drop (r .count) es)
 
--- A file is checked in this order: 8 bytes (1), opening bytes (2), node count and zero bytes (3), the contents' length (1).
+-- A file's first checks: at least 8 bytes (1), the opening bytes (2), node count and zero bytes (3), complete contents (1).
 unfoldable pub headerCheck : List ℕ → Outcome
 headerCheck f =
     mustHold (leb headerLength (length f)) (at 1 0 0)
@@ -59,21 +59,21 @@ headerCheck f =
     andThen mustHold (countTest (nodeCount f) && zerosTest f) (at 3 0 0)
     andThen mustHold (leb (bodiesStart (nodeCount f)) (length f)) (at 1 0 0)
 
--- Then row by row 4 and 5, and the file's length (6): it ends with the last body.
+-- Then 4 and 5 row by row, and that the file ends with the last body (6).
 unfoldable pub layoutCheck : List ℕ → ℕ → ℕ → ℕ → List Row → Outcome
 layoutCheck f i least required rows =
     contentsCheck f i least required rows
     andThen mustHold (eqb (length f) (required + entryCount rows * entryLength)) (at 6 0 0)
 
--- Then entry by entry 7 and 8. These are all of a file's checks.
+-- All checks of a file: header, layout, then 7 and 8 entry by entry.
 unfoldable pub fileCheck : List ℕ → Outcome
 fileCheck f =
     headerCheck f
     andThen layoutCheck f 0 0 (bodiesStart (nodeCount f)) (rowsIn f)
     andThen nodesCheck 0 (rowsIn f) (entriesIn f)
 
--- The writer, on rows and on entries that lie in `words` words: node count (3), row by row 4, more or fewer entries
--- than the rows count (6; a part of an entry is 6 too), entry by entry 7 and 8.
+-- The writer's checks of rows, and of entries that were given in `words` words: the node count (3); 4 row by row; the rows
+-- must count exactly these entries (6), and a part of an entry left over is 6 too; 7 and 8 entry by entry.
 unfoldable pub writerCheck : List Row → List Entry → ℕ → Outcome
 writerCheck rows entries words =
     mustHold (countTest (length rows)) (at 3 0 0)
@@ -81,10 +81,10 @@ writerCheck rows entries words =
     andThen mustHold (eqb words (entryCount rows * entrySize)) (at 6 0 0)
     andThen nodesCheck 0 rows entries
 
--- A plan is accepted exactly when the writer's checks find nothing to refuse.
+-- The checks of a plan. It is accepted exactly if none of the writer's checks is met.
 abbrev pub planCheck : Plan → Outcome
 planCheck p = writerCheck (p .rows) (p .entries) (length (p .entries) * entrySize)
 
--- The same of a plan as it lies in memory.
+-- The same for a plan in memory.
 abbrev pub wordsCheck : List ℕ → List ℕ → Outcome
 wordsCheck rows words = writerCheck (planOf rows words .rows) (planOf rows words .entries) (length words)

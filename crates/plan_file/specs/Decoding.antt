@@ -13,12 +13,12 @@ use Rattle.plan_file.specs.Encoding.{headerLength, rowLength, entryLengt
 abbrev pub nodeCount : List ℕ → ℕ
 nodeCount f = getD f 4 0
 
--- Row `i` of the contents has two words. The first, read as in memory, has number, levels and entry count (the theorem
--- `row-fields` gives each by its bytes).
+-- Row `i` of the contents. It has two words in the file; the first, read as a row in memory, has number, levels and entry
+-- count. (The theorem `row-fields` gives each field by its bytes.)
 abbrev pub rowAt : List ℕ → ℕ → Row
 rowAt f i = rowOf (wordAt f (headerLength + i * rowLength))
 
--- The second is the offset of its body.
+-- The offset of the body of row `i`: the second word.
 abbrev pub offsetAt : List ℕ → ℕ → ℕ
 offsetAt f i = wordAt f (headerLength + i * rowLength + 4)
 
@@ -31,8 +31,8 @@ rowsFrom f i (suc n) = rowAt f i ∷ rowsFrom f (suc i) n
 abbrev pub rowsIn : List ℕ → List Row
 rowsIn f = rowsFrom f 0 (nodeCount f)
 
--- The entry that stands from byte `k` on: its words, read as in memory (the theorem `entry-fields` gives each field by its
--- bytes).
+-- The entry from byte `k` on: its five words, read as an entry in memory. (The theorem `entry-fields` gives each field by
+-- its bytes.)
 abbrev pub entryIn : List ℕ → ℕ → Entry
 entryIn f k = entryFrom (wordsFrom f k entrySize) 0
 
@@ -41,10 +41,10 @@ unfoldable pub entriesAt : List ℕ → ℕ → ℕ → List Entry
 entriesAt f k zero = []
 entriesAt f k (suc n) = entryIn f k ∷ entriesAt f (k + entryLength) n
 
--- The entries of a file: right after the contents, as many as the rows count.
+-- The entries of a file: they follow the contents, and there are as many as the rows count.
 abbrev pub entriesIn : List ℕ → List Entry
 entriesIn f = entriesAt f (bodiesStart (nodeCount f)) (entryCount (rowsIn f))
 
--- The plan.
+-- The plan in a file.
 abbrev pub planIn : List ℕ → Plan
 planIn f = record { rows = rowsIn f; entries = entriesIn f }

@@ -25,7 +25,7 @@ entryBytes e =
     low 2 (e .number) ++ low 1 (e .kind) ++ low 1 (e .calls)
     ++ low 4 (e .wcet) ++ low 4 (e .period) ++ low 4 (e .deadline) ++ low 4 (e .blocking)
 
--- The bytes of the header, of a row and of an entry.
+-- Lengths in bytes: of the header, of a row and of an entry.
 abbrev pub headerLength : ℕ
 headerLength = 8
 

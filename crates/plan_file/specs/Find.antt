@@ -11,7 +11,7 @@ use Rattle.plan_file.specs.Plan.{Plan, entryCount}
 use Rattle.plan_file.specs.Check.{fileCheck}
 use Rattle.plan_file.specs.Decoding.{planIn, rowsIn}
 
--- What stands at an index that the rows do not have. Nothing that is proved goes by it.
+-- Default outside the rows; no theorem depends on it.
 abbrev pub noRow : Row
 noRow = record { number = 0; levels = 0; count = 0 }
 
@@ -19,7 +19,7 @@ noRow = record { number = 0; levels = 0; count = 0 }
 abbrev pub rowIn : List Row → ℕ → Row
 rowIn rows i = getD rows i noRow
 
--- The node of row `i`: its levels and its entries, which stand after those of the rows before it.
+-- The node of row `i`: its levels, and its entries, which follow the entries of the rows before.
 unfoldable pub nodeOfRow : Plan → ℕ → Node
 nodeOfRow p i =
     record {
@@ -27,7 +27,7 @@ nodeOfRow p i =
       entries = take (rowIn (p .rows) i .count) (drop (entryCount (take i (p .rows))) (p .entries));
     }
 
--- The index of the row with a number; as many as there are rows, where none has it.
+-- The index of the row with this number, or the number of rows if none has it.
 unfoldable pub rowOfNumber : ℕ → List Row → ℕ
 rowOfNumber number [] = 0
 rowOfNumber number (r ∷ rs) =
@@ -36,7 +36,7 @@ rowOfNumber number (r ∷ rs) =
       | false ↦ suc (rowOfNumber number rs)
     ]
 
--- Finding a node in a file: the whole file's checks, then 9.
+-- The checks for finding a node in a file: all of the file's checks, then 9.
 unfoldable pub findCheck : List ℕ → ℕ → Outcome
 findCheck f number = fileCheck f andThen mustHold (ltb (rowOfNumber number (rowsIn f)) (length (rowsIn f))) (at 9 0 0)
 

@@ -1,4 +1,4 @@
--- The limits of a plan, said without the checks.
+-- The limits of a plan, stated without the checks.
 use Prim.Native.Nat.{ℕ, suc, _%_, _≤_, _<_}
 use mathlib.Core.Path.{_≡_}
 use mathlib.Core.List.{List}
@@ -18,10 +18,10 @@ pub record PlanHolds (p : Plan) : Type 0 where
   pub nodes : (i : ℕ) → i < length (p .rows) → NodeHolds (nodeOfRow p i)
   pub counts : entryCount (p .rows) ≡ length (p .entries)
 
--- A list of bytes is the file of a plan within the limits, whose fields have the file's widths.
+-- A list of bytes is the file of some plan that is within the limits and whose fields fit the file's widths.
 abbrev pub IsPlanFile : List ℕ → Type 0
 IsPlanFile f = (p : Plan) × PlanFits p × PlanHolds p × (encoding p ≡ f)
 
--- A word for each row and the words of entries hold a plan within the limits, with no part of an entry left over.
+-- The words of rows and the words of entries hold a plan within the limits, with no part of an entry left over.
 abbrev pub IsPlanInMemory : List ℕ → List ℕ → Type 0
 IsPlanInMemory rs ws = PlanHolds (planOf rs ws) × (length ws % entrySize ≡ 0)

@@ -1,4 +1,5 @@
--- What was read can be written again, and what was written can be read again, from the buffers as the calls leave them.
+-- Writing after reading gives the same file, and reading after writing gives the same plan, from the buffers as the calls
+-- leave them.
 use Prim.Native.Nat.{ℕ, _*_, _/_, _≤_}
 use mathlib.Core.Path.{_≡_}
 use mathlib.Core.List.{List, _++_}
@@ -7,8 +8,8 @@ use Rattle.node_words.specs.Words.{entrySize}
 use Rattle.refusals.specs.Answers.{Answer, gives, refuses}
 use Rattle.plan_file.specs.Answers.{Sizes, ReadCall, WriteCall}
 
--- After the reader filled its buffers: any call of the writer on the parts that were filled, with room for the file, gives
--- the file's length and leaves the file's bytes from the start of its buffer on, with all beyond them kept.
+-- The reader filled its buffers. Then any call of the writer on the filled parts, with room for the file, gives the file's
+-- length. It writes the file's bytes from the start of its buffer and keeps the bytes beyond.
 abbrev pub WrittenAgain : List ℕ → Answer Sizes → List ℕ → List ℕ → Type 0
 WrittenAgain f (refuses r) rows words = Unit
 WrittenAgain f (gives n) rows words =
@@ -17,9 +18,8 @@ WrittenAgain f (gives n) rows words =
     → WriteCall (take (n .rows) rows) (take (n .entries * entrySize) words) old a new
     → (a ≡ gives (length f)) × (new ≡ f ++ drop (length f) old)
 
--- After the writer wrote a file: any call of the reader on the part that was written, with room for the plan, fills as many
--- rows and entries as the writer was handed, and leaves the same words from the start of its buffers on, with all beyond
--- them kept.
+-- The writer wrote a file. Then any call of the reader on the written part, with room for the plan, fills as many rows and
+-- entries as the writer was given. It writes the same words from the start of its buffers and keeps the words beyond.
 abbrev pub ReadAgain : List ℕ → List ℕ → Answer ℕ → List ℕ → Type 0
 ReadAgain rows words (refuses r) file = Unit
 ReadAgain rows words (gives n) file =

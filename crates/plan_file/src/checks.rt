@@ -29,7 +29,7 @@ ghost use Rattle.plan_file.specs.Encoding.{headerLength, entryLength, bo
 ghost use Rattle.plan_file.specs.Decoding.{nodeCount, offsetAt, rowsFrom, entriesAt};
 ghost use Rattle.plan_file.specs.Check.{openingTest, zerosTest, countTest, rowTest, rowsCheck, layoutCheck, nodesCheck, headerCheck};
 
-// Whether a row's number is not below the least, and its levels and entry count are within the limits.
+// Whether a row's number is at least `least`, and its levels and entry count are within the limits.
 fn row_holds(least: u32, r: Row) -> bool
     ensures { λ a. ⌜ a ≡ rowTest least r ⌝ }
 {
@@ -45,7 +45,7 @@ fn row_holds(least: u32, r: Row) -> bool
     r.count as usize <= MOST_ENTRIES
 }
 
-// Whether the file opens with the four bytes.
+// Whether the file begins with the four opening bytes.
 fn opens(file: &[u8]) -> bool
     requires { ⌜ headerLength ≤ length (now file) ⌝ }
     ensures { λ a. ⌜ a ≡ openingTest (now (file .entry)) ⌝ }
@@ -82,7 +82,8 @@ fn counted(file: &[u8]) -> bool
     file[7] == 0
 }
 
-// Checks 8 bytes (1), the opening bytes (2), node count and zero bytes (3), and that the contents are whole (1).
+// Checks that there are 8 bytes (1), the opening bytes (2), the node count and the zero bytes (3), and that the contents
+// are complete (1).
 pub(crate) fn check_header(file: &[u8]) -> Checked
     ensures { λ a. ⌜ outcome a ≡ headerCheck (now (file .entry)) ⌝ }
 {
@@ -179,8 +180,8 @@ fn check_by_row(file: &[u8], nodes: usize) -> Checked
     Checked::Accepted
 }
 
-// Checks the entries of every body. All as one body first, since a single loop is the quickest way through an accepted
-// file; only one that is refused goes row by row, for the place.
+// Checks the entries of every body. It first checks them all as one body, because a single loop is the quickest way through
+// an accepted file. Only if that fails, it goes row by row to find the place of the refusal.
 pub(crate) fn check_bodies(file: &[u8], nodes: usize) -> Checked
     requires { ⌜ length (now file) ≡ bodiesStart nodes + entryCount (rowsFrom (now file) 0 nodes) * entryLength ⌝ }
     ensures { λ a.
@@ -196,7 +197,7 @@ pub(crate) fn check_bodies(file: &[u8], nodes: usize) -> Checked
     check_by_row(file, nodes)
 }
 
-// Checks each row (4), then that there are as many words as their entries have (6).
+// Checks each row (4), then that `words` is the number of words of all entries that the rows count (6).
 pub(crate) fn check_rows(rows: &[u32], words: usize) -> Checked
     requires { ⌜ length (now rows) ≤ mostNodes ⌝ }
     ensures { λ a.

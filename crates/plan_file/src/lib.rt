@@ -1,8 +1,7 @@
 // Plan files: checking, reading, writing, and finding a node.
 //
-// In memory a plan is words of 32 bits: one for a row, which is the first four bytes of its row in the file, and
-// those of its entries, which are the bytes of the bodies, both low byte first (specs/Plan.antt). So the fields keep the
-// file's widths.
+// In memory a plan is words of 32 bits (specs/Plan.antt). A row is one word: the first four bytes of the row in the file.
+// An entry is five words: its 20 bytes in the file. Both are low byte first, so fields have the same widths as in the file.
 mod checks;
 mod read;
 mod store;
@@ -42,7 +41,7 @@ ghost use Rattle.refusals.specs.Answers.{left};
 // The four bytes that a plan file opens with.
 const OPENING_BYTES: [u8; 4] = *b"LMP1";
 
-// The bytes before the contents, of a row of the contents, and of an entry.
+// Sizes in bytes: of the header before the contents, of a row of the contents, and of an entry.
 const HEADER_BYTES: usize = 8;
 
 const ROW_BYTES: usize = 8;
@@ -71,7 +70,7 @@ pub enum Written {
     Refused(Refusal),
 }
 
-// The levels and the entry count of the node, or why none is given.
+// The levels and the entry count of the node that was found, or why none was.
 pub enum FoundNode {
     Found { levels: u8, count: usize },
     Refused(Refusal),
@@ -93,7 +92,7 @@ pub fn node_count(file: &[u8]) -> usize
     wide(file[4]) as usize
 }
 
-// The index of the row with a number, or the node count where none has it.
+// The index of the row with this number, or `nodes` if no row has it.
 fn row_of_number(file: &[u8], number: u16, nodes: usize) -> usize
     requires { ⌜ bodiesStart nodes ≤ length (now file) ⌝ }
     ensures { λ i. ⌜ i ≡ rowOfNumber number (rowsFrom (now (file .entry)) 0 nodes) ⌝ }
@@ -109,8 +108,7 @@ fn row_of_number(file: &[u8], number: u16, nodes: usize) -> usize
     nodes
 }
 
-// Accepts a plan file, or refuses it as the first of its checks that is met does. Accepts exactly the files of plans within
-// the limits.
+// Checks a plan file. The first check that is met gives the refusal. Accepts exactly the files of plans within the limits.
 pub fn check_file(file: &[u8]) -> Checked
     ensures { λ a. ⌜ outcome a ≡ fileCheck (now (file .entry)) ⌝ }
     ensures { λ a. ⌜ (outcome a ≡ accepted) ↔ IsPlanFile (now (file .entry)) ⌝ }
@@ -127,8 +125,8 @@ pub fn check_file(file: &[u8]) -> Checked
     check_bodies(file, nodes)
 }
 
-// Accepts rows and entries as the writer takes them, or refuses them as the first of its checks that is met does. Accepts
-// exactly the words of plans within the limits.
+// Checks rows and entries for the writer. The first check that is met gives the refusal. Accepts exactly the words of plans
+// within the limits.
 pub fn check_plan(rows: &[u32], entries: &[u32]) -> Checked
     ensures { λ a. ⌜ outcome a ≡ wordsCheck (now (rows .entry)) (now (entries .entry)) ⌝ }
     ensures { λ a. ⌜ (outcome a ≡ accepted) ↔ IsPlanInMemory (now (rows .entry)) (now (entries .entry)) ⌝ }
@@ -146,8 +144,8 @@ pub fn check_plan(rows: &[u32], entries: &[u32]) -> Checked
     check_nodes(rows, entries)
 }
 
-// Writes a plan as a file from the buffer's start. Refuses as check_plan does, then a buffer that is too short (10). What is
-// written, read_plan reads as the same words.
+// Writes a plan as a file from the buffer's start. Refuses as check_plan does, then a buffer that is too short (10). From
+// the written file, read_plan reads the same words.
 pub fn write_plan(rows: &[u32], entries: &[u32], file: &mut [u8]) -> Written
     ensures { λ a.
         ⌜ WriteCall (now (rows .entry)) (now (entries .entry)) (now (file .entry)) (writeGives a) (now (file .exit)) ⌝ }
@@ -169,8 +167,8 @@ pub fn write_plan(rows: &[u32], entries: &[u32], file: &mut [u8]) -> Written
     Written::Length(length)
 }
 
-// Reads a file's plan into buffers: a word for each row, and those of each entry. Refuses as check_file does, then a buffer
-// that is too short (10). What is filled, write_plan writes as the same bytes.
+// Reads a file's plan into buffers: one word per row, and five per entry. Refuses as check_file does, then a buffer that is
+// too short (10). From the filled words, write_plan writes the same bytes.
 pub fn read_plan(file: &[u8], rows: &mut [u32], entries: &mut [u32]) -> ReadPlan
     ensures { λ a.
         ⌜ ReadCall (now (file .entry)) (now (rows .entry)) (now (entries .entry)) (readGives a)
@@ -199,7 +197,7 @@ pub fn read_plan(file: &[u8], rows: &mut [u32], entries: &mut [u32]) -> ReadPlan
     }
 }
 
-// Copies the entries of a row of an accepted file to the array's start, as a node is lent, and gives the row.
+// Copies the words of a row's entries from an accepted file to the start of the array, and returns the row.
 pub fn load_node(file: &[u8], row: usize, words: &mut NodeWords) -> Row
     requires { ⌜ (fileCheck (now file) ≡ accepted) × (row < nodeCount (now file)) ⌝ }
     ensures { λ r.
@@ -211,7 +209,7 @@ pub fn load_node(file: &[u8], row: usize, words: &mut NodeWords) -> Row
     r
 }
 
-// Finds the node with a number, and copies its entries to the array's start, as a node is lent. Refuses as check_file
+// Finds the node with this number, and copies the words of its entries to the start of the array. Refuses as check_file
 // does, then a number that no node has (9).
 pub fn find_node(file: &[u8], number: u16, words: &mut NodeWords) -> FoundNode
     ensures { λ a. ⌜ findGives a ≡ findAnswer (now (file .entry)) number ⌝ }

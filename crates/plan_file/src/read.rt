@@ -25,7 +25,7 @@ pub(crate) fn row_of(word: u32) -> Row
     }
 }
 
-// The entry that stands in a file from byte `k` on.
+// The entry in a file from byte `k` on.
 pub(crate) fn entry_in(file: &[u8], k: usize) -> Entry
     requires { ⌜ k + entryLength ≤ length (now file) ⌝ }
     ensures { λ e. ⌜ e ≡ entryIn (now (file .entry)) k ⌝ }

@@ -7,7 +7,8 @@ use Rattle.plan_file.specs.Find.{findCheck, nodeFound}
 use Rattle.level_map.specs.Assignments.{levelsUsed}
 use Rattle.level_map.specs.Answer.{mapOf, heldCheck}
 
--- A file's whole checks, then 9, then 10 and 11 as for the node with that number. It gives the count of the map's levels.
+-- The answer: all of the file's checks, then 9, then 10 and 11 for the node with this number. It gives the count of the
+-- map's levels.
 unfoldable pub fileAnswer : List ℕ → ℕ → ℕ → Answer ℕ
 fileAnswer f number room =
     giving (findCheck f number andThen heldCheck (nodeFound f number) room) (levelsUsed (mapOf (nodeFound f number)))

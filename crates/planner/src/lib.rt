@@ -1,4 +1,4 @@
-// The map of a controller of a plan file.
+// The map of a node of a plan file.
 ghost use mathlib.Core.Path.{_≡_};
 ghost use lib.ListN.{length};
 ghost use Rattle.refusals.specs.Refusals.{accepted};
@@ -11,8 +11,9 @@ use level_map::map_held;
 use node_words::NODE_WORDS;
 use plan_file::FoundNode;
 
-// Maps the node with a number of a plan file, one byte an entry from the buffer's start, and answers how many levels the
-// map uses. Refuses a file by its own checks, then a number that the plan does not have (9), then as `level_map::map_held`.
+// Maps the node of a plan file that has this number. Writes one byte per entry from the buffer's start, and answers how
+// many levels the map uses. Refuses as `plan_file::check_file` does, then a number that no node has (9), then as
+// `level_map::map_held` does.
 pub fn map_node(file: &[u8], number: u16, out: &mut [u8]) -> MappedNode
     ensures { λ a. ⌜ answer a ≡ fileAnswer (now (file .entry)) number (length (now (out .entry))) ⌝ }
     ensures { λ a. ⌜ now (out .exit) ≡ left (answer a) (mapOf (nodeFound (now (file .entry)) number)) (now (out .entry)) ⌝ }

@@ -1,4 +1,4 @@
--- What a change of a session that is lent as words returns to C, and leaves there.
+-- What a change of a session that is lent as words returns to C, and which words it leaves.
 use Prim.Native.Nat.{ℕ}
 use mathlib.Core.Path.{_≡_, _∙_, ap}
 use mathlib.Core.List.{List}

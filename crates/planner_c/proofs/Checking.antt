@@ -1,4 +1,4 @@
--- What returning 0 says of a check.
+-- A check returns 0 exactly if it accepts.
 use mathlib.Core.Path.{_≡_, _∙_, refl, sym, ap}
 use mathlib.Core.Logic.{_↔_}
 use Rattle.refusals.specs.declared.Checked.{Checked}

@@ -1,4 +1,4 @@
--- The map of a session is that of its node in a plan file: laws, and then the theorems.
+-- The map of a session equals the map of its node in a plan file: laws, and then the theorems.
 use Prim.Native.Nat.{ℕ, zero, suc, _<_}
 use mathlib.Core.Path.{_≡_, _∙_, refl, ap, sym}
 use mathlib.Core.List.{List}

@@ -1,4 +1,4 @@
--- Laws that the functions' proofs cite, and the theorems of sessions and files.
+-- Laws for the proofs of functions, and the theorems of sessions and files.
 pub mod Changing
 pub mod Mapping
 pub mod Checking

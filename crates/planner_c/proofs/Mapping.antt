@@ -1,4 +1,4 @@
--- Mapping a session that was read from words is mapping the node that the words hold.
+-- Mapping a session that was read from words gives the map of the node that the words hold.
 use Prim.Native.Nat.{ℕ}
 use mathlib.Core.Path.{_≡_, _∙_, ap}
 use mathlib.Core.List.{List}

@@ -1,5 +1,5 @@
 -- What a reader of the C functions must believe.
 pub mod Returned
 pub mod Changes
--- Of this only the theorems speak.
+-- Only the theorems use this.
 pub mod OneRow

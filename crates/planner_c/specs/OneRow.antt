@@ -5,7 +5,7 @@ use lib.ListN.{length}
 use Rattle.task_model.specs.Limits.{Node}
 use Rattle.plan_file.specs.Plan.{Plan}
 
--- The plan of one row that has the node, under a number.
+-- The plan whose only row is this node, under a given number.
 abbrev pub oneRow : ℕ → Node → Plan
 oneRow number n =
     record {

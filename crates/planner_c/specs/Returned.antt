@@ -1,4 +1,4 @@
--- How an answer crosses to C: a number that is returned, and two values that are left in a lent array.
+-- How an answer is passed to C: a number that is returned, and two values that are written to a lent array.
 use Prim.Native.Nat.{ℕ}
 use mathlib.Core.List.{List, [], _∷_}
 use Rattle.refusals.specs.Refusals.{Numbered, Outcome, accepted, refused}
@@ -19,26 +19,26 @@ returned number values = record { number = number; values = values }
 abbrev pub back : Numbered → Returned
 back r = returned (r .number) (r .row ∷ r .entry ∷ [])
 
--- Any other call: number 0, and what is given as values.
+-- An accepted call: number 0, and its results as values.
 abbrev pub given : ℕ → ℕ → Returned
 given first second = returned 0 (first ∷ second ∷ [])
 
--- A check gives nothing.
+-- An accepted check has no results: both values are 0.
 abbrev pub checked : Outcome → Returned
 checked accepted = given 0 0
 checked (refused r) = back r
 
 -- The reader gives how many rows and how many entries it filled.
-abbrev pub zeroPadded : Answer Sizes → Returned
-zeroPadded (gives s) = given (s .rows) (s .entries)
-zeroPadded (refuses r) = back r
+abbrev pub sizedPlan : Answer Sizes → Returned
+sizedPlan (gives s) = given (s .rows) (s .entries)
+sizedPlan (refuses r) = back r
 
--- The writer and the listing give a length, the mapper how many levels the map uses.
+-- The writer and the listing give a length. The mapper gives how many levels the map uses.
 abbrev pub sized : Answer ℕ → Returned
 sized (gives n) = given n 0
 sized (refuses r) = back r
 
--- Timing gives the completion time and the rounds; a late entry has no time, and 0 stands in its place.
+-- Timing gives the completion time and the rounds. For a late entry, the time is 0.
 abbrev pub givenTime : Completion → Returned
 givenTime (on-time time rounds) = given time rounds
 givenTime (late rounds) = given 0 rounds

@@ -1,7 +1,7 @@
 // The session for C. It is lent as words: its level count, its entry count and the words of a node.
-use super::give;
-use super::give_checked;
-use super::refuse;
+use super::returned::give;
+use super::returned::give_checked;
+use super::returned::refuse;
 use completion::Timing;
 use level_map::MappedNode;
 use node_words::EntryWords;
@@ -53,7 +53,7 @@ pub extern "C" fn maiplur_session_set_levels(
     give_checked(answer, values)
 }
 
-// Inserts an entry before a position; just after the last entry it appends.
+// Inserts an entry before a position, or just after the last entry.
 #[no_mangle]
 pub extern "C" fn maiplur_session_insert(
     words: &mut SessionWords,
@@ -101,7 +101,7 @@ pub extern "C" fn maiplur_session_replace(
     give_checked(answer, values)
 }
 
-// Gives a completion time, or 0 where the entry is late, and the rounds.
+// Gives the completion time, or 0 if the entry is late, and the rounds.
 fn give_time(t: Timing, values: &mut [usize; 2]) -> u32
     ensures { λ a. ⌜ returned a (now (values .exit)) ≡ givenTime (completion t) ⌝ }
 {
@@ -112,8 +112,8 @@ fn give_time(t: Timing, values: &mut [usize; 2]) -> u32
     give(time as usize, rounds, values)
 }
 
-// Times the entry at `i` in the group from `first` to `last`. Gives the completion time, or 0 where the entry is late, and
-// the rounds.
+// Times the entry at `i` in the group from `first` to `last`. Gives the completion time, or 0 if the entry is late, and the
+// rounds.
 #[no_mangle]
 pub extern "C" fn maiplur_session_time(
     words: &SessionWords,
@@ -134,7 +134,7 @@ pub extern "C" fn maiplur_session_time(
     }
 }
 
-// Maps the node, one byte an entry from the buffer's start. Gives the levels used.
+// Maps the node: one byte per entry from the buffer's start. Gives the count of levels used.
 #[no_mangle]
 pub extern "C" fn maiplur_session_map(
     words: &SessionWords,

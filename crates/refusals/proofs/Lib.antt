@@ -1,3 +1,3 @@
--- Laws that the functions' proofs and other crates cite.
+-- Laws for the proofs of functions, here and in other crates.
 pub mod Outcomes
 pub mod Refusals

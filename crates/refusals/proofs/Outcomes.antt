@@ -1,4 +1,4 @@
--- Laws of checks that follow one another, and of the answers after them.
+-- Laws of checks in sequence, and of the answers after them.
 use Prim.Native.Nat.{ℕ}
 use mathlib.Core.Path.{_≡_, refl}
 use mathlib.Core.Bool.{Bool, true, false}

@@ -27,10 +27,11 @@ pub record Numbered : Type 0 where
   pub row : ℕ
   pub entry : ℕ
 
+-- The refusal with number n, at a row and an entry position.
 abbrev pub at : ℕ → ℕ → ℕ → Numbered
 at n row entry = record { number = n; row = row; entry = entry }
 
--- The number and the places of each refusal; where the table names no place it is 0.
+-- The number and the places of each refusal. A place that the table does not name is 0.
 abbrev pub numbered : Refusal → Numbered
 numbered ShortFile = at 1 0 0
 numbered OpeningBytes = at 2 0 0
@@ -46,6 +47,7 @@ numbered NoMap = at 11 0 0
 numbered OutsideList = at 12 0 0
 numbered FullList = at 13 0 0
 
+-- The same, from the struct that the code returns.
 abbrev pub numbersIn : Numbers → Numbered
 numbersIn n = at (n .number) (n .row) (n .entry)
 
@@ -54,6 +56,7 @@ pub data Outcome : Type 0 where
   accepted : Outcome
   refused : Numbered → Outcome
 
+-- What the code's answer to a check says.
 abbrev pub outcome : Checked → Outcome
 outcome Accepted = accepted
 outcome (Refused r) = refused (numbered r)
@@ -64,7 +67,7 @@ abbrev pub _andThen_ : Outcome → Outcome → Outcome
 refused r andThen next = refused r
 accepted andThen next = next
 
--- A check of one fact: refused as said where the fact does not hold.
+-- A check of one fact: refused as r if the fact does not hold.
 abbrev pub mustHold : Bool → Numbered → Outcome
 mustHold true r = accepted
 mustHold false r = refused r

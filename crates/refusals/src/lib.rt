@@ -2,8 +2,8 @@
 ghost use mathlib.Core.Path.{_≡_};
 ghost use Rattle.refusals.specs.Refusals.{numbered, numbersIn};
 
-// Why a call is refused, with the row of the node and the position of the entry where there are any.
-// `numbered` in specs/Refusals gives the number that a user sees.
+// Why a call is refused, with the row and the entry position if the refusal has them. `numbered` in specs/Refusals gives
+// the number that a user sees.
 pub enum Refusal {
     ShortFile,
     OpeningBytes,
@@ -25,7 +25,7 @@ pub enum Checked {
     Refused(Refusal),
 }
 
-// What a user sees of a refusal.
+// A refusal as a user sees it.
 pub struct Numbers {
     pub number: u8,
     pub row: usize,
@@ -38,7 +38,7 @@ fn numbers_at(number: u8, row: usize, entry: usize) -> Numbers
     Numbers { number, row, entry }
 }
 
-// The table, a line for each refusal. With its promise field by field the prover needs no help.
+// The table, one line per refusal. It promises each field separately, so it needs no hand-written proof.
 fn look_up(r: Refusal) -> Numbers
     ensures { λ n. ⌜ (n .number ≡ numbered r .number) × (n .row ≡ numbered r .row) × (n .entry ≡ numbered r .entry) ⌝ }
 {
@@ -59,7 +59,7 @@ fn look_up(r: Refusal) -> Numbers
     }
 }
 
-// The number of a refusal in the table, and its places.
+// The number and the places of a refusal.
 pub fn numbers_of(r: Refusal) -> Numbers
     ensures { λ n. ⌜ numbersIn n ≡ numbered r ⌝ }
 {

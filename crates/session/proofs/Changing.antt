@@ -1,4 +1,4 @@
--- The session of a changed node, from the words that the change leaves.
+-- After a change, the words that it leaves are the session of the changed node.
 use Prim.Native.Nat.{ℕ, _+_, _-_}
 use mathlib.Core.Path.{_≡_, sym}
 use mathlib.Core.List.{List}

@@ -1,4 +1,4 @@
--- Laws of checks that follow one another, and of what a check's answer leaves of a session.
+-- Laws of checks in sequence, and of the session that a call leaves after them.
 use Prim.Native.Nat.{ℕ, _≤_, _<_}
 use mathlib.Core.Path.{_≡_, _∙_, sym, ap}
 use mathlib.Core.Bool.{true, _&&_}

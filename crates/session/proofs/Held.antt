@@ -1,4 +1,4 @@
--- What the types say of a session that is handed over by value: it has the words of a node.
+-- A session that is passed by value has as many words as a node: its type says so.
 use mathlib.Core.Path.{_≡_, _∙_, sym}
 use lib.ListN.{length, length-map}
 use denote.Laws.{Is}

@@ -1,10 +1,10 @@
--- The functions that are lent a session: walks of their code by hand. Each copies the session out and passes it to a
--- function that takes it by value.
+-- Hand-written proofs about the functions that are lent a session. They follow the MIR: each function copies the session
+-- out and passes it to a function that takes it by value.
 --     meets        `fn f(s: &mut Session, ..) -> Checked { let c = callee(*s, ..); *s = c.session; c.answer }`, for any
---                  callee, operation and further arguments: the borrow is opened, and what the callee returns is stored
---                  back. What differs is how the further arguments are put in place, read and given up, so
---                  `meets-number` and `meets-entry` give that for one number, and for a position with an entry
---     time-meets   `time`, which is lent a `&Session`: the borrow is looked into and shut again
+--                  callee, operation and further arguments. The borrow is opened, and the session that the callee returns
+--                  is stored back. Functions differ in how their further arguments are stored, read and freed:
+--                  `meets-number` shows this for one number, `meets-entry` for a position and an entry.
+--     time-meets   `time`, which is lent a `&Session`: the borrow is opened and closed again.
 use mathlib.Core.Path.{_≡_, refl, sym, ap, subst}
 use Prim.Native.Nat.{ℕ, suc, _+_}
 use mathlib.Core.List.{[], _∷_, _++_, List}

@@ -1,4 +1,4 @@
--- Laws that the functions' proofs cite, and the theorems of the session.
+-- Laws for the proofs of functions, and the theorems of the session.
 pub mod Held
 pub mod Changing
 pub mod Checking

@@ -1,4 +1,4 @@
--- Laws of mapping: what it answers of a session that may not be lent, and of one that may.
+-- Laws of mapping: its answer for a session that the first check refuses, and for one that it accepts.
 use Prim.Native.Nat.{ℕ}
 use mathlib.Core.Path.{_≡_, _∙_, refl, sym}
 use mathlib.Core.List.{List}

@@ -1,4 +1,4 @@
--- The session of a node, read again: it holds that node.
+-- The session of a node holds that node.
 use Prim.Native.Nat.{ℕ, suc, _<_}
 use mathlib.Core.Path.{_≡_, ap}
 use mathlib.Core.Logic.{⊎-elim}

@@ -1,4 +1,4 @@
--- Rows of operations on the session of a node: one step, and then all of them.
+-- Sequences of operations on the session of a node: one step, and then all of them.
 use Prim.Native.Nat.{ℕ, _≤_, _<_}
 use mathlib.Core.Path.{_≡_, _∙_, refl, sym, ap}
 use mathlib.Core.Logic.{⊎-elim}

@@ -11,31 +11,33 @@ use Rattle.session.specs.State.{nodeIn}
 use Rattle.session.specs.Operations.{Operation, stepCheck}
 use Rattle.session.specs.Steps.{sessionAfter}
 
--- How many words these are.
+-- How many words a session has.
 abbrev pub sessionSize : ℕ
 sessionSize = 2 + nodeSize
 
--- The session that words hold, and the words of a session.
+-- The session that words hold.
 abbrev pub sessionIn : List ℕ → Session
 sessionIn w = record { levels = getD w 0 0; count = getD w 1 0; words = drop 2 w }
 
+-- The words of a session.
 abbrev pub wordsIn : Session → List ℕ
 wordsIn s = s .levels ∷ s .count ∷ s .words
 
--- An accepted change leaves the words of the session that it made, a refused one the words as they were.
+-- The words after a change: those of the changed session if it is accepted, and the old words if it is refused.
 abbrev pub wordsLeft : Outcome → Session → List ℕ → List ℕ
 wordsLeft accepted made w = wordsIn made
 wordsLeft (refused r) made w = w
 
--- The words after an operation, and after a row of them.
+-- The words after an operation.
 unfoldable pub wordsAfter : Operation → List ℕ → List ℕ
 wordsAfter o w = wordsLeft (stepCheck o (nodeIn (sessionIn w))) (sessionAfter o (sessionIn w)) w
 
+-- The words after a sequence of operations.
 unfoldable pub wordsAfterAll : List Operation → List ℕ → List ℕ
 wordsAfterAll [] w = w
 wordsAfterAll (o ∷ os) w = wordsAfterAll os (wordsAfter o w)
 
--- An operation on a session of words w answers a and leaves the words `after`.
+-- The operation o on the session in the words w answers a and leaves the words `after`.
 pub record FollowsIn (o : Operation) (w : List ℕ) (a : Checked) (after : List ℕ) : Type 0 where
   pub answer : outcome a ≡ stepCheck o (nodeIn (sessionIn w))
   pub words : after ≡ wordsAfter o w

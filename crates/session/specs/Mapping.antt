@@ -12,13 +12,14 @@ use Rattle.level_map.specs.Assignments.{levelsUsed}
 use Rattle.level_map.specs.Answer.{answer, mapOf, NodeBestMapOrNone}
 use Rattle.session.specs.Operations.{asking, mapping, stepCheck}
 
--- The checks, and then the count of the levels of the node's map.
+-- The answer: the checks, then the count of the levels of the node's map.
 unfoldable pub mapAnswer : Node → ℕ → Answer ℕ
 mapAnswer n room = giving (stepCheck (asking (mapping room)) n) (levelsUsed (mapOf n))
 
--- Mapping n into a buffer answers a and leaves the buffer as `after`: the map from its start, one byte an entry, and the
--- bytes beyond kept; a refusal leaves it untouched. Of a node that may be lent this is promise 3 of docs/SPEC.md: refused
--- exactly when nothing passes, and what is given is the best.
+-- Mapping n into a buffer answers a and leaves the buffer as `after`. It writes the map from the buffer's start, one byte
+-- per entry, and keeps the bytes beyond; a refusal leaves the buffer untouched. If n is within the limits and fits the
+-- buffer, promise 3 of docs/SPEC.md holds: the answer is 11 exactly if no assignment passes, and otherwise the map is the
+-- best.
 pub record Maps (n : Node) (buffer : List ℕ) (a : MappedNode) (after : List ℕ) : Type 0 where
   pub answers : answer a ≡ mapAnswer n (length buffer)
   pub written : after ≡ left (answer a) (mapOf n) buffer

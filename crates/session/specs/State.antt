@@ -10,7 +10,7 @@ use Rattle.session.specs.declared.Session.{Session}
 abbrev pub nodeIn : Session → Node
 nodeIn s = nodeOf (s .words) (s .count) (s .levels)
 
--- The session of a node. Nothing in it is left free.
+-- The session of a node. The node determines every word.
 unfoldable pub sessionOf : Node → Session
 sessionOf n = record { levels = n .levels; count = length (n .entries); words = zeroPadded (wordsOf (n .entries)) }
 

@@ -14,8 +14,8 @@ abbrev pub timeGives : TimeAnswer → Answer Completion
 timeGives (Answered t) = gives (completion t)
 timeGives (Refused r) = refuses (numbered r)
 
--- The checks, and then the completion time test of the entry at i, in the group from `first` to `last`; the entries before
--- the group are more urgent.
+-- The answer: the checks, then the completion time test of the entry at i, in the group from `first` to `last`. The entries
+-- before the group are on more urgent levels.
 unfoldable pub timeAnswer : Node → ℕ → ℕ → ℕ → Answer Completion
 timeAnswer n first last i =
     giving (stepCheck (asking (timing first last i)) n) (completionTest (n .entries) (groupLevel first last) i)

@@ -1,5 +1,6 @@
-// The checks of each operation, in their order. A session is given by its level count, its entry count and the words of its
-// entries, and is first checked as a node of a file is: 4, then 7 and 8 with the place.
+// The checks of each operation, in their order; numbers in parentheses are the refusals. A session is given by its level
+// count, its entry count and the words of its entries. It is checked first, like a node of a file: 4, then 7 and 8 with the
+// entry's position.
 use node_words::check_words;
 use refusals::Checked;
 use refusals::Refusal;
@@ -14,7 +15,7 @@ ghost use Rattle.refusals.specs.Refusals.{outcome};
 ghost use Rattle.node_words.specs.Words.{nodeSize, nodeOf};
 ghost use Rattle.session.specs.Operations.{changing, asking, inserting, removing, replacing, settingLevels, timing, levelsCheck, stepCheck};
 
-// Accepts 1 to 64 levels (4).
+// Checks that there are 1 to 64 levels (4).
 pub fn check_levels(levels: u8) -> Checked
     ensures { λ a. ⌜ outcome a ≡ levelsCheck levels ⌝ }
 {
@@ -27,8 +28,8 @@ pub fn check_levels(levels: u8) -> Checked
     Checked::Accepted
 }
 
-// Accepts a position before which an entry may be inserted (12), a list that is not full (13), and an entry within the
-// limits (7, 8).
+// Checks that the position is at most the entry count (12), that the list is not full (13), and that the entry is within
+// the limits (7, 8).
 pub fn check_insert(levels: u32, count: usize, words: &[u32], position: usize, e: Entry) -> Checked
     requires { ⌜ nodeSize ≤ length (now words) ⌝ }
     ensures { λ a. ⌜ outcome a ≡ stepCheck (changing (inserting position e)) (nodeOf (now (words .entry)) count levels) ⌝ }
@@ -46,7 +47,7 @@ pub fn check_insert(levels: u32, count: usize, words: &[u32], position: usize, e
     check_entry(0, position, e)
 }
 
-// Accepts the position of an entry (12).
+// Checks that there is an entry at the position (12).
 pub fn check_remove(levels: u32, count: usize, words: &[u32], position: usize) -> Checked
     requires { ⌜ nodeSize ≤ length (now words) ⌝ }
     ensures { λ a. ⌜ outcome a ≡ stepCheck (changing (removing position)) (nodeOf (now (words .entry)) count levels) ⌝ }
@@ -61,7 +62,7 @@ pub fn check_remove(levels: u32, count: usize, words: &[u32], position: usize) -
     Checked::Accepted
 }
 
-// Accepts the position of an entry (12), and an entry within the limits (7, 8).
+// Checks that there is an entry at the position (12), and that the new entry is within the limits (7, 8).
 pub fn check_replace(levels: u32, count: usize, words: &[u32], position: usize, e: Entry) -> Checked
     requires { ⌜ nodeSize ≤ length (now words) ⌝ }
     ensures { λ a. ⌜ outcome a ≡ stepCheck (changing (replacing position e)) (nodeOf (now (words .entry)) count levels) ⌝ }
@@ -73,7 +74,7 @@ pub fn check_replace(levels: u32, count: usize, words: &[u32], position: usize, 
     check_entry(0, position, e)
 }
 
-// Accepts 1 to 64 levels (4) for a session that is open.
+// Checks that the new count of levels is 1 to 64 (4).
 pub fn check_set_levels(open_levels: u32, count: usize, words: &[u32], levels: u8) -> Checked
     requires { ⌜ nodeSize ≤ length (now words) ⌝ }
     ensures { λ a. ⌜ outcome a ≡ stepCheck (changing (settingLevels levels)) (nodeOf (now (words .entry)) count «open_levels») ⌝ }
@@ -85,7 +86,7 @@ pub fn check_set_levels(open_levels: u32, count: usize, words: &[u32], levels: u
     check_levels(levels)
 }
 
-// Accepts a group of the list, and an entry in it (12).
+// Checks that the group is in the list, and that the entry is in the group (12).
 pub fn check_time(
     levels: u32,
     count: usize,

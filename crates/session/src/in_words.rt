@@ -1,5 +1,5 @@
-// The changes of a session that is lent as words: its level count, its entry count and the words of a node. They are made
-// in place, and a refused one writes nothing.
+// The changes of a session that is lent as words: its level count, its entry count and the words of a node. Changes are
+// made in place; a refused change writes nothing. Numbers in parentheses are the refusals, in the order of the checks.
 use super::checks::check_insert;
 use super::checks::check_levels;
 use super::checks::check_remove;

@@ -1,4 +1,5 @@
-// The session: one node, changed entry by entry until it maps.
+// The session: one node that is changed entry by entry. Numbers in parentheses are the refusals of an operation, in the
+// order of its checks.
 mod checks;
 pub mod in_words;
 
@@ -26,7 +27,7 @@ pub const SESSION_WORDS: usize = 2 + NODE_WORDS;
 
 pub type SessionWords = [u32; SESSION_WORDS];
 
-// One node, with room for all entries that it may have, in words of 32 bits without padding.
+// One node, with room for the most entries that it may have, in words of 32 bits without padding.
 #[repr(C)]
 pub struct Session {
     levels: u32,
@@ -57,7 +58,7 @@ pub fn blank() -> Session
     }
 }
 
-// Opens a session: an empty node with the given level count. As each change by value it is made in the session's words.
+// Opens a session: an empty node with the given level count. Like all changes by value, it works on the session's words.
 pub fn opened(s: Session, levels: u8) -> Changed
     ensures { λ c. ⌜ Follows (opening levels) s (c .answer) (c .session) ⌝ }
 {
@@ -67,7 +68,7 @@ pub fn opened(s: Session, levels: u8) -> Changed
     Changed { answer, session }
 }
 
-// Inserts an entry before a position; just after the last entry it appends.
+// Inserts an entry before a position, or just after the last entry.
 pub fn inserted(s: Session, position: usize, e: Entry) -> Changed
     ensures { λ c. ⌜ Follows (changing (inserting position e)) s (c .answer) (c .session) ⌝ }
 {
@@ -107,7 +108,7 @@ pub fn with_levels(s: Session, levels: u8) -> Changed
     Changed { answer, session }
 }
 
-// Times the entry at `i` in the group from `first` to `last`; the entries before the group are more urgent.
+// Times the entry at `i` in the group from `first` to `last`. The entries before the group are on higher levels.
 pub fn timed(s: Session, first: usize, last: usize, i: usize) -> TimeAnswer
     ensures { λ a. ⌜ timeGives a ≡ timeAnswer (nodeIn s) first last i ⌝ }
 {
@@ -119,7 +120,7 @@ pub fn timed(s: Session, first: usize, last: usize, i: usize) -> TimeAnswer
     TimeAnswer::Answered(completion_test(&s.words, count, first, last, i))
 }
 
-// Maps the node: one byte an entry from the start of `out`, which a refusal leaves untouched.
+// Maps the node: writes one byte per entry from the start of `out`. A refusal leaves `out` untouched.
 pub fn mapped(s: Session, out: &mut [u8]) -> MappedNode
     ensures { λ a. ⌜ Maps (nodeIn s) (now (out .entry)) a (now (out .exit)) ⌝ }
 {
@@ -131,7 +132,7 @@ pub fn mapped(s: Session, out: &mut [u8]) -> MappedNode
     map_held(&s.words, count, s.levels as u8, out)
 }
 
-// Opens the session that is lent, whatever it held: an empty node with the given level count (4).
+// Opens the lent session, whatever it held: an empty node with the given level count (4).
 pub fn open(s: &mut Session, levels: u8) -> Checked
     ensures { λ a. ⌜ Follows (opening levels) (now (s .entry)) a (now (s .exit)) ⌝ }
 {
@@ -183,7 +184,7 @@ pub fn time(s: &Session, first: usize, last: usize, i: usize) -> TimeAnswer
     timed(*s, first, last, i)
 }
 
-// Maps the node into `out`, one byte an entry (10, 11). The session is only read.
+// Maps the node into `out`, one byte per entry (10, 11). The session is only read.
 pub fn map(s: &Session, out: &mut [u8]) -> MappedNode
     ensures { λ a. ⌜ Maps (nodeIn (now (s .entry))) (now (out .entry)) a (now (out .exit)) ⌝ }
 {

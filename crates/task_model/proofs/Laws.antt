@@ -1,4 +1,4 @@
--- Laws of the limits and the checks: what a test's answer says of the numbers, and a check's answer of the limits.
+-- Laws of the limits and the checks: from a test's result to facts about numbers, and from a check's outcome to limits.
 use Prim.Native.Nat.{ℕ, suc, _-_, _≤_}
 use mathlib.Core.Path.{_≡_}
 use mathlib.Core.Bool.{true, false}

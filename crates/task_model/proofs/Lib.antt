@@ -1,4 +1,4 @@
--- Laws that the functions' proofs and other crates cite, and the theorems of the checks.
+-- Laws for the proofs of functions, here and in other crates, and the theorems of the checks.
 pub mod Tests
 pub mod Laws
 pub mod Theorems

@@ -1,4 +1,4 @@
--- Laws of tests: what their answer, true or false, says.
+-- Laws of tests: what follows from true, and what from false.
 use mathlib.Core.Path.{_≡_, refl}
 use mathlib.Core.Bool.{Bool, true, false, _&&_, false≢true}
 use mathlib.Core.Logic.{_⊎_, inl, inr, ⊎-elim}

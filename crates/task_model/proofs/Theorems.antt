@@ -1,4 +1,4 @@
--- What a check's answer says: accepted is within every limit, and each refusal names what is broken.
+-- What the outcome of a check means: what it accepts is within every limit, and each refusal names a limit that is broken.
 use Prim.Native.Nat.{ℕ, zero, suc, _+_, _≤_, _<_}
 use mathlib.Core.Path.{_≡_, _∙_, refl, sym, ap}
 use mathlib.Core.Bool.{true, false, _&&_, true≢false}

@@ -30,7 +30,7 @@ entryCheck row position e =
       ]
     ]
 
--- Entry by entry from a position on: the first refusal that is met.
+-- Entries one by one, from a position on: the first refusal that is met.
 unfoldable pub entriesCheck : ℕ → ℕ → List Entry → Outcome
 entriesCheck row position [] = accepted
 entriesCheck row position (e ∷ es) =
@@ -43,7 +43,7 @@ entriesCheck row position (e ∷ es) =
 unfoldable pub sizeTest : ℕ → ℕ → Bool
 sizeTest levels count = leb 1 levels && leb levels mostLevels && leb count mostEntries
 
--- A node: first its sizes (4), then its entries.
+-- A node: first its counts of levels and entries (4), then its entries.
 unfoldable pub nodeCheck : ℕ → Node → Outcome
 nodeCheck row n =
     elim (sizeTest (n .levels) (length (n .entries))) [

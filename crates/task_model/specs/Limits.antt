@@ -6,22 +6,24 @@ use mathlib.Core.List.{List}
 use lib.ListN.{length, getD}
 use Rattle.task_model.specs.declared.Entry.{Entry}
 
--- The longest period and the longest blocking, in ticks; the most levels and the most entries of a node.
+-- The longest period and the longest blocking, in ticks.
 abbrev pub mostTicks : ℕ
 mostTicks = 1000000000
 
+-- The most levels of a node.
 abbrev pub mostLevels : ℕ
 mostLevels = 64
 
+-- The most entries of a node.
 abbrev pub mostEntries : ℕ
 mostEntries = 64
 
--- A node: its priority levels, and its entries in listed order, most urgent first.
+-- A node: the number of its priority levels, and its entries in listed order, most urgent first.
 pub record Node : Type 0 where
   pub levels : ℕ
   pub entries : List Entry
 
--- What stands at a position that the list does not have. Nothing that is proved goes by it.
+-- Default outside the list; no theorem depends on it.
 abbrev pub noEntry : Entry
 noEntry = record { number = 0; kind = 0; calls = 0; wcet = 0; period = 0; deadline = 0; blocking = 0 }
 
@@ -41,6 +43,7 @@ pub record TimesHold (e : Entry) : Type 0 where
   pub longest : e .period ≤ mostTicks
   pub blocked : e .blocking ≤ mostTicks
 
+-- An entry within the limits: its kind and calls, and its times.
 pub record EntryHolds (e : Entry) : Type 0 where
   pub kind : KindHolds e
   pub times : TimesHold e
@@ -49,7 +52,7 @@ pub record EntryHolds (e : Entry) : Type 0 where
 abbrev pub AllHold : List Entry → Type 0
 AllHold es = (j : ℕ) → j < length es → EntryHolds (entryAt es j)
 
--- 1 to 64 levels, up to 64 entries, each within the limits.
+-- A node within the limits: 1 to 64 levels, and up to 64 entries, each within the limits.
 pub record NodeHolds (n : Node) : Type 0 where
   pub someLevels : 1 ≤ n .levels
   pub fewLevels : n .levels ≤ mostLevels

@@ -1,26 +1,26 @@
-// The task model: an entry's fields and the limits that they keep.
+// The task model: the fields of an entry, and their limits.
 use refusals::Checked;
 use refusals::Refusal;
 ghost use mathlib.Core.Path.{_≡_};
 ghost use Rattle.refusals.specs.Refusals.{outcome};
 ghost use Rattle.task_model.specs.Checks.{kindTest, timesTest, entryCheck};
 
-// The longest period and the longest blocking, in ticks; the most levels and the most entries of a node.
+// Upper limits: of T and B in ticks, of a node's levels, and of a node's entries.
 pub const MOST_TICKS: u32 = 1000000000;
 
 pub const MOST_LEVELS: u8 = 64;
 
 pub const MOST_ENTRIES: usize = 64;
 
-// An entry of a node: a task, or a global critical section that runs here for a remote task.
-// (docs/SPEC.md, 'Terms', has the field's words beside these.)
+// An entry of a node: a task, or a global critical section that runs here for a remote task. (docs/SPEC.md, 'Terms', has
+// the usual scheduling terms beside these.)
 pub struct Entry {
     pub number: u16,
     // 1 is a task, 2 a global critical section.
     pub kind: u8,
-    // r: the remote sections that it calls in a period.
+    // r: how many remote sections it calls in a period.
     pub calls: u8,
-    // C: the longest run.
+    // C: the worst-case execution time.
     pub wcet: u32,
     // T, D and B.
     pub period: u32,
@@ -28,7 +28,7 @@ pub struct Entry {
     pub blocking: u32,
 }
 
-// Whether the kind is one of the two, with as many remote calls as it may have.
+// Whether the kind is 1 with at most 15 remote calls, or 2 with none.
 fn kind_holds(kind: u8, calls: u8) -> bool
     ensures { λ a. ⌜ a ≡ kindTest kind calls ⌝ }
 {
@@ -45,7 +45,7 @@ fn kind_holds(kind: u8, calls: u8) -> bool
     }
 }
 
-// Whether 1 ≤ C ≤ D ≤ T, and neither T nor B is above the most ticks.
+// Whether 1 ≤ C ≤ D ≤ T ≤ MOST_TICKS and B ≤ MOST_TICKS.
 fn times_hold(e: Entry) -> bool
     ensures { λ a. ⌜ a ≡ timesTest e ⌝ }
 {
@@ -64,7 +64,7 @@ fn times_hold(e: Entry) -> bool
     e.blocking <= MOST_TICKS
 }
 
-// Accepts an entry within the limits; refuses its kind (7), then its times (8), at the places given.
+// Checks an entry: its kind and calls (7), then its times (8). A refusal has the given row and position.
 pub fn check_entry(row: usize, position: usize, e: Entry) -> Checked
     ensures { λ a. ⌜ outcome a ≡ entryCheck row position e ⌝ }
 {

@@ -1,4 +1,5 @@
--- Decimal numbers: the digits of a number, one by one; what is printed reads back; no leading zero; how many there are.
+-- Decimal numbers: the digits one by one; reading gives back the number that was printed; no leading zero; how many digits
+-- there are.
 use Prim.Native.Nat.{ℕ, zero, suc, _+_, _-_, _*_, _/_, _%_, _^_, _≤_, _<_}
 use mathlib.Core.Path.{_≡_, _∙_, refl, ap, sym}
 use mathlib.Core.Logic.{by-cases}

@@ -6,7 +6,7 @@ use Prim.Native.String.{String}
 use lib.Dec.{ltb}
 use Rattle.text.specs.Text.{text}
 
--- The digits of n, the last one last, no more than `most` of them. The digit d is the byte 48 + d.
+-- The digits of n in reading order, or only the last `most` of them. The digit d is the byte 48 + d.
 unfoldable pub digits : ℕ → ℕ → List ℕ
 digits zero n = []
 digits (suc most) n =
@@ -15,15 +15,16 @@ digits (suc most) n =
       | false ↦ digits most (n / 10) ++ (48 + n % 10) ∷ []
     ]
 
--- A number has no more digits than 1 and the number itself.
+-- All digits of n: there are at most n + 1 of them.
 unfoldable pub decimal : ℕ → List ℕ
 decimal n = digits (suc n) n
 
--- The number that digits stand for, after `n` was read.
+-- Reads on: the number that these digits form after digits that form n.
 unfoldable pub readOn : ℕ → List ℕ → ℕ
 readOn n [] = n
 readOn n (d ∷ ds) = readOn (n * 10 + (d - 48)) ds
 
+-- The number that digits form.
 unfoldable pub number : List ℕ → ℕ
 number ds = readOn 0 ds
 

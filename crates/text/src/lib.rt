@@ -1,4 +1,4 @@
-// Text into a lent buffer. Each function writes from a position on, and answers the position after what it wrote.
+// Writes text into a lent buffer. Each function writes from position `at` on, and returns the position after the text.
 ghost use Prim.Native.Nat.{_+_, _≤_};
 ghost use mathlib.Core.List.{_++_};
 ghost use lib.ListN.{length};
@@ -15,7 +15,7 @@ pub fn put_bytes(out: &mut [u8], at: usize, bytes: &[u8]) -> usize
     at + bytes.len()
 }
 
-// A number in decimal digits.
+// Writes a number in decimal digits.
 pub fn put_number(out: &mut [u8], at: usize, n: u64) -> usize
     requires { ⌜ at + length (decimal n) ≤ length (now out) ⌝ }
     ensures { λ end. ⌜ Wrote (now (out .entry)) at (decimal n) (now (out .exit)) end ⌝ }
@@ -29,7 +29,7 @@ pub fn put_number(out: &mut [u8], at: usize, n: u64) -> usize
     end + 1
 }
 
-// A label and a number.
+// Writes a label and a number.
 pub fn put_field(out: &mut [u8], at: usize, label: &[u8], n: u64) -> usize
     requires { ⌜ at + (length (now label) + length (decimal n)) ≤ length (now out) ⌝ }
     ensures { λ end. ⌜ Wrote (now (out .entry)) at (now (label .entry) ++ decimal n) (now (out .exit)) end ⌝ }

@@ -34,9 +34,16 @@ few-higher c =
     rw (c .higher-level-sum .ensures)
     (higher-level-small _ _ (c .before .before .before .pre .0) (omega arith) _ _ (omega arith) (omega arith))
 
+-- places that the needs look back to
+abbrev at-start : tie.After-same-level-sum → tie.Start
+at-start c = c .before .before .before .before
+
+abbrev after-entry-at : tie.After-same-level-sum2 → tie.After-entry-at
+after-entry-at c = c .before .before .before .before
+
 few-left : (c : tie.After-same-level-sum) → c .same-level-sum .result ≤ mostInterferences
 few-left c =
-    let s = c .before .before .before .before in
+    let s = at-start c in
     omega (
       arith,
       c .same-level-sum .ensures,
@@ -46,11 +53,11 @@ few-left c =
 
 few-right : (c : tie.After-same-level-sum2) → c .same-level-sum2 .result ≤ mostInterferences
 few-right c =
-    let s = c .before .before .before .before .before in
+    let s = at-start (c .before) in
     omega (
       arith,
       c .same-level-sum2 .ensures,
-      same-level-small _ _ (s .pre .0) (omega arith) (c .before .before .before .before .entry-at .result .calls) (s .args .t)
+      same-level-small _ _ (s .pre .0) (omega arith) (after-entry-at c .entry-at .result .calls) (s .args .t)
           (s .args .last + 1) (omega arith) (omega arith),
     )
 
@@ -73,7 +80,7 @@ add-same-level-sum-2 c = omega arith
 
 same-level-sum-requires-2 : tie.Need-same-level-sum-requires-2
 same-level-sum-requires-2 c κs =
-    let p = c .before .before .before .before .pre in
+    let p = at-start c .pre in
     (all-fewer _ _ _ (omega arith) (p .0), ((omega arith, omega arith), p .1 .1))
 
 add-result-4 : tie.Need-add-result-4
@@ -82,7 +89,7 @@ add-result-4 c =
 
 returns : tie.Need-returns
 returns c =
-    words-parts _ _ _ _ _ (omega arith) (omega arith) (omega arith) _ _ _ _ _ _ (c .before .before .before .before .entry-at .ensures)
+    words-parts _ _ _ _ _ (omega arith) (omega arith) (omega arith) _ _ _ _ _ _ (after-entry-at c .entry-at .ensures)
     (c .before .before .higher-level-sum .ensures) (c .before .same-level-sum .ensures) (c .same-level-sum2 .ensures)
 
 pub demand-at-spec : {M : Type 1} → statement M

@@ -56,9 +56,16 @@ loop-holds c =
 cast-time : tie.Need-cast-time Inv-loop μ-loop
 cast-time c = omega arith
 
+-- places that the needs look back to
+abbrev at-start-2 : tie.In-loop Inv-loop μ-loop → tie.Start Inv-loop μ-loop
+at-start-2 c = c .before .before .before .before .before
+
+abbrev at-start-3 : tie.After-loop Inv-loop μ-loop → tie.Start Inv-loop μ-loop
+at-start-3 c = c .before .before .before .before .before
+
 demand-at-requires : tie.Need-demand-at-requires Inv-loop μ-loop
 demand-at-requires c κs =
-    let p = c .before .before .before .before .before .pre in
+    let p = at-start-2 c .pre in
     (p .0, (p .1, (omega arith, omega arith)))
 
 add-rounds : tie.Need-add-rounds Inv-loop μ-loop
@@ -109,7 +116,7 @@ loop-again c =
 
 returns-2 : tie.Need-returns-2 Inv-loop μ-loop
 returns-2 c =
-    let p = c .before .before .before .before .before .pre in
+    let p = at-start-3 c .pre in
     both _ _ _ (p .0) _ _ _ (omega arith) _
     (loop-late _ _ (words-up _ _ (p .0) _ _ _ (omega arith) (omega arith) _) _ _ _ (c .before .loop .inv .3) (c .loop-test .left))
 

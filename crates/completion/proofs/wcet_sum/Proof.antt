@@ -27,14 +27,18 @@ entry-at-requires c κs = omega arith
 cast-sum : tie.Need-cast-sum Inv-loop μ-loop
 cast-sum c = search needs
 
+-- places that the needs look back to
+abbrev at-start : tie.After-struct-known Inv-loop μ-loop → tie.Start Inv-loop μ-loop
+at-start c = c .before .before .before .before
+
 -- the run of the entry at hand
 module _ (c : tie.After-struct-known Inv-loop μ-loop) where
   run : c .before .entry-at .result .wcet
-      ≡ entryOf (c .before .before .before .before .args .words .now) (c .before .before .before .loop .j) .wcet
+      ≡ entryOf (at-start c .args .words .now) (c .before .before .before .loop .j) .wcet
   run = ap (λ (e : Entry). e .wcet) (c .before .entry-at .ensures)
 
   few : c .before .entry-at .result .wcet ≤ mostTicks
-  few = omega (arith, run, all-at _ _ (c .before .before .before .before .pre .0) _ (c .before .before .loop-test .taken) .times)
+  few = omega (arith, run, all-at _ _ (at-start c .pre .0) _ (c .before .before .loop-test .taken) .times)
 
 add-sum : tie.Need-add-sum Inv-loop μ-loop
 add-sum c = omega (arith, few c)

@@ -52,18 +52,25 @@ enum-known-start c = search needs
 enum-told : tie.Need-enum-told Inv-loop μ-loop
 enum-told c = search needs
 
+-- places that the needs look back to
+abbrev at-start-2 : tie.After-least-start Inv-loop μ-loop → tie.Start Inv-loop μ-loop
+at-start-2 c = c .before .before .before .before
+
+abbrev at-loop-2 : tie.After-enum-told Inv-loop μ-loop → tie.At-loop Inv-loop μ-loop
+at-loop-2 c = c .before .before .before .before .before
+
 -- what the answer for the last group says
 told : (c : tie.After-least-start Inv-loop μ-loop) (o : Start) → c .least-start .result ≡ o
     → LeastStart
-    (GroupPasses (entriesOf (c .before .before .before .before .args .words .now) (c .before .before .before .before .args .count))
+    (GroupPasses (entriesOf (at-start-2 c .args .words .now) (at-start-2 c .args .count))
     (added (c .before .before .before .loop .end)) (c .before .before .before .loop .end))
     (c .before .before .before .loop .end) o
 told c o p = subst (LeastStart _ _) p (c .least-start .ensures)
 
 returns-2 : tie.Need-returns-2 Inv-loop μ-loop
 returns-2 c =
-    let l = c .before .before .before .before .before .loop in
-    let s = c .before .before .before .before .before .before in
+    let l = at-loop-2 c .loop in
+    let s = at-start-2 (c .before .before) in
     first s ∙ reached-stop (test s) _ (l .cuts) (l .end) (l .groups) (l .inv .0) (omega arith) (omega arith)
     (told (c .before .before) Nowhere (c .enum-told .given .1))
 

@@ -67,9 +67,16 @@ sub-entry-at c = omega arith
 entry-at-requires : tie.Need-entry-at-requires Inv-loop μ-loop Inv-starts μ-starts
 entry-at-requires c κs = omega arith
 
+-- places that the needs look back to
+abbrev at-start-2 : tie.After-struct-known Inv-loop μ-loop Inv-starts μ-starts → tie.Start Inv-loop μ-loop Inv-starts μ-starts
+at-start-2 c = c .before .before .before .before .before .before .before .before
+
+abbrev after-wcet-sum : tie.After-struct-known Inv-loop μ-loop Inv-starts μ-starts → tie.After-wcet-sum Inv-loop μ-loop Inv-starts μ-starts
+after-wcet-sum c = c .before .before .before .before .before .before .before
+
 add-blocking : tie.Need-add-blocking Inv-loop μ-loop Inv-starts μ-starts
 add-blocking c =
-    let k = c .before .before .before .before .before .before .before .before in
+    let k = at-start-2 c in
     let l = c .before .before .before .loop in
     omega (
       arith,
@@ -85,7 +92,7 @@ sub-ends-on-time-2 c = omega arith
 
 ends-on-time-requires : tie.Need-ends-on-time-requires Inv-loop μ-loop Inv-starts μ-starts
 ends-on-time-requires c κs =
-    let s = c .before .before .before .before .before .before .before in
+    let s = after-wcet-sum c in
     let k = s .before in
     let whole : (k .args .end - 1) + 1 ≡ k .args .end = omega arith in
     (k .pre .0, ((omega arith, omega arith, omega arith, omega arith), rw whole (s .wcet-sum .ensures)))

@@ -26,10 +26,17 @@ module _ (c : tie.Start) where
   few : c .args .count ≤ mostEntries
   few = omega (arith, c .pre .fewEntries, sized)
 
+-- places that the needs look back to
+abbrev at-start : tie.After-find-cuts → tie.Start
+at-start c = c .before .before .before .before
+
+abbrev after-groups : tie.After-slice-known2 → tie.After-groups
+after-groups c = c .before .before .before .before .before .before
+
 -- what the cuts say, by the answer that came with them
 cut : (c : tie.After-find-cuts) (o : Cut) → c .find-cuts .result ≡ o
-    → CutAnswer (theMap (n (c .before .before .before .before) .entries) (n (c .before .before .before .before) .levels))
-    (c .before .before .before .before .args .count) (c .before .before .before .before .args .levels) o (c .find-cuts .last .1 .1 .1 .0)
+    → CutAnswer (theMap (n (at-start c) .entries) (n (at-start c) .levels))
+    (at-start c .args .count) (at-start c .args .levels) o (c .find-cuts .last .1 .1 .1 .0)
 cut c o p = rw p at (c .find-cuts .ensures)
 
 returns : tie.Need-returns
@@ -48,13 +55,13 @@ enum-told c = search needs
 
 returns-2 : tie.Need-returns-2
 returns-2 c =
-    let s = c .before .before .before .before .before .before in
+    let s = at-start (c .before .before) in
     right-none (n s) (s .pre) (s .args .out .now) (omega (arith, sized s)) (cut (c .before .before) NoMap (c .enum-told .given .1))
 
 write-levels-requires : tie.Need-write-levels-requires
 write-levels-requires c κs =
     let g = c .before .before .before in
-    let s = g .before .before .before .before .before .before in
+    let s = at-start (g .before .before) in
     let r = cut (g .before .before) (Groups (g .groups .given .0 .0)) (g .groups .given .1) in
     ((r .1, few s, omega arith), r .0 .falling)
 
@@ -63,8 +70,8 @@ same-length c = search needs
 
 returns-3 : tie.Need-returns-3
 returns-3 c =
-    let g = c .before .before .before .before .before .before in
-    let s = g .before .before .before .before .before .before in
+    let g = after-groups c in
+    let s = at-start (g .before .before) in
     let r = cut (g .before .before) (Groups (g .groups .given .0 .0)) (g .groups .given .1) in
     rw (length-take-le _ _ (r .1)) at (right-map (n s) (s .pre) (s .args .out .now) (s .args .count) _ _ (sized s) (omega arith)
     (r .0) (c .before .before .write-levels .ensures))

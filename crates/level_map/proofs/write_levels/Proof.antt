@@ -79,9 +79,13 @@ add-g c = search needs
 loop-less : tie.Need-loop-less Inv-loop μ-loop
 loop-less c = omega arith
 
+-- places that the needs look back to
+abbrev in-loop : tie.After-slice-known2 Inv-loop μ-loop → tie.In-loop Inv-loop μ-loop
+in-loop c = c .before .before .before .before .before
+
 loop-again : tie.Need-loop-again Inv-loop μ-loop
 loop-again c =
-    let k = c .before .before .before .before .before in
+    let k = in-loop c in
     let l = k .before .loop in
     let n = next k in (
       (rw (c .before .before .fill-level .ensures) (n .2)),

@@ -31,10 +31,23 @@ element-copy-out-if1 c = search needs
 element-copy-out-if1-2 : tie.Need-element-copy-out-if1-2 Inv-loop μ-loop
 element-copy-out-if1-2 c = search needs
 
+-- places that the needs look back to
+abbrev at-start : tie.Then1 Inv-loop μ-loop → tie.Start Inv-loop μ-loop
+at-start c = c .before .before .before .before .before
+
+abbrev at-loop : tie.Then1 Inv-loop μ-loop → tie.At-loop Inv-loop μ-loop
+at-loop c = c .before .before .before .before
+
+abbrev at-start-2 : tie.Else1 Inv-loop μ-loop → tie.Start Inv-loop μ-loop
+at-start-2 c = c .before .before .before .before .before
+
+abbrev at-loop-2 : tie.Else1 Inv-loop μ-loop → tie.At-loop Inv-loop μ-loop
+at-loop-2 c = c .before .before .before .before
+
 returns : tie.Need-returns Inv-loop μ-loop
 returns c =
-    let a = c .before .before .before .before .before .args in
-    let b = c .before .before .before .before .loop in
+    let a = at-start c .args in
+    let b = at-loop c .loop in
     record {
       within = b .inv .0;
       inside = b .inv .1;
@@ -50,10 +63,10 @@ loop-less c = omega arith
 
 loop-again : tie.Need-loop-again Inv-loop μ-loop
 loop-again c =
-    let a = c .before .before .before .before .before .args in (
+    let a = at-start-2 c .args in (
       omega arith,
       omega arith,
-      more-after (a .levels .now) _ _ (c .before .before .before .before .loop .inv .2) (c .if1 .left),
+      more-after (a .levels .now) _ _ (at-loop-2 c .loop .inv .2) (c .if1 .left),
     )
 
 returns-2 : tie.Need-returns-2 Inv-loop μ-loop

@@ -53,8 +53,15 @@ few c =
 group-end-requires : tie.Need-group-end-requires Inv-loop μ-loop
 group-end-requires c κs = omega (arith, few (c .before .before .before))
 
+-- places that the needs look back to
+abbrev at-start-2 : tie.After-group-end Inv-loop μ-loop → tie.Start Inv-loop μ-loop
+at-start-2 c = c .before .before .before .before
+
+abbrev after-group-end : tie.After-slice-known2 Inv-loop μ-loop → tie.After-group-end Inv-loop μ-loop
+after-group-end c = c .before .before .before .before
+
 add-put-group : tie.Need-add-put-group Inv-loop μ-loop
-add-put-group c = omega (arith, few (c .before .before .before .before))
+add-put-group c = omega (arith, few (at-start-2 c))
 
 -- the group at hand
 module _ (c : tie.After-group-end Inv-loop μ-loop) where
@@ -90,7 +97,7 @@ loop-less c = omega arith
 
 loop-again : tie.Need-loop-again Inv-loop μ-loop
 loop-again c =
-    let k = c .before .before .before .before in
+    let k = after-group-end c in
     let l = at-loop k .loop in
     let g = group k in
     let size : 56 * l .first + 56 * (k .group-end .result - l .first) ≡ 56 * k .group-end .result = omega arith in (

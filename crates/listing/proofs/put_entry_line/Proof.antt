@@ -48,24 +48,43 @@ module _ (s : tie.Start) where
   rounds-short : length rounds ≤ 18
   rounds-short = field-32 (text " rounds ") (s .args .rounds) (s .fits .rounds .fits)
 
+-- places that the needs look back to
+abbrev at-start : tie.After-put-three-arg4 → tie.Start
+at-start c = c .before .before .before .before .before
+
+abbrev at-start-2 : tie.After-put-field-arg2 → tie.Start
+at-start-2 c = at-start (c .before .before .before .before .before)
+
+abbrev after-put-three : tie.After-put-field-arg2 → tie.After-put-three
+after-put-three c = c .before .before .before .before
+
+abbrev at-start-3 : tie.After-put-bytes-arg2 → tie.Start
+at-start-3 c = at-start-2 (c .before .before .before .before .before)
+
+abbrev after-put-three-2 : tie.After-put-bytes-arg2 → tie.After-put-three
+after-put-three-2 c = after-put-three (c .before .before .before .before .before)
+
+abbrev after-put-field : tie.After-put-bytes-arg2 → tie.After-put-field
+after-put-field c = c .before .before .before .before
+
 put-three-requires : tie.Need-put-three-requires
-put-three-requires c κs = let s = c .before .before .before .before .before in omega (arith, entry-short s, level-short s, time-short s)
+put-three-requires c κs = let s = at-start c in omega (arith, entry-short s, level-short s, time-short s)
 
 slice-aggregate-put-field : tie.Need-slice-aggregate-put-field
 slice-aggregate-put-field c = search needs
 
 put-field-requires : tie.Need-put-field-requires
 put-field-requires c κs =
-    let s = c .before .before .before .before .before .before .before .before .before .before in
-    omega (arith, upto-room (numbers s (c .before .before .before .before .put-three .ensures)) (omega arith) 18 (omega arith), rounds-short s)
+    let s = at-start-2 c in
+    omega (arith, upto-room (numbers s (after-put-three c .put-three .ensures)) (omega arith) 18 (omega arith), rounds-short s)
 
 slice-aggregate-put-bytes : tie.Need-slice-aggregate-put-bytes
 slice-aggregate-put-bytes c = search needs
 
 put-bytes-requires : tie.Need-put-bytes-requires
 put-bytes-requires c κs =
-    let s = c .before .before .before .before .before .before .before .before .before .before .before .before .before .before .before in
-    upto-room (upto-then (numbers s (c .before .before .before .before .before .before .before .before .before .put-three .ensures)) (omega arith) 18 (rounds-short s) (c .before .before .before .before .put-field .ensures)) (omega arith) 1 (omega arith)
+    let s = at-start-3 c in
+    upto-room (upto-then (numbers s (after-put-three-2 c .put-three .ensures)) (omega arith) 18 (rounds-short s) (after-put-field c .put-field .ensures)) (omega arith) 1 (omega arith)
 
 same-length : tie.Need-same-length
 same-length c = search needs
@@ -73,8 +92,8 @@ same-length c = search needs
 returns : tie.Need-returns
 unfolding entryLine
 returns c =
-    let s = c .before .before .before .before .before .before .before .before .before .before .before .before .before .before .before .before .before .before in
-    upto-then (upto-then (numbers s (c .before .before .before .before .before .before .before .before .before .before .before .before .put-three .ensures)) (omega arith) 18 (rounds-short s) (c .before .before .before .before .before .before .before .put-field .ensures)) (omega arith) 1 (omega arith)
+    let s = at-start-3 (c .before .before .before) in
+    upto-then (upto-then (numbers s (after-put-three-2 (c .before .before .before) .put-three .ensures)) (omega arith) 18 (rounds-short s) (after-put-field (c .before .before .before) .put-field .ensures)) (omega arith) 1 (omega arith)
     (c .before .before .put-bytes .ensures)
 
 pub put-entry-line-spec : {M : Type 1} → statement M

@@ -34,10 +34,17 @@ loop-holds c =
 sub-put-entry : tie.Need-sub-put-entry Inv-loop μ-loop
 sub-put-entry c = omega arith
 
+-- places that the needs look back to
+abbrev at-start : tie.After-put-entry-arg Inv-loop μ-loop → tie.Start Inv-loop μ-loop
+at-start c = c .before .before .before .before
+
+abbrev at-loop : tie.After-slice-known2 Inv-loop μ-loop → tie.At-loop Inv-loop μ-loop
+at-loop c = c .before .before .before .before .before
+
 put-entry-requires : tie.Need-put-entry-requires Inv-loop μ-loop
 put-entry-requires c κs =
     let l = c .before .before .loop in
-    (c .before .before .before .before .pre .0, ((omega arith, omega arith, omega arith, omega arith), upto-room (l .inv .0) (omega arith) 56 (omega arith)))
+    (at-start c .pre .0, ((omega arith, omega arith, omega arith, omega arith), upto-room (l .inv .0) (omega arith) 56 (omega arith)))
 
 add-i : tie.Need-add-i Inv-loop μ-loop
 add-i c = omega arith
@@ -47,8 +54,8 @@ loop-less c = omega arith
 
 loop-again : tie.Need-loop-again Inv-loop μ-loop
 loop-again c =
-    let l = c .before .before .before .before .before .loop in
-    let a = c .before .before .before .before .before .before .before .args in
+    let l = at-loop c .loop in
+    let a = at-start (c .before .before .before) .args in
     let es = entriesOf (a .words .now) (a .count) in
     let k = l .i - a .first in
     let one : l .i + 1 - a .first ≡ k + 1 = omega arith in

@@ -109,9 +109,16 @@ module _ (c : tie.After-find-cuts) where
       sym (node-mapped (row at-load .number) (node at-load) (levelsOfCuts (take groups cuts) (row at-load .count)) (a .0 .levels)
       ∙ rw (used, sized at-load))
 
+-- places that the needs look back to
+abbrev after-enum-told : tie.After-slice-known2 → tie.After-enum-told
+after-enum-told c = c .before .before .before .before
+
+abbrev after-put-node-line : tie.After-put-entries-arg → tie.After-put-node-line
+after-put-node-line c = c .before .before .before .before .before
+
 returns : tie.Need-returns
 returns c =
-    let e = c .before .before .before .before in
+    let e = after-enum-told c in
     let k = e .before .before in
     let none = cut k NoMap (e .enum-told .given .1) in
     upto-same (sym (node-no-map (row (at-load k) .number) (node (at-load k)) none) ∙ named (at-load k))
@@ -122,7 +129,7 @@ put-node-line-requires c κs = search needs
 
 put-entries-requires : tie.Need-put-entries-requires
 put-entries-requires c κs =
-    let line = c .before .before .before .before .before in
+    let line = after-put-node-line c in
     let g = line .before .before .before in
     let k = g .before .before in
     let a = cut k _ (g .groups .given .1) in
@@ -140,7 +147,7 @@ same-length-2 c = search needs
 
 returns-2 : tie.Need-returns-2
 returns-2 c =
-    let line = c .before .before .before .before .before .before .before .before in
+    let line = after-put-node-line (c .before .before .before) in
     let g = line .before .before .before in
     let k = g .before .before in
     let few = few (at-load k) in

@@ -42,21 +42,31 @@ module _ (s : tie.Start) where
   numbers : {o n : List ℕ} {at end : ℕ} → Wrote o at (node ++ used ++ levels) n end → Upto o at 28 (node ++ used ++ levels) n end
   numbers w = three node used levels node-short used-short levels-short w
 
+-- places that the needs look back to
+abbrev at-start : tie.After-put-three-arg4 → tie.Start
+at-start c = c .before .before .before .before .before
+
+abbrev at-start-2 : tie.After-put-bytes-arg2 → tie.Start
+at-start-2 c = at-start (c .before .before .before .before .before)
+
+abbrev after-put-three : tie.After-put-bytes-arg2 → tie.After-put-three
+after-put-three c = c .before .before .before .before
+
 put-three-requires : tie.Need-put-three-requires
-put-three-requires c κs = let s = c .before .before .before .before .before in omega (arith, node-short s, used-short s, levels-short s)
+put-three-requires c κs = let s = at-start c in omega (arith, node-short s, used-short s, levels-short s)
 
 slice-aggregate-put-bytes : tie.Need-slice-aggregate-put-bytes
 slice-aggregate-put-bytes c = search needs
 
 put-bytes-requires : tie.Need-put-bytes-requires
-put-bytes-requires c κs = upto-room (numbers (c .before .before .before .before .before .before .before .before .before .before) (c .before .before .before .before .put-three .ensures)) (omega arith) 1 (omega arith)
+put-bytes-requires c κs = upto-room (numbers (at-start-2 c) (after-put-three c .put-three .ensures)) (omega arith) 1 (omega arith)
 
 same-length : tie.Need-same-length
 same-length c = search needs
 
 returns : tie.Need-returns
 unfolding nodeLine
-returns c = upto-then (numbers (c .before .before .before .before .before .before .before .before .before .before .before .before .before) (c .before .before .before .before .before .before .before .put-three .ensures)) (omega arith) 1 (omega arith) (c .before .before .put-bytes .ensures)
+returns c = upto-then (numbers (at-start-2 (c .before .before .before)) (after-put-three (c .before .before .before) .put-three .ensures)) (omega arith) 1 (omega arith) (c .before .before .put-bytes .ensures)
 
 pub put-node-line-spec : {M : Type 1} → statement M
 put-node-line-spec =

@@ -17,10 +17,17 @@ put-nodes-requires c κs = search needs
 same-length : tie.Need-same-length
 same-length c = search needs
 
+-- places that the needs look back to
+abbrev at-start : tie.After-slice-known3 → tie.Start
+at-start c = c .before .before .before .before .before .before .before .before .before .before
+
+abbrev after-put-plan-line : tie.After-slice-known3 → tie.After-put-plan-line
+after-put-plan-line c = c .before .before .before .before .before .before
+
 returns : tie.Need-returns
 returns c =
-    let p = c .before .before .before .before .before .before .before .before .before .before .pre .0 in
-    upto-same (listing-lines _ _ (p .0) (p .1)) (upto-append (c .before .before .before .before .before .before .put-plan-line .ensures) (omega arith) (c .before .before .put-nodes .ensures))
+    let p = at-start c .pre .0 in
+    upto-same (listing-lines _ _ (p .0) (p .1)) (upto-append (after-put-plan-line c .put-plan-line .ensures) (omega arith) (c .before .before .put-nodes .ensures))
 
 pub put-plan-spec : {M : Type 1} → statement M
 put-plan-spec =

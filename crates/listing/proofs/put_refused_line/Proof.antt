@@ -49,14 +49,24 @@ module _ (s : tie.After-numbers-of) where
   numbers : {o n : List ℕ} {at end : ℕ} → Wrote o at (refusal ++ row ++ entry) n end → Upto o at 63 (refusal ++ row ++ entry) n end
   numbers w = three refusal row entry refusal-short row-short entry-short w
 
+-- places that the needs look back to
+abbrev after-numbers-of : tie.After-put-three-arg4 → tie.After-numbers-of
+after-numbers-of c = c .before .before .before .before .before
+
+abbrev after-numbers-of-2 : tie.After-put-bytes-arg2 → tie.After-numbers-of
+after-numbers-of-2 c = after-numbers-of (c .before .before .before .before .before)
+
+abbrev after-put-three : tie.After-put-bytes-arg2 → tie.After-put-three
+after-put-three c = c .before .before .before .before
+
 put-three-requires : tie.Need-put-three-requires
-put-three-requires c κs = let s = c .before .before .before .before .before in omega (arith, refusal-short s, row-short s, entry-short s)
+put-three-requires c κs = let s = after-numbers-of c in omega (arith, refusal-short s, row-short s, entry-short s)
 
 slice-aggregate-put-bytes : tie.Need-slice-aggregate-put-bytes
 slice-aggregate-put-bytes c = search needs
 
 put-bytes-requires : tie.Need-put-bytes-requires
-put-bytes-requires c κs = upto-room (numbers (c .before .before .before .before .before .before .before .before .before .before) (c .before .before .before .before .put-three .ensures)) (omega arith) 1 (omega arith)
+put-bytes-requires c κs = upto-room (numbers (after-numbers-of-2 c) (after-put-three c .put-three .ensures)) (omega arith) 1 (omega arith)
 
 same-length : tie.Need-same-length
 same-length c = search needs
@@ -64,9 +74,9 @@ same-length c = search needs
 returns : tie.Need-returns
 unfolding refusedLine
 returns c =
-    let s = c .before .before .before .before .before .before .before .before .before .before .before .before .before in
+    let s = after-numbers-of-2 (c .before .before .before) in
     upto-same (ap refusedLine (s .numbers-of .ensures))
-    (upto-then (numbers s (c .before .before .before .before .before .before .before .put-three .ensures)) (omega arith) 1 (omega arith) (c .before .before .put-bytes .ensures))
+    (upto-then (numbers s (after-put-three (c .before .before .before) .put-three .ensures)) (omega arith) 1 (omega arith) (c .before .before .put-bytes .ensures))
 
 pub put-refused-line-spec : {M : Type 1} → statement M
 put-refused-line-spec =

@@ -68,11 +68,8 @@ returns-3 c = (
   omega (arith, c .if2 .left),
   λ t h w.
       ceil-least _ _ t (omega (arith, c .before .before .if1 .left))
-      (rw (
-        c .before .before .before .spare-utilisation .ensures,
-        c .before .before .before .before .recurring-sum .ensures .0,
-        c .before .before .before .before .recurring-sum .ensures .1,
-      ) w),
+      (let spare = c .before .before .before in
+      rw (spare .spare-utilisation .ensures, spare .before .recurring-sum .ensures .0, spare .before .recurring-sum .ensures .1) w),
 )
 
 pub completion-bound-spec : {M : Type 1} → statement M

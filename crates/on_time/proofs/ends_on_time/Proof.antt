@@ -79,9 +79,13 @@ completion-bound-requires c κs =
       ),
     )
 
+-- places that the needs look back to
+abbrev after-limit-of : tie.After-completion-bound → tie.After-limit-of
+after-limit-of c = c .before .before .before .before
+
 met-from-requires : tie.Need-met-from-requires
 met-from-requires c κs =
-    let k = c .before .before .before .before in
+    let k = after-limit-of c in
     let p = at-start k .pre in
     let a = at-start k .args in (
       p .0,

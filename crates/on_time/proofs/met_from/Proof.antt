@@ -45,14 +45,21 @@ loop-holds c =
 cast-demand-at : tie.Need-cast-demand-at Inv-loop μ-loop
 cast-demand-at c = omega arith
 
+-- places that the needs look back to
+abbrev at-start : tie.In-loop Inv-loop μ-loop → tie.Start Inv-loop μ-loop
+at-start c = c .before .before .before .before
+
+abbrev after-limit-of : tie.Then1 Inv-loop μ-loop → tie.After-limit-of Inv-loop μ-loop
+after-limit-of c = c .before .before .before .before
+
 demand-at-requires : tie.Need-demand-at-requires Inv-loop μ-loop
 demand-at-requires c κs =
-    let p = c .before .before .before .before .pre in
+    let p = at-start c .pre in
     (p .0, ((omega arith, omega arith, omega arith, omega arith), (omega arith, omega arith)))
 
 returns : tie.Need-returns Inv-loop μ-loop
 returns c =
-    let l = c .before .before .before .before in
+    let l = after-limit-of c in
     sym (on-time-at _ _ (l .before .before .pre .0) _ _ _ (omega arith) (omega arith) (omega arith) _ _ (due l) _ _
     (c .before .before .loop-test .taken) (c .before .demand-at .ensures) (c .if1 .taken))
 
@@ -61,7 +68,7 @@ loop-less c = omega (arith, c .if1 .left)
 
 loop-again : tie.Need-loop-again Inv-loop μ-loop
 loop-again c =
-    let s = c .before .before .before .before .before .before in
+    let s = at-start (c .before .before) in
     let l = c .before .before .before .loop in (
       λ u w.
           rw (c .before .demand-at .ensures)

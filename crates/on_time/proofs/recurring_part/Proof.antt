@@ -26,10 +26,14 @@ div-t7 c = search needs
 cast-t8 : tie.Need-cast-t8
 cast-t8 c = search needs
 
+-- places that the needs look back to
+abbrev at-start : tie.After-struct-known4 → tie.Start
+at-start c = c .before .before .before .before .before
+
 returns-2 : tie.Need-returns-2
 unfolding utilisation
 returns-2 c =
-    let s = c .before .before .before .before .before in
+    let s = at-start c in
     let r = recurs (s .args .limit) (s .args .e) (omega arith) in
     (sym (r .0), sym (r .1))
 

@@ -63,10 +63,14 @@ add-j c = omega arith
 loop-less : tie.Need-loop-less Inv-loop μ-loop
 loop-less c = omega arith
 
+-- places that the needs look back to
+abbrev at-loop-2 : tie.After-struct-known2 Inv-loop μ-loop → tie.At-loop Inv-loop μ-loop
+at-loop-2 c = c .before .before .before .before .before
+
 loop-again : tie.Need-loop-again Inv-loop μ-loop
 loop-again c =
     let more = added (c .before .before) in
-    let i = c .before .before .before .before .before .loop .inv in (
+    let i = at-loop-2 c .loop .inv in (
       omega arith,
       omega (arith, few (c .before .before)),
       omega (arith, few (c .before .before)),

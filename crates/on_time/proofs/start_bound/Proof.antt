@@ -34,9 +34,19 @@ cast-if1 c = search needs
 add-if1 : tie.Need-add-if1 Inv-loop μ-loop
 add-if1 c = omega (arith, c .before .before .before .loop .inv .2)
 
+-- places that the needs look back to
+abbrev at-start : tie.After-struct-known Inv-loop μ-loop → tie.Start Inv-loop μ-loop
+at-start c = c .before .before .before .before
+
+abbrev at-loop : tie.Then1 Inv-loop μ-loop → tie.At-loop Inv-loop μ-loop
+at-loop c = c .before .before .before .before .before
+
+abbrev at-loop-2 : tie.Else1 Inv-loop μ-loop → tie.At-loop Inv-loop μ-loop
+at-loop-2 c = c .before .before .before .before .before
+
 limit-of-requires : tie.Need-limit-of-requires Inv-loop μ-loop
 limit-of-requires c κs =
-    words-times _ _ (c .before .before .before .before .pre .0) _ (omega arith) _ (c .before .entry-at .ensures)
+    words-times _ _ (at-start c .pre .0) _ (omega arith) _ (c .before .entry-at .ensures)
 
 cast-if1-2 : tie.Need-cast-if1-2 Inv-loop μ-loop
 cast-if1-2 c = search needs
@@ -49,8 +59,8 @@ loop-less c = omega arith
 
 loop-again : tie.Need-loop-again Inv-loop μ-loop
 loop-again c =
-    let s = c .before .before .before .before .before .before in
-    let l = c .before .before .before .before .before .loop in
+    let s = at-start (c .before .before) in
+    let l = at-loop c .loop in
     let ws = s .args .words .now in (
       l .inv .0
           ∙ sym (last-kept _ (l .i) (runs-fit ws (s .args .count) (s .args .end) _ (omega arith) (s .pre .1 .1) (l .i) (omega arith) _
@@ -70,8 +80,8 @@ loop-less-2 c = omega arith
 
 loop-again-2 : tie.Need-loop-again-2 Inv-loop μ-loop
 loop-again-2 c =
-    let s = c .before .before .before .before .before .before in
-    let l = c .before .before .before .before .before .loop in
+    let s = at-start (c .before .before) in
+    let l = at-loop-2 c .loop in
     let ws = s .args .words .now in (
       sym (last-found _ (l .i) (runs-late ws (s .args .count) (s .args .end) _ (omega arith) (s .pre .1 .1) (l .i) (omega arith) _
           (c .before .before .before .entry-at .ensures) (omega (arith, c .before .limit-of .ensures, c .if1 .left)))),

@@ -30,9 +30,16 @@ module _ (c : tie.After-find-node) (levels count : ℕ) (e : c .find-node .resul
   held : nodeOf (c .find-node .last .1 .1 .0) count levels ≡ nodeFound (at-start .args .file .now) (at-start .args .number)
   held = subst (λ a. Holding (findGives a) (c .find-node .last .1 .1 .0) (nodeFound (at-start .args .file .now) (at-start .args .number))) e (c .find-node .ensures .1 .1)
 
+-- places that the needs look back to
+abbrev after-find-node : tie.After-map-held-arg → tie.After-find-node
+after-find-node c = c .before .before .before .before .before
+
+abbrev after-found2 : tie.After-slice-known2 → tie.After-found2
+after-found2 c = c .before .before .before .before .before .before
+
 map-held-requires : tie.Need-map-held-requires
 map-held-requires c κs =
-    let k = c .before .before .before .before .before in
+    let k = after-find-node c in
     let e = c .before .before .before .found2 .given .1 in
     rw (held k _ _ e) (found-holds _ _ (find-gives _ _ _ (given k _ _ e)))
 
@@ -45,8 +52,8 @@ same-length c = search needs
 
 returns-2 : tie.Need-returns-2
 returns-2 c =
-    let k = c .before .before .before .before .before .before .before .before in
-    let e = c .before .before .before .before .before .before .found2 .given .1 in
+    let k = after-find-node (c .before .before .before) in
+    let e = after-found2 c .found2 .given .1 in
     found-promise _ _ _ _ (given k _ _ e) _ (held k _ _ e) _ _ (c .before .before .map-held .ensures)
 
 pub map-node-spec : {M : Type 1} → statement M

@@ -1,4 +1,4 @@
--- `session::insert` meets its contract, by the walk of a function that is lent a session with a position and an entry.
+-- `session::insert` meets its contract, by the proof in Lent.
 use contract.Running.{givenOf, tables, tablesOf}
 use denote.Triple.Table.{entered, cited}
 use Rattle.session.specs.Operations.{changing, inserting}

@@ -1,5 +1,6 @@
--- `session::map` meets its contract: a walk of its MIR, by hand. The session's borrow is looked into, the session is copied
--- out and the borrow is shut again; the copy is passed to `mapped`, with the buffer, which is given up to it for good.
+-- `session::map` meets its contract. The proof is written by hand and follows its MIR. The session's borrow is opened, the
+-- session is copied out, and the borrow is closed again. The copy is passed to `mapped`, and the borrow of the buffer is
+-- handed over with it for good.
 use mathlib.Core.Path.{_≡_, refl}
 use Prim.Native.Nat.{ℕ}
 use mathlib.Core.List.{[], _∷_, List}

@@ -1,4 +1,4 @@
--- `session::open` meets its contract, by the walk of a function that is lent a session and one number.
+-- `session::open` meets its contract, by the proof in Lent.
 use contract.Running.{givenOf, tables, tablesOf}
 use mir.Syntax.{w8}
 use denote.Triple.Table.{entered, cited}

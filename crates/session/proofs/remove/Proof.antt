@@ -1,4 +1,4 @@
--- `session::remove` meets its contract, by the walk of a function that is lent a session and one number.
+-- `session::remove` meets its contract, by the proof in Lent.
 use contract.Running.{givenOf, tables, tablesOf}
 use mir.Syntax.{w64}
 use denote.Triple.Table.{entered, cited}

@@ -1,4 +1,4 @@
--- `session::time` meets its contract, by the walk of its code.
+-- `session::time` meets its contract, by the proof in Lent.
 use contract.Running.{givenOf, tables, tablesOf}
 use denote.Triple.Table.{entered, cited}
 use Rattle.session.proofs.Lent.{time-meets}

@@ -15,9 +15,13 @@ put-number-requires c κs =
 same-length : tie.Need-same-length
 same-length c = search needs
 
+-- places that the needs look back to
+abbrev after-put-bytes : tie.After-slice-known3 → tie.After-put-bytes
+after-put-bytes c = c .before .before .before .before .before .before
+
 returns : tie.Need-returns
 returns c =
-    wrote-then (c .before .before .before .before .before .before .put-bytes .ensures) (omega arith) (c .before .before .put-number .ensures)
+    wrote-then (after-put-bytes c .put-bytes .ensures) (omega arith) (c .before .before .put-number .ensures)
 
 pub put-field-spec : {M : Type 1} → statement M
 put-field-spec = tie.close (tie.spec put-bytes-requires put-number-requires same-length returns)

@@ -15,8 +15,12 @@ put-bytes-requires c κs = search needs
 same-length : tie.Need-same-length
 same-length c = search needs
 
+-- places that the needs look back to
+abbrev at-start : tie.After-slice-known2 → tie.Start
+at-start c = c .before .before .before .before .before .before .before
+
 returns-2 : tie.Need-returns-2
-returns-2 c = (sym (text-fits _ _ (omega arith)), c .before .before .put-bytes .ensures .buffer ∙ written-front (c .before .before .before .before .before .before .before .args .out .now) (c .before .before .before .before .before .before .before .args .text .now))
+returns-2 c = (sym (text-fits _ _ (omega arith)), c .before .before .put-bytes .ensures .buffer ∙ written-front (at-start c .args .out .now) (at-start c .args .text .now))
 
 pub copy-text-spec : {M : Type 1} → statement M
 copy-text-spec = tie.close (tie.spec returns put-bytes-requires same-length returns-2)

@@ -7,8 +7,12 @@ use Rattle.listing.proofs.aside.list_any.Tie as tie
 slice-aggregate-list-through : tie.Need-slice-aggregate-list-through
 slice-aggregate-list-through c = search needs
 
+-- places that the needs look back to
+abbrev at-start : tie.After-list-through-arg → tie.Start
+at-start c = c .before .before .before .before
+
 list-through-requires : tie.Need-list-through-requires
-list-through-requires c κs = let p = c .before .before .before .before .pre in (p, omega (arith, few-nodes _ (p .0)))
+list-through-requires c κs = let p = at-start c .pre in (p, omega (arith, few-nodes _ (p .0)))
 
 same-length : tie.Need-same-length
 same-length c = search needs

@@ -40,10 +40,14 @@ copy-text-requires c κs = search needs
 same-length : tie.Need-same-length
 same-length c = search needs
 
+-- places that the needs look back to
+abbrev after-put-refused-line : tie.After-slice-known2 → tie.After-put-refused-line
+after-put-refused-line c = c .before .before .before .before .before .before
+
 returns : tie.Need-returns
 returns c =
     let e = c .before .before .copy-text .ensures in
-    let k = c .before .before .before .before .before .before in
+    let k = after-put-refused-line c in
     let r = text-same (shown k) _ _ _ (e .0) (e .1) in
     (r .0, (r .1, k .put-refused-line .ensures .short))
 

@@ -13,10 +13,17 @@ use Rattle.listing.proofs.aside.list_through.Tie as tie
 put-plan-requires : tie.Need-put-plan-requires
 put-plan-requires c κs = search needs
 
+-- places that the needs look back to
+abbrev at-start : tie.After-put-plan → tie.Start
+at-start c = c .before .before .before .before .before
+
+abbrev after-put-plan : tie.After-slice-known4 → tie.After-put-plan
+after-put-plan c = c .before .before .before .before .before .before .before
+
 -- what stands at the start of the text's own buffer
 module _ (c : tie.After-put-plan) where
   abbrev t : List ℕ
-  t = listing (c .before .before .before .before .before .args .file .now)
+  t = listing (at-start c .args .file .now)
 
   size : c .put-plan .result ≡ length t
   size = upto-end (c .put-plan .ensures)
@@ -42,7 +49,7 @@ same-length-2 c = search needs
 returns : tie.Need-returns
 returns c =
     let e = c .before .before .copy-text .ensures in
-    let k = c .before .before .before .before .before .before .before in
+    let k = after-put-plan c in
     let r = text-same (shown k) _ _ _ (e .0) (e .1) in
     (r .0, (r .1, k .put-plan .ensures .short))
 

@@ -20,11 +20,18 @@ enum-told c = search needs
 give-requires : tie.Need-give-requires
 give-requires c κs = search needs
 
+-- places that the needs look back to
+abbrev after-rounds : tie.After-give → tie.After-rounds
+after-rounds c = c .before .before .before .before
+
+abbrev after-rounds-2 : tie.After-give2 → tie.After-rounds
+after-rounds-2 c = c .before .before .before .before .before
+
 -- the entry is late
 returns : tie.Need-returns
 returns c =
     let e = c .before .before .enum-told .given .1 in
-    let r = c .before .before .before .before .rounds .ensures in
+    let r = after-rounds c .rounds .ensures in
     c .give .ensures ∙ ap (given 0) (r ∙ ap (λ t. roundsIn (completion t)) e) ∙ sym (ap (λ t. givenTime (completion t)) e)
 
 cast-give : tie.Need-cast-give
@@ -37,7 +44,7 @@ give-requires-2 c κs = search needs
 returns-2 : tie.Need-returns-2
 returns-2 c =
     let e = c .before .before .before .t .given .1 in
-    let r = c .before .before .before .before .before .rounds .ensures in
+    let r = after-rounds-2 c .rounds .ensures in
     c .give2 .ensures
     ∙ ap (given (c .before .before .before .t .given .0 .0)) (r ∙ ap (λ t. roundsIn (completion t)) e)
     ∙ sym (ap (λ t. givenTime (completion t)) e)

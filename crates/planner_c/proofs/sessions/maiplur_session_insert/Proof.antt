@@ -14,10 +14,17 @@ insert-requires c κs = search needs
 give-checked-requires : tie.Need-give-checked-requires
 give-checked-requires c κs = search needs
 
+-- places that the needs look back to
+abbrev at-start : tie.After-give-checked → tie.Start
+at-start c = c .before .before .before .before .before .before
+
+abbrev after-entry-of : tie.After-give-checked → tie.After-entry-of
+after-entry-of c = c .before .before .before .before
+
 returns : tie.Need-returns
 returns c =
-    let a = c .before .before .before .before .before .before .args in
-    let h = rw (c .before .before .before .before .entry-of .ensures) at (c .before .before .insert .ensures) in
+    let a = at-start c .args in
+    let h = rw (after-entry-of c .entry-of .ensures) at (c .before .before .insert .ensures) in
     changes (changing (inserting (a .position) (entryFrom (a .entry .now) 0))) (a .words .now) h (c .give-checked .ensures)
 
 pub maiplur-session-insert-spec : {M : Type 1} → statement M

@@ -31,11 +31,30 @@ refuse-requires c κs = search needs
 same-length : tie.Need-same-length
 same-length c = search needs
 
+-- places that the needs look back to
+abbrev at-start : tie.After-give → tie.Start
+at-start c = c .before .before .before .before .before .before .before .before .before .before .before .before
+
+abbrev after-mapped : tie.After-give → tie.After-mapped
+after-mapped c = c .before .before .before .before .before .before .before
+
+abbrev after-from-words : tie.After-give → tie.After-from-words
+after-from-words c = c .before .before .before .before .before .before .before .before .before
+
+abbrev at-start-2 : tie.After-refuse → tie.Start
+at-start-2 c = c .before .before .before .before .before .before .before .before .before .before .before .before
+
+abbrev after-mapped-2 : tie.After-refuse → tie.After-mapped
+after-mapped-2 c = c .before .before .before .before .before .before .before
+
+abbrev after-from-words-2 : tie.After-refuse → tie.After-from-words
+after-from-words-2 c = c .before .before .before .before .before .before .before .before .before
+
 returns : tie.Need-returns
 returns c =
-    let a = c .before .before .before .before .before .before .before .before .before .before .before .before .args in
-    let e = c .before .before .before .before .before .before .before .mapped .ensures in
-    let read = c .before .before .before .before .before .before .before .before .before .from-words .ensures in
+    let a = at-start c .args in
+    let e = after-mapped c .mapped .ensures in
+    let read = after-from-words c .from-words .ensures in
     let t = sessionIn (a .words .now) in (
       map-returned t read (a .levels .now) e _ (c .give .ensures ∙ ap sized (sym (ap answer (c .before .before .before .mapped2 .given .1)))),
       (map-buffer t read (a .levels .now) e, map-demand t read (a .levels .now) e),
@@ -46,9 +65,9 @@ same-length-2 c = search needs
 
 returns-2 : tie.Need-returns-2
 returns-2 c =
-    let a = c .before .before .before .before .before .before .before .before .before .before .before .before .args in
-    let e = c .before .before .before .before .before .before .before .mapped .ensures in
-    let read = c .before .before .before .before .before .before .before .before .before .from-words .ensures in
+    let a = at-start-2 c .args in
+    let e = after-mapped-2 c .mapped .ensures in
+    let read = after-from-words-2 c .from-words .ensures in
     let t = sessionIn (a .words .now) in (
       map-returned t read (a .levels .now) e _ (c .refuse .ensures ∙ ap sized (sym (ap answer (c .before .before .before .mapped3 .given .1)))),
       (map-buffer t read (a .levels .now) e, map-demand t read (a .levels .now) e),

@@ -10,9 +10,13 @@ set-levels-requires c κs = search needs
 give-checked-requires : tie.Need-give-checked-requires
 give-checked-requires c κs = search needs
 
+-- places that the needs look back to
+abbrev at-start : tie.After-give-checked → tie.Start
+at-start c = c .before .before .before .before
+
 returns : tie.Need-returns
 returns c =
-    let a = c .before .before .before .before .args in
+    let a = at-start c .args in
     changes (changing (settingLevels (a .levels))) (a .words .now) (c .before .before .set-levels .ensures) (c .give-checked .ensures)
 
 pub maiplur-session-set-levels-spec : {M : Type 1} → statement M

@@ -2,8 +2,8 @@ use mathlib.Core.Path.{_∙_, ap}
 use Rattle.planner_c.specs.Returned.{checked}
 use Rattle.planner_c.proofs.Checking.{zero-exactly}
 use borrow.Author.Needs.{needs}
-use Rattle.planner_c.proofs.maiplur_check.Statement.{statement}
-use Rattle.planner_c.proofs.maiplur_check.Tie as tie
+use Rattle.planner_c.proofs.plan_files.maiplur_check.Statement.{statement}
+use Rattle.planner_c.proofs.plan_files.maiplur_check.Tie as tie
 
 check-file-requires : tie.Need-check-file-requires
 check-file-requires c κs = search needs

@@ -1,9 +1,9 @@
 use mathlib.Core.Path.{_∙_, ap, sym}
 use Rattle.plan_file.specs.Answers.{readGives}
-use Rattle.planner_c.specs.Returned.{zeroPadded}
+use Rattle.planner_c.specs.Returned.{sizedPlan}
 use borrow.Author.Needs.{needs}
-use Rattle.planner_c.proofs.maiplur_read.Statement.{statement}
-use Rattle.planner_c.proofs.maiplur_read.Tie as tie
+use Rattle.planner_c.proofs.plan_files.maiplur_read.Statement.{statement}
+use Rattle.planner_c.proofs.plan_files.maiplur_read.Tie as tie
 
 read-plan-requires : tie.Need-read-plan-requires
 read-plan-requires c κs = search needs
@@ -26,10 +26,17 @@ same-length c = search needs
 same-length-2 : tie.Need-same-length-2
 same-length-2 c = search needs
 
+-- places that the needs look back to
+abbrev after-read-plan : tie.After-give → tie.After-read-plan
+after-read-plan c = c .before .before .before .before .before .before .before .before .before
+
+abbrev after-read-plan-2 : tie.After-refuse → tie.After-read-plan
+after-read-plan-2 c = c .before .before .before .before .before .before .before .before .before
+
 returns : tie.Need-returns
 returns c =
-    let e = c .before .before .before .before .before .before .before .before .before .read-plan .ensures in (
-      c .give .ensures ∙ ap zeroPadded (sym (ap readGives (c .before .before .before .read .given .1)) ∙ e .0 .answer),
+    let e = after-read-plan c .read-plan .ensures in (
+      c .give .ensures ∙ ap sizedPlan (sym (ap readGives (c .before .before .before .read .given .1)) ∙ e .0 .answer),
       (rw (e .0 .answer) at (e .0 .rowsThere), (rw (e .0 .answer) at (e .0 .wordsThere), rw (e .0 .answer) at (e .1))),
     )
 
@@ -41,8 +48,8 @@ same-length-4 c = search needs
 
 returns-2 : tie.Need-returns-2
 returns-2 c =
-    let e = c .before .before .before .before .before .before .before .before .before .read-plan .ensures in (
-      c .refuse .ensures ∙ ap zeroPadded (sym (ap readGives (c .before .before .before .read2 .given .1)) ∙ e .0 .answer),
+    let e = after-read-plan-2 c .read-plan .ensures in (
+      c .refuse .ensures ∙ ap sizedPlan (sym (ap readGives (c .before .before .before .read2 .given .1)) ∙ e .0 .answer),
       (rw (e .0 .answer) at (e .0 .rowsThere), (rw (e .0 .answer) at (e .0 .wordsThere), rw (e .0 .answer) at (e .1))),
     )
 

@@ -1,8 +1,8 @@
 use mathlib.Core.Path.{ap}
 use Rattle.planner_c.specs.Returned.{back}
 use borrow.Author.Needs.{needs}
-use Rattle.planner_c.proofs.refuse.Statement.{statement}
-use Rattle.planner_c.proofs.refuse.Tie as tie
+use Rattle.planner_c.proofs.returned.refuse.Statement.{statement}
+use Rattle.planner_c.proofs.returned.refuse.Tie as tie
 
 numbers-of-requires : tie.Need-numbers-of-requires
 numbers-of-requires c κs = search needs

@@ -2,8 +2,8 @@ use mathlib.Core.Path.{_∙_, ap, sym}
 use Rattle.listing.specs.Listing.{listedGives}
 use Rattle.planner_c.specs.Returned.{sized}
 use borrow.Author.Needs.{needs}
-use Rattle.planner_c.proofs.maiplur_list.Statement.{statement}
-use Rattle.planner_c.proofs.maiplur_list.Tie as tie
+use Rattle.planner_c.proofs.listings.maiplur_list.Statement.{statement}
+use Rattle.planner_c.proofs.listings.maiplur_list.Tie as tie
 
 list-plan-requires : tie.Need-list-plan-requires
 list-plan-requires c κs = search needs
@@ -23,9 +23,16 @@ refuse-requires c κs = search needs
 same-length : tie.Need-same-length
 same-length c = search needs
 
+-- places that the needs look back to
+abbrev after-list-plan : tie.After-give → tie.After-list-plan
+after-list-plan c = c .before .before .before .before .before .before .before
+
+abbrev after-list-plan-2 : tie.After-refuse → tie.After-list-plan
+after-list-plan-2 c = c .before .before .before .before .before .before .before
+
 returns : tie.Need-returns
 returns c =
-    let e = c .before .before .before .before .before .before .before .list-plan .ensures in (
+    let e = after-list-plan c .list-plan .ensures in (
       c .give .ensures ∙ ap sized (sym (ap listedGives (c .before .before .before .listed .given .1)) ∙ e .0),
       (rw (e .0) at (e .1 .0), e .1 .1),
     )
@@ -35,7 +42,7 @@ same-length-2 c = search needs
 
 returns-2 : tie.Need-returns-2
 returns-2 c =
-    let e = c .before .before .before .before .before .before .before .list-plan .ensures in (
+    let e = after-list-plan-2 c .list-plan .ensures in (
       c .refuse .ensures ∙ ap sized (sym (ap listedGives (c .before .before .before .listed2 .given .1)) ∙ e .0),
       (rw (e .0) at (e .1 .0), e .1 .1),
     )

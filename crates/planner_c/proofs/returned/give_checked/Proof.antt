@@ -2,8 +2,8 @@ use mathlib.Core.Path.{_∙_, ap, sym}
 use Rattle.refusals.specs.Refusals.{outcome}
 use Rattle.planner_c.specs.Returned.{checked}
 use borrow.Author.Needs.{needs}
-use Rattle.planner_c.proofs.give_checked.Statement.{statement}
-use Rattle.planner_c.proofs.give_checked.Tie as tie
+use Rattle.planner_c.proofs.returned.give_checked.Statement.{statement}
+use Rattle.planner_c.proofs.returned.give_checked.Tie as tie
 
 enum-told : tie.Need-enum-told
 enum-told c = search needs
