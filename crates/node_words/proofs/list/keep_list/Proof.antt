@@ -7,7 +7,7 @@ use Rattle.node_words.proofs.list.keep_list.Tie as tie
 returns : tie.Need-returns
 returns c =
     let a = c .before .before .before .before .before .args in
-    list-kept (a .words .now) (λ i. c .before .before .before .before .slice-known .given i .fits) (omega arith) (a .count) (omega arith) _ (c .before .before .clear-from .ensures)
+    list-kept (a .words .now) (λ i. c .before .before .before .before .slice-known .given i .fits) (omega arith) (a .count) (omega arith) (c .before .before .clear-from .ensures)
 
 pub keep-list-spec : {M : Type 1} → statement M
 keep-list-spec = tie.close (tie.spec (λ c. search needs) (λ c κs. search needs) (λ c. search needs) returns)

@@ -7,7 +7,7 @@ use Rattle.node_words.proofs.list.remove_at.Tie as tie
 returns : tie.Need-returns
 returns c =
     let a = c .before .before .before .before .before .before .before .before .before .args in
-    list-removed (a .words .now) (λ i. c .before .before .before .before .before .before .before .before .slice-known .given i .fits) (omega arith) (a .count) (omega arith) _ (a .position) _
+    list-removed (a .words .now) (λ i. c .before .before .before .before .before .before .before .before .slice-known .given i .fits) (omega arith) (a .count) (omega arith) (a .position)
     (omega arith) (c .before .before .before .before .before .before .move-down .ensures) (c .before .before .clear-from .ensures)
 
 pub remove-at-spec : {M : Type 1} → statement M

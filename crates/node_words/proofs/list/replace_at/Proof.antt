@@ -7,7 +7,7 @@ use Rattle.node_words.proofs.list.replace_at.Tie as tie
 returns : tie.Need-returns
 returns c =
     let a = c .before .before .before .before .before .before .before .before .before .args in
-    list-replaced (a .words .now) (λ i. c .before .before .before .before .before .before .before .before .slice-known .given i .fits) (omega arith) (a .count) (omega arith) _ (a .position) _ (a .e)
+    list-replaced (a .words .now) (λ i. c .before .before .before .before .before .before .before .before .slice-known .given i .fits) (omega arith) (a .count) (omega arith) (a .position) (a .e)
     (omega arith) (c .before .before .before .before .before .before .store-entry .ensures) (c .before .before .clear-from .ensures)
 
 pub replace-at-spec : {M : Type 1} → statement M

@@ -11,7 +11,9 @@ ready c = let s = c .before .before .before .before .before .before .before .bef
 
 returns-2 : tie.Need-returns-2
 unfolding changed
-returns-2 c = part-accepted _ (c .before .before .before .before .before .before .before .before .before .before .before .before .pre) (inserting _ _) _ (c .before .before .before .before .before .before .check-insert .ensures) (c .before .before .before .before .enum-told .given .1) (c .before .before .insert-at .ensures)
+returns-2 c =
+    let s = c .before .before .before .before .before .before .before .before .before .before .before .before in
+    part-accepted (s .args .words .now) (s .pre) (inserting (s .args .position) (s .args .e)) _ (c .before .before .before .before .before .before .check-insert .ensures) (c .before .before .before .before .enum-told .given .1) (c .before .before .insert-at .ensures)
 
 pub insert-spec : {M : Type 1} → statement M
 insert-spec =

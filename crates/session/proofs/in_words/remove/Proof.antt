@@ -11,7 +11,9 @@ ready c = let s = c .before .before .before .before .before .before .before .bef
 
 returns-2 : tie.Need-returns-2
 unfolding changed
-returns-2 c = part-accepted _ (c .before .before .before .before .before .before .before .before .before .before .before .before .pre) (removing _) _ (c .before .before .before .before .before .before .check-remove .ensures) (c .before .before .before .before .enum-told .given .1) (c .before .before .remove-at .ensures)
+returns-2 c =
+    let s = c .before .before .before .before .before .before .before .before .before .before .before .before in
+    part-accepted (s .args .words .now) (s .pre) (removing (s .args .position)) _ (c .before .before .before .before .before .before .check-remove .ensures) (c .before .before .before .before .enum-told .given .1) (c .before .before .remove-at .ensures)
 
 pub remove-spec : {M : Type 1} → statement M
 remove-spec =

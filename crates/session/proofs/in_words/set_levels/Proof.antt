@@ -11,7 +11,9 @@ ready c = let s = c .before .before .before .before .before .before .before .bef
 
 returns-2 : tie.Need-returns-2
 unfolding changed
-returns-2 c = part-accepted _ (c .before .before .before .before .before .before .before .before .before .before .before .before .pre) (settingLevels _) _ (c .before .before .before .before .before .before .check-set-levels .ensures) (c .before .before .before .before .enum-told .given .1) (c .before .before .keep-list .ensures)
+returns-2 c =
+    let s = c .before .before .before .before .before .before .before .before .before .before .before .before in
+    part-accepted (s .args .words .now) (s .pre) (settingLevels (s .args .levels)) _ (c .before .before .before .before .before .before .check-set-levels .ensures) (c .before .before .before .before .enum-told .given .1) (c .before .before .keep-list .ensures)
 
 pub set-levels-spec : {M : Type 1} → statement M
 set-levels-spec =
