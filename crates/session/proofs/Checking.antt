@@ -131,18 +131,6 @@ module _ (n : Node) (p : ℕ) where
   remove-accepted a = ltb-true _ _ (demanded _ _ a)
 
 module _ (n : Node) (first last i : ℕ) where
-  pub time-before : i < first → operationCheck (asking (timing first last i)) n ≡ refused (at 12 0 0)
-  unfolding operationCheck changeCheck queryCheck
-  time-before h = rw (lt-leb first i h)
-
-  pub time-after : first ≤ i → last < i → operationCheck (asking (timing first last i)) n ≡ refused (at 12 0 0)
-  unfolding operationCheck changeCheck queryCheck
-  time-after h l = rw (le-leb first i h, lt-leb i last l)
-
-  pub time-outside : first ≤ i → i ≤ last → length (n .entries) ≤ last → operationCheck (asking (timing first last i)) n ≡ refused (at 12 0 0)
-  unfolding operationCheck changeCheck queryCheck
-  time-outside h l m = rw (le-leb first i h, le-leb i last l, le-ltb last (length (n .entries)) m)
-
   pub time-inside : first ≤ i → i ≤ last → last < length (n .entries) → operationCheck (asking (timing first last i)) n ≡ accepted
   unfolding operationCheck changeCheck queryCheck
   time-inside h l m = rw (le-leb first i h, le-leb i last l, lt-ltb last (length (n .entries)) m)

@@ -2,25 +2,25 @@ use mathlib.Core.Path.{sym}
 use native.Mathlib.Omega.{arith}
 use Rattle.node_words.proofs.Entries.{length-entries}
 use Rattle.session.specs.Operations.{lentCheck}
-use Rattle.session.proofs.Checking.{lent-refused, lent-accepted, time-before, time-after, time-outside, time-inside}
+use Rattle.session.proofs.Checking.{lent-refused, lent-accepted, time-else, time-inside}
 use borrow.Author.Needs.{needs}
 use Rattle.session.proofs.checks.check_time.Statement.{statement}
 use Rattle.session.proofs.checks.check_time.Tie as tie
 
 returns-2 : tie.Need-returns-2
 unfolding lentCheck
-returns-2 c = lent-accepted _ _ _ (c .before .before .before .check-words .ensures) (c .before .enum-told .given .1) (sym (time-before _ _ _ _ (omega arith)))
+returns-2 c = lent-accepted _ _ _ (c .before .before .before .check-words .ensures) (c .before .enum-told .given .1) (sym (time-else _ _ _ _ (λ p q r. omega arith)))
 
 returns-3 : tie.Need-returns-3
 unfolding lentCheck
-returns-3 c = lent-accepted _ _ _ (c .before .before .before .before .check-words .ensures) (c .before .before .enum-told .given .1) (sym (time-after _ _ _ _ (omega arith) (omega arith)))
+returns-3 c = lent-accepted _ _ _ (c .before .before .before .before .check-words .ensures) (c .before .before .enum-told .given .1) (sym (time-else _ _ _ _ (λ p q r. omega arith)))
 
 returns-4 : tie.Need-returns-4
 unfolding lentCheck
 returns-4 c =
     let a = c .before .before .before .before .before .before .before .args in
     let n = length-entries (a .words .now) 0 (a .count) in
-    lent-accepted _ _ _ (c .before .before .before .before .before .check-words .ensures) (c .before .before .before .enum-told .given .1) (sym (time-outside _ _ _ _ (omega arith) (omega arith) (omega arith)))
+    lent-accepted _ _ _ (c .before .before .before .before .before .check-words .ensures) (c .before .before .before .enum-told .given .1) (sym (time-else _ _ _ _ (λ p q r. omega arith)))
 
 returns-5 : tie.Need-returns-5
 unfolding lentCheck
