@@ -7,6 +7,7 @@ use native.Mathlib.Numerals.{add-one}
 use lib.ListN.{length, getD, take}
 use lib.Seq.{length-take-le, take-suc}
 use Rattle.byte_words.specs.Bytes.{low, wordAt, wordsFrom, bytesOf, Bytes}
+use Rattle.byte_words.proofs.Runs.{Run, run-length}
 
 -- four bytes, whether they come as one number or as fields
 four : {a b c d a' b' c' d' : ℕ} → a ≡ a' → b ≡ b' → c ≡ c' → d ≡ d'
@@ -26,26 +27,12 @@ pub head-bytes : (w : ℕ) → low 2 (w % 65536) ++ low 1 (w / 65536 % 256) ++ l
 unfolding low
 head-bytes w = four (omega arith) (omega arith) (omega arith) (omega arith)
 
-pub words-snoc : (f : List ℕ) (k n : ℕ) → wordsFrom f k (n + 1) ≡ wordsFrom f k n ++ (wordAt f (k + n * 4) ∷ [])
+pub words-run : (f : List ℕ) → Run 4 (wordAt f) (wordsFrom f)
 unfolding wordsFrom
-words-snoc f k zero = let e : k + 0 * 4 ≡ k = omega arith in rw e
-words-snoc f k (suc n) =
-    let e : suc n + 1 ≡ suc (n + 1) = omega arith in
-    let e2 : k + suc n * 4 ≡ k + 4 + n * 4 = omega arith in
-    rw (e, e2, wordsFrom) (ap (λ ws. wordAt f k ∷ ws) (words-snoc f (k + 4) n))
+words-run f = record { none = λ k. refl; more = λ k n. refl }
 
 pub length-words : (f : List ℕ) (k n : ℕ) → length (wordsFrom f k n) ≡ n
-unfolding wordsFrom
-length-words f k zero = refl
-length-words f k (suc n) = ap suc (length-words f (k + 4) n)
-
-pub words-split : (f : List ℕ) (k m n : ℕ) → wordsFrom f k (m + n) ≡ wordsFrom f k m ++ wordsFrom f (k + m * 4) n
-unfolding wordsFrom
-words-split f k zero n = let e : 0 + n ≡ n = omega arith in let e2 : k + 0 * 4 ≡ k = omega arith in rw (e, e2)
-words-split f k (suc m) n =
-    let e : suc m + n ≡ suc (m + n) = omega arith in
-    let e2 : k + suc m * 4 ≡ k + 4 + m * 4 = omega arith in
-    rw (e, e2, wordsFrom) (ap (λ ws. wordAt f k ∷ ws) (words-split f (k + 4) m n))
+length-words f = run-length (words-run f)
 
 -- words as bytes
 pub bytes-append : (xs ys : List ℕ) → bytesOf (xs ++ ys) ≡ bytesOf xs ++ bytesOf ys

@@ -1,5 +1,5 @@
 -- Demands are equal if everything that they read is equal.
-use Prim.Native.Nat.{ℕ, _+_, _-_, _*_, _≤_, _<_}
+use Prim.Native.Nat.{ℕ, _+_, _*_, _≤_, _<_}
 use mathlib.Core.Path.{_≡_, _∙_, ap, ap₂, sym}
 use mathlib.Core.Bool.{_&&_, _||_, not}
 use mathlib.Core.List.{List}

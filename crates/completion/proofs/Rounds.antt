@@ -1,7 +1,7 @@
 -- The rounds of the test, in terms of the iterates of the demand, for any demand w that never falls and any deadline d.
 use Prim.Native.Nat.{ℕ, zero, suc, _+_, _-_, _≤_, _<_, zero-le}
 use mathlib.Core.Path.{_≡_, _∙_, refl, ap, ap₂, sym, subst}
-use mathlib.Core.Logic.{_⊎_, ⊎-elim, _↔_, by-cases}
+use mathlib.Core.Logic.{⊎-elim, _↔_, by-cases}
 use native.Mathlib.Nat.{le-trans, le-refl, le-of-eq}
 use native.Mathlib.Decide.{decLt}
 use native.Mathlib.Omega.{arith}

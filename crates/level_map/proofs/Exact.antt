@@ -1,6 +1,6 @@
 -- The search is exact, for any test with the one law that it needs: its cuts give the first passing map in order of
 -- preference.
-use Prim.Native.Nat.{ℕ, _-_, _≤_, _<_}
+use Prim.Native.Nat.{ℕ, _≤_, _<_}
 use mathlib.Core.Path.{_≡_, sym, _∙_, ap}
 use mathlib.Core.Bool.{Bool, true}
 use mathlib.Core.Option.{none, some, Option·map, Option·none-ne-some}

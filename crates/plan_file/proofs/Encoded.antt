@@ -8,13 +8,11 @@ use lib.ListN.{length, take, drop}
 use lib.Seq.{drop-cons, drop-drop, take-add, take-all}
 use Rattle.refusals.specs.Refusals.{accepted}
 use Rattle.node_words.specs.Words.{entrySize}
-use Rattle.plan_file.specs.declared.Row.{Row}
 use Rattle.plan_file.specs.Plan.{entryCount}
 use Rattle.plan_file.specs.Encoding.{rowLength, headerLength, entryLength, headerBytes, rowBytes, bodiesStart, contentsBytes, bodiesBytes, encoding}
 use Rattle.byte_words.specs.Bytes.{low, Bytes, wordAt, wordsFrom, bytesOf}
 use Rattle.plan_file.specs.Decoding.{nodeCount, rowAt, offsetAt, rowsFrom, rowsIn, entriesAt, planIn}
-use Rattle.plan_file.specs.Check.{rowsCheck, contentsCheck, fileCheck}
-use Rattle.plan_file.proofs.Tests.{row-true}
+use Rattle.plan_file.specs.Check.{contentsCheck, fileCheck}
 use Rattle.plan_file.proofs.Words.{row-bytes, bodies-bytes, entries-in-words}
 use Rattle.byte_words.proofs.Words.{length-words}
 use Rattle.plan_file.proofs.Contents.{length-rows}
@@ -138,12 +136,3 @@ module _ (f : List ℕ) (b : Bytes f) where
         (ap (λ k. part f 0 (headerLength + n * rowLength) ++ part f k (entryCount (rowsIn f) * entryLength)) (sym (zero-add (headerLength + n * rowLength)))
         ∙ part-add f 0 (headerLength + n * rowLength) (entryCount (rowsIn f) * entryLength)
         ∙ rw e (take-all (length f) f (omega arith))))
-
--- and its rows are within the writer's checks
-pub contents-rows : (f : List ℕ) (i least required : ℕ) (rs : List Row) → contentsCheck f i least required rs ≡ accepted
-    → rowsCheck i least rs ≡ accepted
-unfolding contentsCheck rowsCheck
-contents-rows f i least required [] a = refl
-contents-rows f i least required (r ∷ rs) a =
-    let p = row-placed f i least required r rs a in
-    rw (row-true least r (p .holds), contents-rows f (suc i) (suc (r .number)) (required + r .count * entryLength) rs (p .rest))

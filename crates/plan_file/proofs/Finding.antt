@@ -1,21 +1,20 @@
 -- Laws of the search for a row by its number.
-use Prim.Native.Nat.{ℕ, zero, suc, _+_, _-_, _≤_, _<_}
+use Prim.Native.Nat.{ℕ, zero, suc, _+_, _≤_, _<_}
 use mathlib.Core.Path.{_≡_, _∙_, ap}
 use mathlib.Core.Logic.{_⊎_, inl, inr, ⊎-elim}
 use mathlib.Core.List.{List, [], _∷_}
 use native.Mathlib.Omega.{arith}
-use lib.ListN.{length}
+use lib.ListN.{length, drop}
 use lib.Dec.{eqb}
 use borrow.Author.Tests.{eq-eqb, ne-eqb, eqb-true, eqb-false}
 use Rattle.refusals.specs.Refusals.{accepted, mustHold}
 use Rattle.task_model.proofs.Tests.{true-or-false}
 use Rattle.plan_file.specs.declared.Row.{Row}
-use Rattle.plan_file.specs.Decoding.{rowAt, rowsFrom}
 use Rattle.plan_file.specs.Check.{rowTest, rowsCheck}
 use Rattle.plan_file.specs.Find.{rowIn, rowOfNumber}
 use Rattle.refusals.proofs.Outcomes.{both-accepted, demanded}
-use Rattle.plan_file.proofs.Tests.{row-holds}
-use Rattle.plan_file.proofs.Contents.{rows-first, rows-end}
+use Rattle.plan_file.proofs.Tests.{RowHolds, row-holds}
+use Rattle.byte_words.proofs.Runs.{AtHand}
 
 pub found-here : (number : ℕ) (r : Row) (rs : List Row) → r .number ≡ number → rowOfNumber number (r ∷ rs) ≡ 0
 unfolding rowOfNumber
@@ -26,18 +25,28 @@ pub found-later : (number : ℕ) (r : Row) (rs : List Row) → (r .number ≡ nu
 unfolding rowOfNumber
 found-later number r rs p = rw (ne-eqb (r .number) number p, rowOfNumber)
 
--- the search from row `i` on, of `n`
-module _ (f : List ℕ) (number i n : ℕ) where
-  pub search-found : i < n → rowAt f i .number ≡ number → i + rowOfNumber number (rowsFrom f i (n - i)) ≡ i
-  search-found h p = rw (rows-first f i n h, found-here number (rowAt f i) _ p) (omega arith)
+-- the search from row `i` on
+module _ (number : ℕ) {rows : List Row} {i : ℕ} {r : Row} (h : AtHand rows i r) where
+  pub search-found : r .number ≡ number → i + rowOfNumber number (drop i rows) ≡ i
+  search-found p = rw (h .here, found-here number r _ p) (omega arith)
 
-  pub search-next : i < n → (rowAt f i .number ≡ number → ⊥)
-      → i + rowOfNumber number (rowsFrom f i (n - i)) ≡ i + 1 + rowOfNumber number (rowsFrom f (i + 1) (n - (i + 1)))
-  search-next h p = rw (rows-first f i n h, found-later number (rowAt f i) _ p) (omega arith)
+  pub search-next : (r .number ≡ number → ⊥)
+      → i + rowOfNumber number (drop i rows) ≡ i + 1 + rowOfNumber number (drop (i + 1) rows)
+  search-next p = rw (h .here, found-later number r _ p) (omega arith)
 
-  pub search-end : n ≤ i → i + rowOfNumber number (rowsFrom f i (n - i)) ≡ i
-  unfolding rowOfNumber
-  search-end h = rw (rows-end f i n h) (omega arith)
+pub search-end : (number i : ℕ) (rs : List Row) → rs ≡ [] → i + rowOfNumber number rs ≡ i
+unfolding rowOfNumber
+search-end number i rs e = rw e (omega arith)
+
+-- each of the rows within the checks is within its limits
+pub rows-each : (k least : ℕ) (rs : List Row) → rowsCheck k least rs ≡ accepted → (i : ℕ) → i < length rs → RowHolds 0 (rowIn rs i)
+unfolding rowsCheck
+rows-each k least [] a i h = absurd (omega arith)
+rows-each k least (r ∷ rs) a zero h =
+    let t = row-holds least r (demanded _ _ (both-accepted (mustHold (rowTest least r) _) _ a .0)) in
+    record { rises = omega arith; someLevels = t .someLevels; fewLevels = t .fewLevels; fewEntries = t .fewEntries }
+rows-each k least (r ∷ rs) a (suc i) h =
+    rows-each (suc k) (suc (r .number)) rs (both-accepted (mustHold (rowTest least r) _) _ a .1) i (omega arith)
 
 -- in rows within the checks the numbers rise, so a number is found where it stands
 pub not-below : (k least : ℕ) (rs : List Row) → rowsCheck k least rs ≡ accepted → (i : ℕ) → i < length rs → least ≤ rowIn rs i .number

@@ -10,7 +10,7 @@ use Rattle.node_words.proofs.Words.{write-entries, entries-fit}
 use Rattle.plan_file.specs.Plan.{rowWord, rowOf, RowFits, RowsFit, PlanFits}
 use Rattle.plan_file.specs.Encoding.{headerLength, rowLength}
 use Rattle.byte_words.specs.Bytes.{Bytes, wordAt}
-use Rattle.plan_file.specs.Decoding.{rowsFrom, planIn}
+use Rattle.plan_file.specs.Decoding.{nodeCount, rowsFrom, rowsIn, planIn}
 use Rattle.plan_file.proofs.Words.{row-word, entries-in-words}
 use Rattle.byte_words.proofs.Words.{word-below}
 use Rattle.plan_file.proofs.Memory.{words-below}
@@ -18,21 +18,6 @@ use Rattle.plan_file.proofs.Memory.{words-below}
 row-fits : (w : ℕ) → RowFits (rowOf w)
 unfolding rowOf
 row-fits w = record { number = omega arith; levels = omega arith; count = omega arith }
-
--- in a file
-module _ (f : List ℕ) where
-  rows-fit : (i n : ℕ) → RowsFit (rowsFrom f i n)
-  unfolding rowsFrom
-  rows-fit i zero = tt
-  rows-fit i (suc n) = (row-fits _, rows-fit (suc i) n)
-
-  module _ (b : Bytes f) where
-    pub plan-fits : PlanFits (planIn f)
-    plan-fits =
-        record {
-          rows = rows-fit 0 _;
-          entries = rw (entries-in-words f _ _) (entries-fit _ (words-below f b _ _) 0 _);
-        }
 
 -- in words
 pub rows-of-words : (rs : List ℕ) → WordsFit rs → map rowWord (map rowOf rs) ≡ rs
@@ -51,3 +36,11 @@ pub rows-words : (f : List ℕ) (i n : ℕ) → Bytes f → map rowOf (map rowWo
 unfolding rowsFrom
 rows-words f i zero b = refl
 rows-words f i (suc n) b = rw (row-word (wordAt f (headerLength + i * rowLength)) (word-below f b (headerLength + i * rowLength)), rows-words f (suc i) n b)
+
+-- in a file
+pub plan-fits : (f : List ℕ) → Bytes f → PlanFits (planIn f)
+plan-fits f b =
+    record {
+      rows = rw (← rows-words f 0 (nodeCount f) b) (words-fit-rows (map rowWord (rowsIn f)));
+      entries = rw (entries-in-words f _ _) (entries-fit _ (words-below f b _ _) 0 _);
+    }

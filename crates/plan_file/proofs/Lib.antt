@@ -6,14 +6,13 @@ pub mod Words
 -- The parts of a file: its header, its rows, its entries, and the whole.
 pub mod Header
 pub mod Contents
+pub mod Rows
 pub mod Bodies
 pub mod File
 pub mod Nodes
 pub mod Memory
 -- The parts of a plan that the writer is given, and what it stores.
 pub mod Encoding
-pub mod Rows
-pub mod Listed
 pub mod WriterChecks
 -- What the reader, the finder and the writer answer.
 pub mod Finding

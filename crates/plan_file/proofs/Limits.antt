@@ -12,7 +12,7 @@ use Rattle.task_model.specs.declared.Entry.{Entry}
 use Rattle.refusals.specs.Refusals.{at, accepted, refused, mustHold}
 use Rattle.task_model.specs.Limits.{AllHold}
 use Rattle.task_model.specs.Checks.{entriesCheck}
-use Rattle.refusals.proofs.Outcomes.{both-accepted, then-accepted, demanded, mustHold-accepts, mustHold-refuses}
+use Rattle.refusals.proofs.Outcomes.{both-accepted, then-accepted, mustHold-accepts, mustHold-refuses}
 use Rattle.node_words.proofs.Entries.{length-entries}
 use Rattle.task_model.proofs.Theorems.{entries-accepted}
 use Rattle.plan_file.specs.declared.Row.{Row}
@@ -22,24 +22,15 @@ use Rattle.plan_file.specs.Encoding.{entryLength, bodiesStart}
 use Rattle.plan_file.specs.Decoding.{rowsFrom}
 use Rattle.plan_file.specs.Find.{rowIn, nodeOfRow}
 use Rattle.plan_file.specs.Limits.{PlanHolds}
-use Rattle.plan_file.proofs.Tests.{RowHolds, row-true, row-holds}
-use Rattle.plan_file.proofs.Nodes.{count-split}
+use Rattle.plan_file.proofs.Tests.{RowHolds, row-true}
 use Rattle.plan_file.proofs.WriterChecks.{writer-holds, writer-nodes, count-true}
-use Rattle.plan_file.proofs.Finding.{not-below}
+use Rattle.plan_file.proofs.Finding.{rows-each, not-below}
+use Rattle.plan_file.proofs.Bodies.{nodes-accepted}
 use Rattle.plan_file.proofs.Contents.{length-rows}
-use Rattle.plan_file.proofs.Encoded.{contents-rows}
+use Rattle.plan_file.proofs.Nodes.{count-split, contents-rows}
 use Rattle.plan_file.proofs.Decoded.{few-entries}
 
--- rows that are accepted: each within its limits, with numbers that rise
-rows-each : (k least : ℕ) (rs : List Row) → rowsCheck k least rs ≡ accepted → (i : ℕ) → i < length rs → RowHolds 0 (rowIn rs i)
-unfolding rowsCheck
-rows-each k least [] a i h = absurd (omega arith)
-rows-each k least (r ∷ rs) a zero h =
-    let t = row-holds least r (demanded _ _ (both-accepted (mustHold (rowTest least r) _) _ a .0)) in
-    record { rises = omega arith; someLevels = t .someLevels; fewLevels = t .fewLevels; fewEntries = t .fewEntries }
-rows-each k least (r ∷ rs) a (suc i) h =
-    rows-each (suc k) (suc (r .number)) rs (both-accepted (mustHold (rowTest least r) _) _ a .1) i (omega arith)
-
+-- rows that are accepted have numbers that rise
 rows-rise : (k least : ℕ) (rs : List Row) → rowsCheck k least rs ≡ accepted → (i : ℕ) → suc i < length rs
     → rowIn rs i .number < rowIn rs (suc i) .number
 unfolding rowsCheck
@@ -49,7 +40,7 @@ rows-rise k least (r ∷ rs) a zero h =
 rows-rise k least (r ∷ rs) a (suc i) h =
     rows-rise (suc k) (suc (r .number)) rs (both-accepted (mustHold (rowTest least r) _) _ a .1) i (omega arith)
 
--- and rows of that kind are accepted
+-- and rows of that kind, each within its limits, are accepted
 rows-accepted : (k least : ℕ) (rs : List Row)
     → (0 < length rs → least ≤ rowIn rs 0 .number)
     → ((i : ℕ) → i < length rs → RowHolds 0 (rowIn rs i))
@@ -72,7 +63,7 @@ rows-accepted k least (r ∷ rs) first each rise =
     (λ i h. each (suc i) (omega arith))
     (λ i h. rise (suc i) (omega arith))
 
--- the entries of each row are accepted exactly if all of them are within the limits
+-- the entries of each accepted row are all within the limits
 nodes-each : (k : ℕ) (rs : List Row) (es : List Entry) → nodesCheck k rs es ≡ accepted → (i : ℕ) → i < length rs
     → AllHold (take (rowIn rs i .count) (drop (entryCount (take i rs)) es))
 unfolding nodesCheck entryCount
@@ -81,16 +72,6 @@ nodes-each k (r ∷ rs) es a zero h = entries-accepted k 0 _ .0 (both-accepted _
 nodes-each k (r ∷ rs) es a (suc i) h =
     rw (← drop-drop (entryCount (take i rs)) (r .count) es)
     (nodes-each (suc k) rs (drop (r .count) es) (both-accepted (entriesCheck k 0 (take (r .count) es)) _ a .1) i (omega arith))
-
-nodes-accepted : (k : ℕ) (rs : List Row) (es : List Entry)
-    → ((i : ℕ) → i < length rs → AllHold (take (rowIn rs i .count) (drop (entryCount (take i rs)) es)))
-    → nodesCheck k rs es ≡ accepted
-unfolding nodesCheck entryCount
-nodes-accepted k [] es each = refl
-nodes-accepted k (r ∷ rs) es each =
-    then-accepted _ _ (entries-accepted k 0 _ .1 (each 0 (omega arith)))
-    ∙ nodes-accepted (suc k) rs (drop (r .count) es)
-    (λ i h. rw (drop-drop (entryCount (take i rs)) (r .count) es) (each (suc i) (omega arith)))
 
 module _ (p : Plan) where
   -- a node has as many entries as its row counts, where the counts add up

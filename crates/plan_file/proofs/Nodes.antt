@@ -1,31 +1,24 @@
 -- Laws of the nodes of an accepted file: where a row's body lies, and which entries it has.
-use Prim.Native.Nat.{ℕ, zero, suc, _+_, _-_, _*_, _≤_, _<_}
-use mathlib.Core.Path.{_≡_, _∙_, sym, ap}
+use Prim.Native.Nat.{ℕ, zero, suc, _+_, _*_, _≤_, _<_}
+use mathlib.Core.Path.{_≡_, _∙_, refl, sym, ap}
 use mathlib.Core.List.{List, [], _∷_}
 use native.Mathlib.Omega.{arith}
 use native.Mathlib.Nat.{add-zero, zero-add}
 use lib.ListN.{length, take, drop}
 use borrow.Author.Tests.{eqb-true}
 use Rattle.refusals.specs.Refusals.{accepted}
-use Rattle.task_model.specs.Limits.{Node}
 use Rattle.plan_file.specs.declared.Row.{Row}
 use Rattle.plan_file.specs.Plan.{entryCount}
 use Rattle.plan_file.specs.Encoding.{entryLength, bodiesStart}
-use Rattle.plan_file.specs.Decoding.{nodeCount, rowAt, offsetAt, rowsFrom, rowsIn, entriesAt, planIn}
-use Rattle.plan_file.specs.Check.{contentsCheck, fileCheck}
+use Rattle.plan_file.specs.Decoding.{nodeCount, rowAt, offsetAt, rowsIn, entriesAt, planIn}
+use Rattle.plan_file.specs.Check.{rowsCheck, contentsCheck, fileCheck}
 use Rattle.plan_file.specs.Find.{rowIn, nodeOfRow}
 use Rattle.refusals.proofs.Outcomes.{both-accepted, demanded}
-use Rattle.plan_file.proofs.Tests.{RowHolds, row-holds}
-use Rattle.plan_file.proofs.Contents.{length-rows}
-use Rattle.plan_file.proofs.Bodies.{length-entries-at, take-entries, drop-entries}
+use Rattle.plan_file.proofs.Tests.{RowHolds, row-true, row-holds}
+use Rattle.plan_file.proofs.Finding.{rows-each}
+use Rattle.plan_file.proofs.Contents.{entries-run, length-rows, row-get}
+use Rattle.byte_words.proofs.Runs.{run-take, run-drop}
 use Rattle.plan_file.proofs.File.{FileHolds, file-holds}
-
-pub row-get : (f : List ℕ) (j n i : ℕ) → i < n → rowIn (rowsFrom f j n) i ≡ rowAt f (j + i)
-unfolding rowsFrom
-row-get f j zero i h = absurd (omega arith)
-row-get f j (suc n) zero h = rw add-zero
-row-get f j (suc n) (suc i) h =
-    let e : j + suc i ≡ suc j + i = omega arith in rw e (row-get f (suc j) n i (omega arith))
 
 -- the rows before row `i`, it, and those after it
 pub count-split : (rs : List Row) (i : ℕ) → i < length rs
@@ -53,21 +46,28 @@ row-placed f i least required r rs p =
       rest = p2 .1;
     }
 
--- every row of accepted contents has the required offset, and is within the limits
+-- the rows of accepted contents are within the writer's checks
+pub contents-rows : (f : List ℕ) (i least required : ℕ) (rs : List Row) → contentsCheck f i least required rs ≡ accepted
+    → rowsCheck i least rs ≡ accepted
+unfolding contentsCheck rowsCheck
+contents-rows f i least required [] a = refl
+contents-rows f i least required (r ∷ rs) a =
+    let p = row-placed f i least required r rs a in
+    rw (row-true least r (p .holds), contents-rows f (suc i) (suc (r .number)) (required + r .count * entryLength) rs (p .rest))
+
+-- and each has the required offset
 pub placed-at : (f : List ℕ) (j least required : ℕ) (rs : List Row) → contentsCheck f j least required rs ≡ accepted
-    → (i : ℕ) → i < length rs
-    → (offsetAt f (j + i) ≡ required + entryCount (take i rs) * entryLength) × RowHolds 0 (rowIn rs i)
+    → (i : ℕ) → i < length rs → offsetAt f (j + i) ≡ required + entryCount (take i rs) * entryLength
 unfolding entryCount
 placed-at f j least required [] p i h = absurd (omega arith)
 placed-at f j least required (r ∷ rs) p zero h =
-    let q = row-placed f j least required r rs p in
     let e : required + 0 * entryLength ≡ required = omega arith in
-    ((rw (add-zero, e) (q .placed)), record { rises = omega arith; someLevels = q .holds .someLevels; fewLevels = q .holds .fewLevels; fewEntries = q .holds .fewEntries })
+    rw (add-zero, e) (row-placed f j least required r rs p .placed)
 placed-at f j least required (r ∷ rs) p (suc i) h =
-    let q = row-placed f j least required r rs p in
-    let t = placed-at f (suc j) (suc (r .number)) (required + r .count * entryLength) rs (q .rest) i (omega arith) in
     let e : j + suc i ≡ suc j + i = omega arith in
-    ((rw e (t .0 ∙ omega arith)), t .1)
+    rw e
+    (placed-at f (suc j) (suc (r .number)) (required + r .count * entryLength) rs (row-placed f j least required r rs p .rest) i (omega arith)
+    ∙ omega arith)
 
 -- the node of row `i` of an accepted file
 module _ (f : List ℕ) (a : fileCheck f ≡ accepted) (i : ℕ) (h : i < nodeCount f) where
@@ -78,20 +78,13 @@ module _ (f : List ℕ) (a : fileCheck f ≡ accepted) (i : ℕ) (h : i < nodeCo
   inside = omega (arith, length-rows f 0 (nodeCount f))
 
   at-row : rowIn (rowsIn f) i ≡ rowAt f i
-  at-row = row-get f 0 (nodeCount f) i h ∙ ap (rowAt f) (zero-add i)
+  at-row = row-get f (nodeCount f) i h
 
   pub node-offset : offsetAt f i ≡ bodiesStart (nodeCount f) + entryCount (take i (rowsIn f)) * entryLength
-  node-offset = ap (offsetAt f) (sym (zero-add i)) ∙ placed-at f 0 0 _ (rowsIn f) (held .contents) i inside .0
-
-  pub row-limits : RowHolds 0 (rowAt f i)
-  row-limits = rw (← at-row) (placed-at f 0 0 _ (rowsIn f) (held .contents) i inside .1)
+  node-offset = ap (offsetAt f) (sym (zero-add i)) ∙ placed-at f 0 0 _ (rowsIn f) (held .contents) i inside
 
   pub node-few : rowAt f i .count ≤ 64
-  node-few = row-limits .fewEntries
-
-  -- the row lies in the file
-  pub row-inside : bodiesStart (i + 1) ≤ length f
-  row-inside = omega (arith, held .header .contents)
+  node-few = rw (← at-row) (rows-each 0 0 (rowsIn f) (contents-rows f 0 0 _ (rowsIn f) (held .contents)) i inside .fewEntries)
 
   pub node-inside : offsetAt f i + rowAt f i .count * entryLength ≤ length f
   node-inside =
@@ -103,12 +96,8 @@ module _ (f : List ℕ) (a : fileCheck f ≡ accepted) (i : ℕ) (h : i < nodeCo
   node-at =
       rw (
         count-split (rowsIn f) i inside,
-        drop-entries f (bodiesStart (nodeCount f)) (entryCount (take i (rowsIn f))),
-        take-entries,
+        run-drop (entries-run f) (bodiesStart (nodeCount f)) (entryCount (take i (rowsIn f))),
+        run-take (entries-run f),
         ← node-offset,
         at-row,
       )
-
-  pub node-length : length (nodeOfRow (planIn f) i .entries) ≡ rowAt f i .count
-  node-length =
-      ap (λ (n : Node). length (n .entries)) node-at ∙ length-entries-at f (offsetAt f i) (rowAt f i .count)

@@ -14,8 +14,7 @@ use Rattle.plan_file.specs.Check.{fileCheck}
 use Rattle.plan_file.specs.Find.{rowOfNumber, findCheck}
 use Rattle.plan_file.specs.Answers.{readAnswer, findAnswer}
 use Rattle.refusals.specs.Answers.{gives, refuses}
-use Rattle.plan_file.proofs.Contents.{length-rows}
-use Rattle.plan_file.proofs.Bodies.{length-entries-at}
+use Rattle.plan_file.proofs.Contents.{length-rows, length-entries-at}
 use Rattle.plan_file.proofs.Nodes.{node-at}
 
 module _ (f : List ℕ) (rows words : ℕ) where

@@ -20,8 +20,7 @@ use Rattle.plan_file.specs.Check.{fileCheck, wordsCheck}
 use Rattle.plan_file.specs.Answers.{Sizes, roomTest, readAnswer, writeAnswer, ReadCall, WriteCall}
 use Rattle.plan_file.specs.RoundTrips.{WrittenAgain, ReadAgain}
 use Rattle.task_model.proofs.Tests.{and-true}
-use Rattle.plan_file.proofs.Contents.{length-row-words}
-use Rattle.plan_file.proofs.Bodies.{length-entries-at}
+use Rattle.plan_file.proofs.Contents.{length-row-words, length-entries-at}
 use Rattle.plan_file.proofs.Reading.{read-filled}
 use Rattle.plan_file.proofs.Theorems.{read-write-memory, write-read-memory}
 

@@ -1,73 +1,95 @@
--- Laws of the rows that the writer is given, one word per row, and of checking them row by row.
-use Prim.Native.Nat.{ℕ, _+_, _-_, _*_, _≤_, _<_}
+-- Laws of rows, whether of a file or in memory: their checks and the contents, row by row.
+use Prim.Native.Nat.{ℕ, _+_, _*_}
 use mathlib.Core.Path.{_≡_, _∙_, sym, ap}
-use mathlib.Core.Bool.{true, false}
-use mathlib.Core.List.{List, [], _∷_, _++_, map, map-append}
+use mathlib.Core.Bool.{Bool}
+use mathlib.Core.List.{List, [], _∷_, _++_}
 use native.Mathlib.Omega.{arith}
 use native.Mathlib.Numerals.{add-one}
-use lib.ListN.{length, getD, take, drop, drop-of-length-le, length-map}
-use lib.Seq.{drop-cons, take-suc, length-take-le}
+use lib.ListN.{length, take, drop, length-drop}
+use lib.Seq.{take-add, length-take-le}
 use lib.Dec.{eqb}
 use Rattle.node_words.specs.Words.{entrySize}
-use Rattle.refusals.specs.Refusals.{at, Outcome, refused, _andThen_, mustHold}
+use Rattle.refusals.specs.Refusals.{at, Outcome, accepted, _andThen_, mustHold}
+use Rattle.refusals.proofs.Outcomes.{then-assoc}
+use Rattle.task_model.specs.declared.Entry.{Entry}
+use Rattle.task_model.specs.Checks.{entriesCheck}
 use Rattle.plan_file.specs.declared.Row.{Row}
-use Rattle.plan_file.specs.Plan.{entryCount, rowOf}
+use Rattle.plan_file.specs.Plan.{entryCount}
 use Rattle.plan_file.specs.Encoding.{rowLength, entryLength, rowBytes, contentsBytes}
-use Rattle.plan_file.specs.Check.{rowTest, rowsCheck}
+use Rattle.plan_file.specs.Decoding.{offsetAt}
+use Rattle.plan_file.specs.Check.{rowTest, rowsCheck, layoutCheck, contentsCheck, nodesCheck}
+use Rattle.byte_words.proofs.Runs.{Run, AtHand, run-take, run-drop}
 use Rattle.plan_file.proofs.Encoding.{count-snoc, contents-snoc, length-contents}
 
--- the rows from index `i` on
-abbrev pub rowsAfter : List ℕ → ℕ → List Row
-rowsAfter rs i = map rowOf (drop i rs)
+-- the check of rows, and then of the words of entries, where the rows before count `total` entries
+abbrev pub tallyFrom : ℕ → ℕ → ℕ → ℕ → List Row → Outcome
+tallyFrom words i least total rs = rowsCheck i least rs andThen mustHold (eqb words ((total + entryCount rs) * entrySize)) (at 6 0 0)
 
--- their check, and then of the words of entries, where the rows before count `total` entries
-abbrev pub tallyFrom : List ℕ → ℕ → ℕ → ℕ → ℕ → Outcome
-tallyFrom rs words i least total =
-    rowsCheck i least (rowsAfter rs i) andThen mustHold (eqb words ((total + entryCount (rowsAfter rs i)) * entrySize)) (at 6 0 0)
+-- the check of the entries of rows, which begin at place `k` of a run
+abbrev pub bodies : (ℕ → ℕ → List Entry) → ℕ → ℕ → List Row → Outcome
+bodies entries k i rs = nodesCheck i rs (entries k (entryCount rs))
 
-module _ (rs : List ℕ) (i : ℕ) (h : i < length rs) where
-  pub rows-after : rowsAfter rs i ≡ rowOf (getD rs i 0) ∷ rowsAfter rs (i + 1)
-  rows-after = rw (drop-cons rs i 0 h, add-one i)
-
-  pub count-after : entryCount (rowsAfter rs i) ≡ rowOf (getD rs i 0) .count + entryCount (rowsAfter rs (i + 1))
+-- with row `i` at hand: the rows from it on
+module _ {rows : List Row} {i : ℕ} {r : Row} (h : AtHand rows i r) where
+  pub count-here : entryCount (drop i rows) ≡ r .count + entryCount (drop (i + 1) rows)
   unfolding entryCount
-  count-after = rw rows-after
+  count-here = rw (h .here)
 
-  -- the rows before index `i`, and one more
-  pub rows-before : map rowOf (take (i + 1) rs) ≡ map rowOf (take i rs) ++ (rowOf (getD rs i 0) ∷ [])
-  rows-before = rw (add-one i, take-suc rs i 0 h, map-append)
-
-pub after-end : (rs : List ℕ) (i : ℕ) → length rs ≤ i → rowsAfter rs i ≡ []
-after-end rs i h = rw (drop-of-length-le rs h)
-
-module _ (rs : List ℕ) (words i least total : ℕ) where
-  pub tally-row : i < length rs → rowTest least (rowOf (getD rs i 0)) ≡ false → tallyFrom rs words i least total ≡ refused (at 4 i 0)
-  unfolding rowsCheck
-  tally-row h p = rw (rows-after rs i h) (rw p)
-
-  pub tally-next : i < length rs → rowTest least (rowOf (getD rs i 0)) ≡ true
-      → tallyFrom rs words i least total
-      ≡ tallyFrom rs words (i + 1) (rowOf (getD rs i 0) .number + 1) (total + rowOf (getD rs i 0) .count)
+  pub tally-here : (words least total : ℕ) (a : Bool) → rowTest least r ≡ a
+      → tallyFrom words i least total (drop i rows)
+      ≡ mustHold a (at 4 i 0) andThen tallyFrom words (i + 1) (r .number + 1) (total + r .count) (drop (i + 1) rows)
   unfolding rowsCheck entryCount
-  tally-next h p =
-      let e : (c n : ℕ) → (total + (c + n)) * entrySize ≡ (total + c + n) * entrySize = λ c n. omega arith in
-      rw (rows-after rs i h, e, add-one (rowOf (getD rs i 0) .number)) (rw (p, ← add-one i))
+  tally-here words least total a p =
+      let e : (n : ℕ) → (total + (r .count + n)) * entrySize ≡ (total + r .count + n) * entrySize = λ n. omega arith in
+      rw (h .here, e, p, then-assoc, add-one i, add-one (r .number))
 
-  pub tally-end : length rs ≤ i → tallyFrom rs words i least total ≡ mustHold (eqb words (total * entrySize)) (at 6 0 0)
-  unfolding rowsCheck entryCount
-  tally-end h = let e : (total + 0) * entrySize ≡ total * entrySize = omega arith in rw (after-end rs i h) (rw e)
+  pub layout-here : (f : List ℕ) (least required : ℕ) (a b : Bool) → rowTest least r ≡ a → eqb (offsetAt f i) required ≡ b
+      → layoutCheck f i least required (drop i rows)
+      ≡ mustHold a (at 4 i 0)
+      andThen mustHold b (at 5 i 0)
+      andThen layoutCheck f (i + 1) (r .number + 1) (required + r .count * entryLength) (drop (i + 1) rows)
+  unfolding layoutCheck contentsCheck entryCount
+  layout-here f least required a b p q =
+      let e : (n : ℕ) → required + (r .count + n) * entryLength ≡ required + r .count * entryLength + n * entryLength = λ n. omega arith in
+      rw (h .here, e, p, q, then-assoc, then-assoc, add-one i, add-one (r .number))
 
--- the contents with one row more
-module _ (rs : List ℕ) (i : ℕ) (h : i < length rs) where
-  pub count-more : entryCount (map rowOf (take (i + 1) rs)) ≡ entryCount (map rowOf (take i rs)) + rowOf (getD rs i 0) .count
-  count-more = ap entryCount (rows-before rs i h) ∙ count-snoc _ _
+  -- and up to it
+  rows-before : take (i + 1) rows ≡ take i rows ++ (r ∷ [])
+  rows-before = rw (take-add i 1 rows, h .here)
 
-  pub contents-more : (start offset : ℕ) → offset ≡ start + entryCount (map rowOf (take i rs)) * entryLength
-      → contentsBytes start (map rowOf (take i rs)) ++ rowBytes offset (rowOf (getD rs i 0))
-      ≡ contentsBytes start (map rowOf (take (i + 1) rs))
-  contents-more start offset e = rw (e, rows-before rs i h) (sym (contents-snoc start (map rowOf (take i rs)) (rowOf (getD rs i 0))))
+  pub count-more : entryCount (take (i + 1) rows) ≡ entryCount (take i rows) + r .count
+  count-more = ap entryCount rows-before ∙ count-snoc _ _
 
-  pub contents-length : (start : ℕ) → length (contentsBytes start (map rowOf (take i rs))) ≡ i * rowLength
+  pub contents-more : (start offset : ℕ) → offset ≡ start + entryCount (take i rows) * entryLength
+      → contentsBytes start (take i rows) ++ rowBytes offset r ≡ contentsBytes start (take (i + 1) rows)
+  contents-more start offset e = rw (e, rows-before) (sym (contents-snoc start (take i rows) r))
+
+  pub contents-length : (start : ℕ) → length (contentsBytes start (take i rows)) ≡ i * rowLength
   contents-length start =
-      length-contents start (map rowOf (take i rs))
-      ∙ ap (λ n. n * rowLength) (length-map (take i rs) rowOf ∙ length-take-le i rs (omega arith))
+      length-contents start (take i rows)
+      ∙ ap (λ n. n * rowLength) (length-take-le i rows (omega (arith, ap length (h .here), length-drop i rows)))
+
+-- at the last row's end
+module _ (i : ℕ) (rs : List Row) (e : rs ≡ []) where
+  pub tally-end : (words least total : ℕ) → tallyFrom words i least total rs ≡ mustHold (eqb words (total * entrySize)) (at 6 0 0)
+  unfolding rowsCheck entryCount
+  tally-end words least total = let z : (total + 0) * entrySize ≡ total * entrySize = omega arith in rw e (rw z)
+
+  pub layout-end : (f : List ℕ) (least required : ℕ)
+      → layoutCheck f i least required rs ≡ mustHold (eqb (length f) required) (at 6 0 0)
+  unfolding layoutCheck contentsCheck entryCount
+  layout-end f least required = let z : required + 0 * entryLength ≡ required = omega arith in rw e (rw z)
+
+-- the entries of rows: with row `i` at hand, and at the last row's end
+module _ {step : ℕ} {item : ℕ → Entry} {entries : ℕ → ℕ → List Entry} (run : Run step item entries) where
+  pub bodies-here : {rows : List Row} {i : ℕ} {r : Row} → AtHand rows i r → (k next : ℕ) → next ≡ k + r .count * step
+      → (o : Outcome) → entriesCheck i 0 (entries k (r .count)) ≡ o
+      → bodies entries k i (drop i rows) ≡ o andThen bodies entries next (i + 1) (drop (i + 1) rows)
+  unfolding nodesCheck entryCount
+  bodies-here {rows} {i} {r} h k next e o p =
+      let n = entryCount (drop (i + 1) rows) in
+      rw (h .here) (rw (run-take run k (r .count) n, run-drop run k (r .count) n, p, e, add-one i))
+
+  pub bodies-end : (k i : ℕ) (rs : List Row) → rs ≡ [] → bodies entries k i rs ≡ accepted
+  unfolding nodesCheck
+  bodies-end k i rs e = rw e

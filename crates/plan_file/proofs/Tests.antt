@@ -38,9 +38,6 @@ module _ (f : List ℕ) where
         fourth = eqb-true _ _ (p1 .1);
       }
 
-  pub opens-false : (Opens → ⊥) → openingTest f ≡ false
-  opens-false n = decided (openingTest f) opens-hold n
-
   -- the last byte decides, once the others are right
   pub opens-rest : getD f 0 0 ≡ 0x4C → getD f 1 0 ≡ 0x4D → getD f 2 0 ≡ 0x50 → eqb (getD f 3 0) 0x31 ≡ openingTest f
   unfolding openingTest

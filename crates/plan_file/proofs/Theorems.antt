@@ -27,14 +27,14 @@ use Rattle.plan_file.specs.Find.{rowIn, nodeOfRow, rowOfNumber, findChec
 use Rattle.plan_file.specs.Limits.{PlanHolds, IsPlanFile, IsPlanInMemory}
 use Rattle.byte_words.proofs.Words.{length-words}
 use Rattle.plan_file.proofs.Words.{words-five}
-use Rattle.plan_file.proofs.Contents.{length-rows}
-use Rattle.plan_file.proofs.Bodies.{length-entries-at}
+use Rattle.plan_file.proofs.Contents.{length-rows, length-entries-at}
 use Rattle.plan_file.proofs.Encoding.{length-encoding}
 use Rattle.plan_file.proofs.Header.{header-holds}
 use Rattle.plan_file.proofs.File.{file-layout, file-holds}
 use Rattle.plan_file.proofs.WriterChecks.{writer-holds, count-true, writer-nodes}
 use Rattle.plan_file.proofs.Memory.{words-of-entries, entries-of-words}
-use Rattle.plan_file.proofs.Encoded.{same-bytes, contents-rows}
+use Rattle.plan_file.proofs.Encoded.{same-bytes}
+use Rattle.plan_file.proofs.Nodes.{contents-rows}
 use Rattle.plan_file.proofs.Decoded.{same-plan, encoding-accepted, few-entries, plan-same}
 use Rattle.plan_file.proofs.Bytes.{bytes-encoding}
 use Rattle.plan_file.proofs.Fits.{plan-fits, rows-of-words, rows-words, words-fit-rows, entries-words}

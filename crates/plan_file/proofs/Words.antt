@@ -1,5 +1,5 @@
 -- Laws of words and the fields that they hold.
-use Prim.Native.Nat.{ℕ, zero, suc, _+_, _*_, _/_, _%_, _≤_, _<_}
+use Prim.Native.Nat.{ℕ, zero, suc, _+_, _*_, _≤_, _<_}
 use mathlib.Core.Path.{_≡_, _∙_, refl, sym}
 use mathlib.Core.List.{List, [], _∷_, _++_, append-assoc, append-nil}
 use native.Mathlib.Omega.{arith}
@@ -10,7 +10,8 @@ use Rattle.node_words.proofs.Words.{entries-cons, entry-front}
 use Rattle.plan_file.specs.Plan.{rowWord, rowOf}
 use Rattle.plan_file.specs.Encoding.{entryLength, rowBytes, entryBytes, bodiesBytes}
 use Rattle.byte_words.specs.Bytes.{low, wordAt, wordsFrom, bytesOf}
-use Rattle.byte_words.proofs.Words.{length-low, head-bytes, words-split, length-words, bytes-append, length-bytes}
+use Rattle.byte_words.proofs.Words.{head-bytes, words-run, length-words, bytes-append}
+use Rattle.byte_words.proofs.Runs.{run-split}
 use Rattle.plan_file.specs.Decoding.{entriesAt}
 
 pub row-bytes : (offset w : ℕ) → rowBytes offset (rowOf w) ≡ low 4 w ++ low 4 offset
@@ -65,5 +66,5 @@ entries-in-words f k (suc n) =
     let rest = wordsFrom f (k + entryLength) (n * entrySize) in
     let l = length-words f k entrySize in
     sym
-    (rw (e, words-split f k entrySize (n * entrySize)) (entries-cons (ws ++ rest) n
+    (rw (e, run-split (words-run f) k entrySize (n * entrySize)) (entries-cons (ws ++ rest) n
     ∙ rw (entry-front ws rest (omega (arith, l)), drop-at ws rest entrySize l, entries-in-words f (k + entryLength) n)))

@@ -1,5 +1,5 @@
 -- Laws of the limits and the checks: from a test's result to facts about numbers, and from a check's outcome to limits.
-use Prim.Native.Nat.{ℕ, suc, _-_, _≤_}
+use Prim.Native.Nat.{ℕ, suc, _≤_}
 use mathlib.Core.Path.{_≡_}
 use mathlib.Core.Bool.{true, false}
 use mathlib.Core.List.{List, _∷_}

@@ -5,8 +5,9 @@ use lib.ListN.{length, length-set}
 use borrow.Author.Needs.{needs}
 use Rattle.byte_words.specs.Bytes.{wordsFrom}
 use Rattle.byte_words.specs.Buffers.{over}
-use Rattle.byte_words.proofs.Words.{words-snoc, length-words}
-use Rattle.byte_words.proofs.Buffers.{over-nothing, over-more}
+use Rattle.byte_words.proofs.Words.{words-run}
+use Rattle.byte_words.proofs.Runs.{copied}
+use Rattle.byte_words.proofs.Buffers.{over-nothing}
 use Rattle.byte_words.proofs.copy_words.Statement.{statement}
 use Rattle.byte_words.proofs.copy_words.Tie as tie
 
@@ -46,8 +47,7 @@ loop-again : tie.Need-loop-again Inv-loop μ-loop
 loop-again c = (
   omega arith,
   simp length-set (c .before .before .loop .inv .1),
-  rw (c .word-at .ensures, words-snoc)
-      (over-more _ _ _ _ _ (c .before .before .loop .inv .2) (length-words _ _ _) (omega arith)),
+  copied (words-run _) _ _ _ _ _ (c .before .before .loop .inv .2) (c .word-at .ensures) (omega arith),
 )
 
 same-length : tie.Need-same-length Inv-loop μ-loop

@@ -1,7 +1,6 @@
-use Prim.Native.Nat.{ℕ, _+_, _*_, _≤_}
+use Prim.Native.Nat.{ℕ, _*_, _≤_}
 use mathlib.Core.Path.{_≡_, _∙_, refl, ap, ap₂, sym}
 use mathlib.Core.List.{List, _++_}
-use native.Mathlib.Nat.{zero-add}
 use native.Mathlib.Omega.{arith}
 use lib.ListN.{length, take}
 use lib.Seq.{length-take-le}
@@ -9,9 +8,9 @@ use Rattle.task_model.specs.Limits.{mostEntries, Node, NodeHolds}
 use Rattle.node_words.specs.Words.{nodeOf}
 use Rattle.node_words.proofs.Entries.{length-entries}
 use Rattle.plan_file.specs.declared.Row.{Row}
-use Rattle.plan_file.specs.Decoding.{nodeCount, rowAt, planIn}
+use Rattle.plan_file.specs.Decoding.{nodeCount, planIn}
 use Rattle.plan_file.specs.Find.{rowIn, nodeOfRow}
-use Rattle.plan_file.proofs.Nodes.{row-get}
+use Rattle.plan_file.proofs.Contents.{row-get}
 use Rattle.plan_file.proofs.Theorems.{nodes-hold}
 use Rattle.level_map.specs.declared.Cut.{Cut}
 use Rattle.level_map.specs.declared.Cut.the-variants.{Groups, NoMap}
@@ -59,7 +58,7 @@ module _ (c : tie.After-load-node) where
   number =
       ap (λ (r : Row). r .number)
       (c .load-node .ensures .row
-      ∙ sym (row-get f 0 (nodeCount f) (at-start .args .row) (at-start .pre .0 .1) ∙ ap (rowAt f) (zero-add (at-start .args .row))))
+      ∙ sym (row-get f (nodeCount f) (at-start .args .row) (at-start .pre .0 .1)))
 
   sized : length (node .entries) ≡ row .count
   sized = length-entries words 0 (row .count)

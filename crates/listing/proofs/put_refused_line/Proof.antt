@@ -1,4 +1,4 @@
-use Prim.Native.Nat.{ℕ, _+_, _≤_}
+use Prim.Native.Nat.{ℕ, _≤_}
 use mathlib.Core.Path.{ap}
 use mathlib.Core.List.{List, _++_}
 use native.Mathlib.Omega.{arith}

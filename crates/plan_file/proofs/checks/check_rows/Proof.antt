@@ -1,18 +1,17 @@
 use Prim.Native.Nat.{_*_, _≤_, _-_}
 use mathlib.Core.List.{map}
-use mathlib.Core.Bool.{Bool}
-use mathlib.Core.Path.{_≡_, _∙_, sym, ap}
+use mathlib.Core.Path.{_≡_, _∙_, sym}
 use native.Mathlib.Omega.{arith}
 use native.Mathlib.Nat.{zero-add}
-use lib.Dec.{eqb}
-use lib.ListN.{length, getD}
+use lib.ListN.{length, drop}
 use borrow.Author.Tests.{not-true, not-false, eq-eqb, ne-eqb}
 use borrow.Author.Needs.{needs}
 use Rattle.node_words.specs.Words.{entrySize}
-use Rattle.refusals.specs.Refusals.{at, _andThen_, mustHold}
-use Rattle.plan_file.specs.Check.{rowTest, rowsCheck}
-use Rattle.plan_file.specs.Plan.{entryCount, rowOf}
-use Rattle.plan_file.proofs.Rows.{tallyFrom, tally-row, tally-next, tally-end}
+use Rattle.plan_file.specs.Plan.{rowOf}
+use Rattle.byte_words.proofs.Runs.{AtHand}
+use Rattle.plan_file.proofs.Contents.{memory-row, memory-none}
+use Rattle.plan_file.proofs.Rows.{tallyFrom, tally-here, tally-end}
+use Rattle.plan_file.proofs.WriterChecks.{tally}
 use Rattle.refusals.proofs.Outcomes.{mustHold-accepts, mustHold-refuses}
 use Rattle.plan_file.proofs.checks.check_rows.Statement.{statement}
 use Rattle.plan_file.proofs.checks.check_rows.Tie as tie
@@ -22,8 +21,7 @@ Inv-loop rows words least₀ total₀ i₀ least total i =
     (i ≤ length rows)
     × (least ≤ 65536)
     × (total ≤ i * 255)
-    × (tallyFrom rows words i least total
-    ≡ rowsCheck 0 0 (map rowOf rows) andThen mustHold (eqb words (entryCount (map rowOf rows) * entrySize)) (at 6 0 0))
+    × (tallyFrom words i least total (drop i (map rowOf rows)) ≡ tally (map rowOf rows) words)
 
 abbrev μ-loop : tie.MeasureT-loop
 μ-loop rows words least₀ total₀ i₀ least total i = length rows - i
@@ -43,14 +41,13 @@ row-of-requires c κs = search needs
 row-holds-requires : tie.Need-row-holds-requires Inv-loop μ-loop
 row-holds-requires c κs = search needs
 
--- what the test of the row at hand answers
-holds : (c : tie.After-row-holds Inv-loop μ-loop) (a : Bool) → c .row-holds .result ≡ a
-    → rowTest (c .before .before .before .before .loop .least) (rowOf (getD (c .before .before .before .before .before .before .args .rows .now) (c .before .before .before .before .loop .i) 0)) ≡ a
-holds c a p = ap (rowTest _) (sym (c .before .row-of .ensures)) ∙ sym (c .row-holds .ensures) ∙ p
+at-row : (c : tie.After-row-of Inv-loop μ-loop)
+    → AtHand (map rowOf (c .before .before .before .before .before .args .rows .now)) (c .before .before .before .loop .i) (c .row-of .result)
+at-row c = memory-row (c .before .before .before .before .before .args .rows .now) _ _ (c .before .before .loop-test .taken) (c .row-of .ensures)
 
 returns : tie.Need-returns Inv-loop μ-loop
 returns c =
-    sym (tally-row _ _ _ _ _ (c .before .before .before .before .loop-test .taken) (holds (c .before) _ (not-true _ (c .if1 .taken))))
+    sym (tally-here (at-row (c .before .before)) _ _ _ _ (sym (c .before .row-holds .ensures) ∙ not-true _ (c .if1 .taken)))
     ∙ c .before .before .before .before .before .loop .inv .3
 
 cast-least : tie.Need-cast-least Inv-loop μ-loop
@@ -76,9 +73,8 @@ loop-again c = (
   omega arith,
   omega arith,
   omega arith,
-  rw (c .before .before .before .before .row-of .ensures)
-      (sym (tally-next _ _ _ _ _ (c .before .before .before .before .before .before .loop-test .taken) (holds (c .before .before .before) _ (not-false _ (c .before .before .if1 .left))))
-      ∙ c .before .before .before .before .before .before .before .loop .inv .3),
+  sym (tally-here (at-row (c .before .before .before .before)) _ _ _ _ (sym (c .before .before .before .row-holds .ensures) ∙ not-false _ (c .before .before .if1 .left)))
+      ∙ c .before .before .before .before .before .before .before .loop .inv .3,
 )
 
 mul-if2 : tie.Need-mul-if2 Inv-loop μ-loop
@@ -87,13 +83,13 @@ mul-if2 c = search needs
 returns-2 : tie.Need-returns-2 Inv-loop μ-loop
 returns-2 c =
     sym (mustHold-refuses _ _ (ne-eqb (c .before .before .before .before .args .words) (c .before .before .loop .total * entrySize) (λ e. omega arith)))
-    ∙ sym (tally-end _ _ _ _ _ (c .before .loop-test .left))
+    ∙ sym (tally-end _ _ (memory-none (c .before .before .before .before .args .rows .now) _ (c .before .loop-test .left)) _ _ _)
     ∙ c .before .before .loop .inv .3
 
 returns-3 : tie.Need-returns-3 Inv-loop μ-loop
 returns-3 c =
     sym (mustHold-accepts _ _ (eq-eqb (c .before .before .before .before .args .words) (c .before .before .loop .total * entrySize) (omega arith)))
-    ∙ sym (tally-end _ _ _ _ _ (c .before .loop-test .left))
+    ∙ sym (tally-end _ _ (memory-none (c .before .before .before .before .args .rows .now) _ (c .before .loop-test .left)) _ _ _)
     ∙ c .before .before .loop .inv .3
 
 pub check-rows-spec : {M : Type 1} → statement M

@@ -7,8 +7,9 @@ use borrow.Author.Needs.{needs}
 use Rattle.plan_file.specs.Decoding.{rowsFrom}
 use Rattle.plan_file.specs.Plan.{rowWord}
 use Rattle.byte_words.specs.Buffers.{over}
-use Rattle.plan_file.proofs.Contents.{row-words-snoc, length-row-words}
-use Rattle.byte_words.proofs.Buffers.{over-nothing, over-more}
+use Rattle.plan_file.proofs.Contents.{row-words-run, row-kept}
+use Rattle.byte_words.proofs.Runs.{copied}
+use Rattle.byte_words.proofs.Buffers.{over-nothing}
 use Rattle.plan_file.proofs.read.copy_rows.Statement.{statement}
 use Rattle.plan_file.proofs.read.copy_rows.Tie as tie
 
@@ -48,8 +49,7 @@ loop-again : tie.Need-loop-again Inv-loop μ-loop
 loop-again c = (
   omega arith,
   simp length-set (c .before .before .loop .inv .1),
-  rw (row-words-snoc _ _ _ (c .word-at .ensures) (omega arith))
-      (over-more _ _ _ _ _ (c .before .before .loop .inv .2) (length-row-words _ _) (omega arith)),
+  copied (row-words-run _) _ _ _ _ _ (c .before .before .loop .inv .2) (row-kept _ _ _ (c .word-at .ensures) (omega arith)) (omega arith),
 )
 
 same-length : tie.Need-same-length Inv-loop μ-loop

@@ -1,14 +1,15 @@
-use Prim.Native.Nat.{_<_, _+_, _*_, _≤_, _-_}
+use Prim.Native.Nat.{_+_, _*_, _≤_, _-_}
 use mathlib.Core.List.{map}
 use mathlib.Core.Path.{_≡_, _∙_, refl, sym, ap}
 use native.Mathlib.Omega.{arith}
 use lib.Seq.{take-all}
-use lib.ListN.{length, take}
+use lib.ListN.{length, take, length-map}
 use borrow.Author.Needs.{needs}
 use Rattle.plan_file.specs.Encoding.{entryLength, bodiesStart, contentsBytes}
 use Rattle.plan_file.specs.Plan.{entryCount, rowOf}
 use Rattle.byte_words.specs.Buffers.{over}
 use Rattle.plan_file.specs.declared.Row.{Row}
+use Rattle.plan_file.proofs.Contents.{memory-row}
 use Rattle.plan_file.proofs.Rows.{count-more, contents-more, contents-length}
 use Rattle.byte_words.proofs.Buffers.{over-nothing, over-next}
 use Rattle.plan_file.proofs.store.put_contents.Statement.{statement}
@@ -18,9 +19,9 @@ abbrev Inv-loop : tie.InvT-loop
 Inv-loop file₀ rows offset₀ row₀ file offset row =
     (row ≤ length rows)
     × (length file ≡ length file₀)
-    × (offset ≡ bodiesStart (length rows) + entryCount (map rowOf (take row rows)) * entryLength)
+    × (offset ≡ bodiesStart (length rows) + entryCount (take row (map rowOf rows)) * entryLength)
     × (offset ≤ bodiesStart (length rows) + row * 5100)
-    × (file ≡ over file₀ 8 (contentsBytes (bodiesStart (length rows)) (map rowOf (take row rows))))
+    × (file ≡ over file₀ 8 (contentsBytes (bodiesStart (length rows)) (take row (map rowOf rows))))
 
 abbrev μ-loop : tie.MeasureT-loop
 μ-loop file₀ rows offset₀ row₀ file offset row = length rows - row
@@ -73,18 +74,16 @@ loop-less c = omega arith
 
 loop-again : tie.Need-loop-again Inv-loop μ-loop
 loop-again c =
-    let rows = c .before .before .before .before .before .before .before .before .before .before .before .args .rows .now in
-    let row = c .before .before .before .before .before .before .before .before .loop .row in
-    let h : row < length rows = c .before .before .before .before .before .before .before .loop-test .taken in
+    let row = memory-row (c .before .before .before .before .before .before .before .before .before .before .before .args .rows .now) _ _ (c .before .before .before .before .before .before .before .loop-test .taken) refl in
     let r = ap (λ (r : Row). r .count) (c .before .row-of .ensures) in (
       omega arith,
       omega (arith, c .before .before .before .before .put-row .kept .0),
-      omega (arith, count-more rows row h, r),
+      omega (arith, count-more row, r),
       omega (arith, r),
       c .before .before .before .before .put-row .ensures
           ∙ rw (c .before .before .before .before .before .before .before .before .loop .inv .4)
-          (over-next _ 8 _ _ _ (contents-length rows row h _) (omega arith)
-          ∙ ap (over _ 8) (contents-more rows row h _ _ (c .before .before .before .before .before .before .before .before .loop .inv .2))),
+          (over-next _ 8 _ _ _ (contents-length row _) (omega arith)
+          ∙ ap (over _ 8) (contents-more row _ _ (c .before .before .before .before .before .before .before .before .loop .inv .2))),
     )
 
 same-length : tie.Need-same-length Inv-loop μ-loop
@@ -92,7 +91,8 @@ same-length c = search needs
 
 returns : tie.Need-returns Inv-loop μ-loop
 returns c =
-    rw (take-all (c .before .loop .row) (c .before .before .before .before .args .rows .now) (c .loop-test .left)) at (c .before .loop .inv .4)
+    let rows = c .before .before .before .before .args .rows .now in
+    rw (take-all (c .before .loop .row) (map rowOf rows) (omega (arith, length-map rows rowOf))) at (c .before .loop .inv .4)
 
 pub put-contents-spec : {M : Type 1} → statement M
 put-contents-spec =
