@@ -1,6 +1,6 @@
 -- Laws of checks in sequence, and of the session that a call leaves after them.
 use Prim.Native.Nat.{ℕ, _≤_, _<_}
-use mathlib.Core.Path.{_≡_, sym}
+use mathlib.Core.Path.{_≡_, _∙_, sym, ap}
 use mathlib.Core.Bool.{true, _&&_}
 use mathlib.Core.List.{List}
 use native.Mathlib.Omega.{arith}
@@ -8,7 +8,10 @@ use lib.ListN.{length}
 use lib.Dec.{leb, ltb}
 use borrow.Author.Tests.{le-leb, lt-leb, lt-ltb, le-ltb, leb-true, ltb-true}
 use Rattle.task_model.specs.declared.Entry.{Entry}
-use Rattle.refusals.specs.Refusals.{Numbered, at, accepted, refused, _andThen_}
+use Rattle.refusals.specs.declared.Refusal.{Refusal}
+use Rattle.refusals.specs.declared.Checked.{Checked}
+use Rattle.refusals.specs.declared.Checked.the-variants.{Accepted, Refused}
+use Rattle.refusals.specs.Refusals.{Numbered, Outcome, at, accepted, refused, outcome, _andThen_}
 use Rattle.task_model.specs.Limits.{mostLevels, mostEntries, Node, AllHold}
 use Rattle.task_model.specs.Checks.{entryCheck, nodeCheck}
 use Rattle.node_words.specs.Words.{nodeOf}
@@ -23,6 +26,7 @@ use Rattle.session.specs.State.{nodeIn}
 use Rattle.session.specs.Operations.{
   changing,
   asking,
+  Change,
   Operation,
   inserting,
   removing,
@@ -73,6 +77,14 @@ module _ (o : Operation) (n : Node) where
   unfolding stepCheck
   step-accepted p = both-accepted _ _ p
 
+-- the same, of what the checks of a lent session answered
+module _ (o : Operation) (n : Node) (lent : Checked) (p : outcome lent ≡ lentCheck o n) where
+  pub lent-refused : {r : Refusal} → lent ≡ Refused r → outcome lent ≡ stepCheck o n
+  lent-refused e = ap outcome e ∙ sym (lent-stops o n _ (sym p ∙ ap outcome e))
+
+  pub lent-accepted : lent ≡ Accepted → {own : Outcome} → own ≡ operationCheck o n → own ≡ stepCheck o n
+  lent-accepted e h = h ∙ sym (lent-goes-on o n (sym p ∙ ap outcome e))
+
 -- each operation's checks
 module _ (n : Node) (p : ℕ) where
   module _ (e : Entry) where
@@ -119,18 +131,6 @@ module _ (n : Node) (p : ℕ) where
   remove-accepted a = ltb-true _ _ (demanded _ _ a)
 
 module _ (n : Node) (first last i : ℕ) where
-  pub time-before : i < first → operationCheck (asking (timing first last i)) n ≡ refused (at 12 0 0)
-  unfolding operationCheck changeCheck queryCheck
-  time-before h = rw (lt-leb first i h)
-
-  pub time-after : first ≤ i → last < i → operationCheck (asking (timing first last i)) n ≡ refused (at 12 0 0)
-  unfolding operationCheck changeCheck queryCheck
-  time-after h l = rw (le-leb first i h, lt-leb i last l)
-
-  pub time-outside : first ≤ i → i ≤ last → length (n .entries) ≤ last → operationCheck (asking (timing first last i)) n ≡ refused (at 12 0 0)
-  unfolding operationCheck changeCheck queryCheck
-  time-outside h l m = rw (le-leb first i h, le-leb i last l, le-ltb last (length (n .entries)) m)
-
   pub time-inside : first ≤ i → i ≤ last → last < length (n .entries) → operationCheck (asking (timing first last i)) n ≡ accepted
   unfolding operationCheck changeCheck queryCheck
   time-inside h l m = rw (le-leb first i h, le-leb i last l, lt-ltb last (length (n .entries)) m)
@@ -173,7 +173,13 @@ module _ (n : Node) (first last i : ℕ) where
   unfolding timeAnswer
   time-given p = rw p
 
--- what an accepted operation may go by
+-- what an accepted operation may go by, on a list of `count` entries
+abbrev pub Ready : Change → ℕ → Type 0
+Ready (inserting p e) count = (p ≤ count) × (count < mostEntries)
+Ready (removing p) count = (p < count) × (count ≤ mostEntries)
+Ready (replacing p e) count = (p < count) × (count ≤ mostEntries)
+Ready (settingLevels l) count = count ≤ mostEntries
+
 module _ (ws : List ℕ) (count levels : ℕ) where
   abbrev n : Node
   n = nodeOf ws count levels
@@ -184,27 +190,14 @@ module _ (ws : List ℕ) (count levels : ℕ) where
   few : nodeCheck 0 n ≡ accepted → count ≤ mostEntries
   few p = omega (arith, node-accepted 0 n .0 p .fewEntries, sized)
 
-  module _ (p : ℕ) where
-    pub insert-ready : (e : Entry) → stepCheck (changing (inserting p e)) n ≡ accepted → (p ≤ count) × (count < mostEntries)
-    insert-ready e a =
-        let q = insert-accepted n p e (step-accepted (changing (inserting p e)) n a .1) in
-        (omega (arith, sized), omega (arith, sized))
-
-    pub remove-ready : stepCheck (changing (removing p)) n ≡ accepted → (p < count) × (count ≤ mostEntries)
-    unfolding lentCheck
-    remove-ready a =
-        let q = step-accepted (changing (removing p)) n a in
-        (omega (arith, sized, remove-accepted n p (q .1)), few (q .0))
-
-    pub replace-ready : (e : Entry) → stepCheck (changing (replacing p e)) n ≡ accepted → (p < count) × (count ≤ mostEntries)
-    unfolding lentCheck
-    replace-ready e a =
-        let q = step-accepted (changing (replacing p e)) n a in
-        (omega (arith, sized, replace-accepted n p e (q .1) .0), few (q .0))
-
-  pub levels-ready : (l : ℕ) → stepCheck (changing (settingLevels l)) n ≡ accepted → count ≤ mostEntries
+  pub change-ready : (c : Change) → stepCheck (changing c) n ≡ accepted → Ready c count
   unfolding lentCheck
-  levels-ready l a = few (step-accepted (changing (settingLevels l)) n a .0)
+  change-ready (inserting p e) a =
+      let q = insert-accepted n p e (step-accepted _ n a .1) in
+      (omega (arith, sized), omega (arith, sized))
+  change-ready (removing p) a = let q = step-accepted _ n a in (omega (arith, sized, remove-accepted n p (q .1)), few (q .0))
+  change-ready (replacing p e) a = let q = step-accepted _ n a in (omega (arith, sized, replace-accepted n p e (q .1) .0), few (q .0))
+  change-ready (settingLevels l) a = few (step-accepted _ n a .0)
 
   pub time-ready : (first last i : ℕ) → stepCheck (asking (timing first last i)) n ≡ accepted
       → AllHold (n .entries) × ((first ≤ i) × (i ≤ last) × (last < count) × (count ≤ mostEntries))

@@ -7,7 +7,9 @@ use native.Mathlib.Omega.{arith}
 use lib.ListN.{length, take, drop, getD, set, drop-of-length-le, length-drop}
 use lib.Seq.{take-all}
 use borrow.Rule.Slice.PartMut.{putMid}
+use Rattle.refusals.specs.declared.Refusal.{Refusal}
 use Rattle.refusals.specs.declared.Checked.{Checked}
+use Rattle.refusals.specs.declared.Checked.the-variants.{Accepted, Refused}
 use Rattle.refusals.specs.Refusals.{Numbered, accepted, refused, outcome}
 use Rattle.task_model.specs.Limits.{Node}
 use Rattle.node_words.specs.Words.{nodeSize, wordsOf, nodeOf}
@@ -15,10 +17,11 @@ use Rattle.refusals.proofs.Outcomes.{either}
 use Rattle.session.specs.declared.Session.{Session}
 use Rattle.session.specs.State.{nodeIn, sessionOf}
 use Rattle.node_words.specs.Lists.{zeros, zeroPadded}
-use Rattle.session.specs.Operations.{Change, Operation, changing, emptyNode, changed, stepCheck}
+use Rattle.session.specs.Operations.{Change, Operation, inserting, removing, replacing, settingLevels, changing, emptyNode, changed, stepCheck}
 use Rattle.session.specs.Steps.{sessionMade, sessionAfter, sessionAfterAll, Follows}
 use Rattle.session.specs.InWords.{sessionSize, sessionIn, wordsIn, wordsLeft, wordsAfter, wordsAfterAll, FollowsIn}
-use Rattle.session.proofs.Checking.{after-refused, after-accepted}
+use Rattle.session.proofs.Checking.{Ready, change-ready, after-refused, after-accepted}
+use Rattle.session.proofs.Changing.{counted, session-made}
 
 pub words-back : (w : List ℕ) → length w ≡ sessionSize → wordsIn (sessionIn w) ≡ w
 words-back [] h = absurd (omega arith)
@@ -81,6 +84,17 @@ part w = take (length w - 2) (drop 2 w)
 abbrev partNode : List ℕ → Node
 partNode w = nodeOf (part w) (getD w 1 0) (getD w 0 0)
 
+-- the words with what a change writes before that part
+abbrev headed : Change → ℕ → List ℕ → List ℕ
+headed (inserting p e) count l = set l 1 (count + 1)
+headed (removing p) count l = set l 1 (count - 1)
+headed (replacing p e) count l = l
+headed (settingLevels n) count l = set l 0 n
+
+-- what a change may go by there, once it is accepted
+abbrev pub PartReady : Change → List ℕ → Type 0
+PartReady x w = Ready x (getD w 1 0) × (length (part w) ≡ nodeSize)
+
 module _ (w : List ℕ) (size : length w ≡ sessionSize) where
   part-all : part w ≡ drop 2 w
   part-all = take-all (length w - 2) (drop 2 w) (omega (arith, length-drop 2 w))
@@ -89,29 +103,30 @@ module _ (w : List ℕ) (size : length w ≡ sessionSize) where
   part-size = ap length part-all ∙ omega (arith, length-drop 2 w)
 
   -- they come back as ws
-  module _ (ws : List ℕ) where
-    pub put-back : putMid 2 (length w - 2) w ws ≡ getD w 0 0 ∷ getD w 1 0 ∷ ws
-    put-back = back w ws size
-
-    pub put-count : (n : ℕ) → set (putMid 2 (length w - 2) w ws) 1 n ≡ getD w 0 0 ∷ n ∷ ws
-    put-count n = ap (λ l. set l 1 n) put-back
-
-    pub put-levels : (n : ℕ) → set (putMid 2 (length w - 2) w ws) 0 n ≡ n ∷ getD w 1 0 ∷ ws
-    put-levels n = ap (λ l. set l 0 n) put-back
+  put-back : (x : Change) (ws : List ℕ) → headed x (getD w 1 0) (putMid 2 (length w - 2) w ws) ≡ changed x (partNode w) .levels ∷ counted x (getD w 1 0) ∷ ws
+  unfolding changed
+  put-back (inserting p e) ws = ap (λ l. set l 1 (getD w 1 0 + 1)) (back w ws size)
+  put-back (removing p) ws = ap (λ l. set l 1 (getD w 1 0 - 1)) (back w ws size)
+  put-back (replacing p e) ws = back w ws size
+  put-back (settingLevels n) ws = ap (λ l. set l 0 n) (back w ws size)
 
   -- a change, from the checks of the part and from what it leaves there
   module _ (x : Change) (a : Checked) (p : outcome a ≡ stepCheck (changing x) (partNode w)) where
     checks : outcome a ≡ stepCheck (changing x) (nodeIn (sessionIn w))
     checks = p ∙ ap (λ l. stepCheck (changing x) (nodeOf l (getD w 1 0) (getD w 0 0))) part-all
 
-    pub part-refused : (r : Numbered) → outcome a ≡ refused r → FollowsIn (changing x) w a w
-    part-refused = in-refused (changing x) w a checks
+    pub part-refused : {r : Refusal} → a ≡ Refused r → FollowsIn (changing x) w a w
+    part-refused e = in-refused (changing x) w a checks _ (ap outcome e)
 
-    pub part-accepted : outcome a ≡ accepted → (t : Session) → t ≡ sessionOf (changed x (partNode w)) → (after : List ℕ) → after ≡ wordsIn t
-        → FollowsIn (changing x) w a after
-    part-accepted q t made =
-        in-accepted (changing x) w a checks q t
-        (made ∙ ap (λ l. sessionOf (changed x (nodeOf l (getD w 1 0) (getD w 0 0)))) part-all)
+    pub part-ready : a ≡ Accepted → PartReady x w
+    part-ready e = (change-ready (part w) (getD w 1 0) (getD w 0 0) x (sym p ∙ ap outcome e), part-size)
+
+    pub part-accepted : a ≡ Accepted → {ws : List ℕ} → ws ≡ zeroPadded (wordsOf (changed x (partNode w) .entries))
+        → FollowsIn (changing x) w a (headed x (getD w 1 0) (putMid 2 (length w - 2) w ws))
+    part-accepted e written =
+        in-accepted (changing x) w a checks (ap outcome e) _
+        (session-made (part w) (getD w 1 0) (getD w 0 0) x (part-ready e .0) _ written ∙ ap (λ l. sessionOf (changed x (nodeOf l (getD w 1 0) (getD w 0 0)))) part-all)
+        _ (put-back x _)
 
 pub rows-words : (os : List Operation) (w : List ℕ) → sessionIn (wordsAfterAll os w) ≡ sessionAfterAll os (sessionIn w)
 unfolding wordsAfterAll sessionAfterAll

@@ -7,6 +7,4 @@ pub mod Rows
 pub mod InWords
 pub mod Theorems
 pub mod Lent
-pub mod LentOne
-pub mod LentTwo
 pub mod Mapping

@@ -40,9 +40,9 @@ use Rattle.node_words.proofs.Lists.{size-inserted, size-removed, size-replaced,
 use Rattle.session.proofs.Reading.{Kept, read-back}
 use Rattle.session.proofs.Checking.{lent-goes-on, levels-accepted, insert-accepted, remove-accepted, replace-accepted, after-refused, after-accepted}
 
--- a number of 16 bits
-abbrev Short : Entry → Type 0
-Short e = e .number < 65536
+-- within the limits, with a number of 16 bits
+abbrev Good : Entry → Type 0
+Good e = EntryHolds e × (e .number < 65536)
 
 pub kept-empty : (levels : ℕ) → 1 ≤ levels → levels ≤ mostLevels → Kept (emptyNode levels)
 kept-empty levels l h =
@@ -52,44 +52,34 @@ kept-empty levels l h =
     }
 
 -- a list of entries in the place of another
-kept-with : (n : Node) (es : List Entry) → Kept n → length es ≤ mostEntries → Each EntryHolds es → Each Short es
-    → Kept (record { levels = n .levels; entries = es })
-kept-with n es k few holds short =
+kept-with : (n : Node) (es : List Entry) → Kept n → length es ≤ mostEntries → Each Good es → Kept (record { levels = n .levels; entries = es })
+kept-with n es k few good =
     record {
       holds =
           record {
             someLevels = k .holds .someLevels;
             fewLevels = k .holds .fewLevels;
             fewEntries = few;
-            each = of-each EntryHolds es holds;
+            each = λ j h. of-each Good es good j h .0;
           };
-      numbers = of-each Short es short;
+      numbers = λ j h. of-each Good es good j h .1;
     }
 
 module _ (n : Node) (k : Kept n) where
-  all : Each EntryHolds (n .entries)
-  all = each-of EntryHolds (n .entries) (k .holds .each)
-
-  short : Each Short (n .entries)
-  short = each-of Short (n .entries) (k .numbers)
+  all : Each Good (n .entries)
+  all = each-of Good (n .entries) (λ j h. (k .holds .each j h, k .numbers j h))
 
   -- an accepted change keeps a node within the limits, and so does any accepted operation
   kept-changed : (c : Change) → CallableChange c → operationCheck (changing c) n ≡ accepted → Kept (changed c n)
   unfolding changed operationCheck changeCheck
   kept-changed (inserting p e) c a =
       let h = insert-accepted n p e a in
-      kept-with n _ k (omega (arith, size-inserted (n .entries) e p (h .0)))
-      (each-inserted EntryHolds p e (n .entries) (entry-accepted 0 p e .0 (h .2)) all)
-      (each-inserted Short p e (n .entries) c short)
+      kept-with n _ k (omega (arith, size-inserted (n .entries) e p (h .0))) (each-inserted Good p e (n .entries) (entry-accepted 0 p e .0 (h .2), c) all)
   kept-changed (removing p) c a =
-      let h = remove-accepted n p a in
-      kept-with n _ k (omega (arith, size-removed (n .entries) p h, k .holds .fewEntries)) (each-removed EntryHolds p (n .entries) all)
-      (each-removed Short p (n .entries) short)
+      kept-with n _ k (omega (arith, size-removed (n .entries) p (remove-accepted n p a), k .holds .fewEntries)) (each-removed Good p (n .entries) all)
   kept-changed (replacing p e) c a =
       let h = replace-accepted n p e a in
-      kept-with n _ k (omega (arith, size-replaced (n .entries) e p (h .0), k .holds .fewEntries))
-      (each-replaced EntryHolds p e (n .entries) (entry-accepted 0 p e .0 (h .1)) all)
-      (each-replaced Short p e (n .entries) c short)
+      kept-with n _ k (omega (arith, size-replaced (n .entries) e p (h .0), k .holds .fewEntries)) (each-replaced Good p e (n .entries) (entry-accepted 0 p e .0 (h .1), c) all)
   kept-changed (settingLevels levels) c a =
       let h = levels-accepted levels a in
       record {

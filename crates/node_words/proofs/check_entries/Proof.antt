@@ -22,24 +22,6 @@ abbrev μ-loop : tie.MeasureT-loop
 loop-holds : tie.Need-loop-holds Inv-loop μ-loop
 loop-holds c = (omega arith, (rw (add-zero, sub-zero)))
 
-add-entry-of : tie.Need-add-entry-of Inv-loop μ-loop
-add-entry-of c = search needs
-
-mul-entry-of : tie.Need-mul-entry-of Inv-loop μ-loop
-mul-entry-of c = search needs
-
-entry-of-requires : tie.Need-entry-of-requires Inv-loop μ-loop
-entry-of-requires c κs = search needs
-
-check-entry-requires : tie.Need-check-entry-requires Inv-loop μ-loop
-check-entry-requires c κs = search needs
-
-enum-told : tie.Need-enum-told Inv-loop μ-loop
-enum-told c = search needs
-
-enum-told-2 : tie.Need-enum-told-2 Inv-loop μ-loop
-enum-told-2 c = search needs
-
 -- what the check of the entry at hand answers
 found : (c : tie.After-check-entry Inv-loop μ-loop) (o : Checked) → c .check-entry .result ≡ o
     → entryCheck (c .before .before .before .before .before .args .row) (c .before .before .before .loop .position) (entryOf (c .before .before .before .before .before .args .words .now) (c .before .before .before .before .before .args .first + c .before .before .before .loop .position))
@@ -53,12 +35,6 @@ returns c =
     ∙ sym (from-stop _ _ _ _ _ (c .before .before .before .before .loop-test .taken) _ (found (c .before .before) _ (c .enum-told2 .given .1)))
     ∙ c .before .before .before .before .before .loop .inv .1
 
-add-position : tie.Need-add-position Inv-loop μ-loop
-add-position c = search needs
-
-loop-less : tie.Need-loop-less Inv-loop μ-loop
-loop-less c = omega arith
-
 loop-again : tie.Need-loop-again Inv-loop μ-loop
 loop-again c = (
   omega arith,
@@ -71,19 +47,6 @@ returns-2 c = sym (from-end _ _ _ _ _ (c .loop-test .left)) ∙ c .before .loop 
 
 pub check-entries-spec : {M : Type 1} → statement M
 check-entries-spec =
-    tie.close
-    (tie.spec
-    Inv-loop
-    μ-loop
-    loop-holds
-    add-entry-of
-    mul-entry-of
-    entry-of-requires
-    check-entry-requires
-    enum-told
-    enum-told-2
-    returns
-    add-position
-    loop-less
-    loop-again
-    returns-2)
+    tie.close (tie.spec
+    Inv-loop μ-loop loop-holds (λ c. search needs) (λ c. search needs) (λ c κs. search needs) (λ c κs. search needs)
+    (λ c. search needs) (λ c. search needs) returns (λ c. search needs) (λ c. omega arith) loop-again returns-2)

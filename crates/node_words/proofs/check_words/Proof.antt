@@ -9,9 +9,6 @@ use Rattle.node_words.proofs.check_words.Tie as tie
 returns : tie.Need-returns
 returns c = sym (node-sizes _ _ (λ h1 h2 h3. omega arith))
 
-cast-if2 : tie.Need-cast-if2
-cast-if2 c = search needs
-
 returns-2 : tie.Need-returns-2
 returns-2 c = sym (node-sizes _ _ (λ h1 h2 h3. omega arith))
 
@@ -20,9 +17,6 @@ returns-3 c =
     let a = c .before .before .before .before .args in
     sym (node-sizes _ _ (λ h1 h2 h3. omega (arith, length-entries (a .words .now) 0 (a .count))))
 
-check-entries-requires : tie.Need-check-entries-requires
-check-entries-requires c κs = omega arith
-
 returns-4 : tie.Need-returns-4
 returns-4 c =
     let a = c .before .before .before .before .before .args in
@@ -30,5 +24,4 @@ returns-4 c =
     ∙ sym (node-entries _ _ (omega arith) (omega arith) (omega (arith, length-entries (a .words .now) 0 (a .count))))
 
 pub check-words-spec : {M : Type 1} → statement M
-check-words-spec =
-    tie.close (tie.spec returns cast-if2 returns-2 returns-3 check-entries-requires returns-4)
+check-words-spec = tie.close (tie.spec returns (λ c. search needs) returns-2 returns-3 (λ c κs. omega arith) returns-4)

@@ -26,27 +26,6 @@ loop-holds c = (
   paste-zero (zeros nodeSize) 0 (drop 2 (c .args .t1)),
 )
 
-add-words : tie.Need-add-words Inv-loop μ-loop
-add-words c = search needs
-
-mul-words : tie.Need-mul-words Inv-loop μ-loop
-mul-words c = search needs
-
-array-read-words : tie.Need-array-read-words Inv-loop μ-loop
-array-read-words c = search needs
-
-mul-words-2 : tie.Need-mul-words-2 Inv-loop μ-loop
-mul-words-2 c = search needs
-
-array-write-words : tie.Need-array-write-words Inv-loop μ-loop
-array-write-words c = search needs
-
-add-j : tie.Need-add-j Inv-loop μ-loop
-add-j c = search needs
-
-loop-less : tie.Need-loop-less Inv-loop μ-loop
-loop-less c = search needs
-
 loop-again : tie.Need-loop-again Inv-loop μ-loop
 loop-again c =
     let w = c .before .before .args .t1 in
@@ -57,12 +36,6 @@ loop-again c =
       ap (set (c .before .loop .words) j) (sym (getD-drop 2 w j 0))
           ∙ copy-next (zeros nodeSize) 0 (drop 2 w) j j _ (omega arith) (omega arith) (omega (arith, length-drop 2 w)) (i .2),
     )
-
-array-read-t16 : tie.Need-array-read-t16 Inv-loop μ-loop
-array-read-t16 c = search needs
-
-array-read-t19 : tie.Need-array-read-t19 Inv-loop μ-loop
-array-read-t19 c = search needs
 
 returns : tie.Need-returns Inv-loop μ-loop
 returns c =
@@ -75,19 +48,7 @@ returns c =
 
 pub from-words-spec : {M : Type 1} → statement M
 from-words-spec =
-    tie.close
-    (tie.spec
-    Inv-loop
-    μ-loop
-    loop-holds
-    add-words
-    mul-words
-    array-read-words
-    mul-words-2
-    array-write-words
-    add-j
-    loop-less
-    loop-again
-    array-read-t16
-    array-read-t19
+    tie.close (tie.spec
+    Inv-loop μ-loop loop-holds (λ c. search needs) (λ c. search needs) (λ c. search needs) (λ c. search needs)
+    (λ c. search needs) (λ c. search needs) (λ c. search needs) loop-again (λ c. search needs) (λ c. search needs)
     returns)

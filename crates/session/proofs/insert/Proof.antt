@@ -1,23 +1,17 @@
--- `session::insert` meets its contract, by the proof in LentTwo.
+-- `session::insert` meets its contract, by the proof in Lent.
 use contract.Running.{givenOf, tables, tablesOf}
-use denote.Triple.Spec.{tripleOf}
 use denote.Triple.Table.{entered, cited}
 use Rattle.session.specs.Operations.{changing, inserting}
-use Rattle.session.proofs.LentTwo as walk
-use Rattle.session.proofs.inserted as g
-use Rattle.session.proofs.inserted.Symbol as g-def
-use Rattle.session.proofs.inserted.Symbol.{name as #session·inserted}
-use Rattle.session.proofs.inserted.Met as g-thm
-use Rattle.session.proofs.insert.Key.{name as #session·insert}
-use Rattle.session.proofs.insert as f
-use Rattle.session.proofs.insert.Statement as stated
+use Rattle.session.proofs.Lent.{meets-entry}
+use Rattle.session.proofs.inserted.Symbol as callee
+use Rattle.session.proofs.inserted.Met as callee-met
+use Rattle.session.proofs.insert.Key.{name}
+use Rattle.session.proofs.insert.Statement.{statement}
 use Rattle.session.proofs.insert.Code as code
 
-pub insert-spec : {M : Type 1} → stated.statement M
+pub insert-spec : {M : Type 1} → statement M
 unfolding code.routine tablesOf
 insert-spec 𝓤 H 𝓜 𝓖 𝓡 =
-    entered 𝓤 H (tripleOf 𝓤 H (𝓖 .A) f.signature (f.spec 𝓤 H (𝓖 .A) (𝓜 .mem) (𝓡 .run)))
-    (tables 𝓤 H 𝓜 𝓡 code.env .C) (tables 𝓤 H 𝓜 𝓡 code.env .Λ) #session·insert code.function (code.unfolded 𝓤 H 𝓜 𝓡)
-    (walk.meets (λ p e. changing (inserting p e)) #session·inserted 𝓤 H (𝓖 .A) (givenOf 𝓤 H 𝓜 𝓖) (𝓜 .mem) (𝓡 .run) (tablesOf 𝓤 H 𝓜 (tables 𝓤 H 𝓜 𝓡 code.env))
-    (cited 𝓤 H (tripleOf 𝓤 H (𝓖 .A) g.signature (g.spec 𝓤 H (𝓖 .A) (𝓜 .mem) (𝓡 .run))) 𝓜 𝓡 code.env #session·inserted g-def.routine
-    code.calls-session·inserted (g-thm.met 𝓤 H 𝓜 𝓖 𝓡)))
+    entered 𝓤 H _ _ _ name code.function (code.unfolded 𝓤 H 𝓜 𝓡)
+    (meets-entry (λ p e. changing (inserting p e)) callee.name 𝓤 H (𝓖 .A) (givenOf 𝓤 H 𝓜 𝓖) (tablesOf 𝓤 H 𝓜 (tables 𝓤 H 𝓜 𝓡 code.env))
+    (cited 𝓤 H _ 𝓜 𝓡 code.env callee.name callee.routine code.calls-session·inserted (callee-met.met 𝓤 H 𝓜 𝓖 𝓡)))

@@ -21,31 +21,16 @@ module _ (c : tie.After-enum-told) where
   within : NodeHolds (nodeIn (at-start .args .t1))
   within = node-accepted 0 _ .0 lent
 
-cast-count : tie.Need-cast-count
-cast-count c = search needs
-
-check-words-requires : tie.Need-check-words-requires
-check-words-requires c κs = search needs
-
-enum-known-found : tie.Need-enum-known-found
-enum-known-found c = search needs
-
 returns : tie.Need-returns
 returns c =
     let p = sym (c .before .before .before .check-words .ensures) ∙ ap outcome (c .before .found .given .1) in
     maps-forged _ _ p _
-
-enum-told : tie.Need-enum-told
-enum-told c = search needs
 
 cast-map-held : tie.Need-cast-map-held
 cast-map-held c = omega (arith, within (c .before .before) .fewLevels)
 
 map-held-requires : tie.Need-map-held-requires
 map-held-requires c κs = within (c .before .before .before)
-
-same-length : tie.Need-same-length
-same-length c = search needs
 
 returns-2 : tie.Need-returns-2
 returns-2 c =
@@ -55,14 +40,6 @@ returns-2 c =
 
 pub mapped-spec : {M : Type 1} → statement M
 mapped-spec =
-    tie.close
-    (tie.spec
-    cast-count
-    check-words-requires
-    enum-known-found
-    returns
-    enum-told
-    cast-map-held
-    map-held-requires
-    same-length
-    returns-2)
+    tie.close (tie.spec
+    (λ c. search needs) (λ c κs. search needs) (λ c. search needs) returns (λ c. search needs) cast-map-held
+    map-held-requires (λ c. search needs) returns-2)

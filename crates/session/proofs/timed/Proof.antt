@@ -7,20 +7,8 @@ use borrow.Author.Needs.{needs}
 use Rattle.session.proofs.timed.Statement.{statement}
 use Rattle.session.proofs.timed.Tie as tie
 
-cast-count : tie.Need-cast-count
-cast-count c = search needs
-
-check-time-requires : tie.Need-check-time-requires
-check-time-requires c κs = search needs
-
-enum-known-found : tie.Need-enum-known-found
-enum-known-found c = search needs
-
 returns : tie.Need-returns
 returns c = sym (time-refused _ _ _ _ _ (sym (c .before .before .before .check-time .ensures) ∙ ap outcome (c .before .found .given .1)))
-
-enum-told : tie.Need-enum-told
-enum-told c = search needs
 
 completion-test-requires : tie.Need-completion-test-requires
 completion-test-requires c κs =
@@ -38,12 +26,6 @@ returns-2 c =
 
 pub timed-spec : {M : Type 1} → statement M
 timed-spec =
-    tie.close
-    (tie.spec
-    cast-count
-    check-time-requires
-    enum-known-found
-    returns
-    enum-told
-    completion-test-requires
+    tie.close (tie.spec
+    (λ c. search needs) (λ c κs. search needs) (λ c. search needs) returns (λ c. search needs) completion-test-requires
     returns-2)

@@ -23,35 +23,8 @@ abbrev μ-loop : tie.MeasureT-loop
 abbrev start : Session → List ℕ
 start s = s .levels ∷ s .count ∷ zeros nodeSize
 
-array-write-w : tie.Need-array-write-w Inv-loop μ-loop
-array-write-w c = search needs
-
-array-write-w-2 : tie.Need-array-write-w-2 Inv-loop μ-loop
-array-write-w-2 c = search needs
-
 loop-holds : tie.Need-loop-holds Inv-loop μ-loop
 loop-holds c = (omega arith, held-size (c .before .args .s) (c .before .good .0), paste-zero _ 2 (c .before .args .s .words))
-
-mul-w : tie.Need-mul-w Inv-loop μ-loop
-mul-w c = search needs
-
-array-read-w : tie.Need-array-read-w Inv-loop μ-loop
-array-read-w c = search needs
-
-add-w : tie.Need-add-w Inv-loop μ-loop
-add-w c = search needs
-
-mul-w-2 : tie.Need-mul-w-2 Inv-loop μ-loop
-mul-w-2 c = search needs
-
-array-write-w-3 : tie.Need-array-write-w-3 Inv-loop μ-loop
-array-write-w-3 c = search needs
-
-add-j : tie.Need-add-j Inv-loop μ-loop
-add-j c = search needs
-
-loop-less : tie.Need-loop-less Inv-loop μ-loop
-loop-less c = search needs
 
 loop-again : tie.Need-loop-again Inv-loop μ-loop
 loop-again c =
@@ -72,19 +45,7 @@ returns c =
 
 pub to-words-spec : {M : Type 1} → statement M
 to-words-spec =
-    tie.close
-    (tie.spec
-    Inv-loop
-    μ-loop
-    array-write-w
-    array-write-w-2
-    loop-holds
-    mul-w
-    array-read-w
-    add-w
-    mul-w-2
-    array-write-w-3
-    add-j
-    loop-less
-    loop-again
+    tie.close (tie.spec
+    Inv-loop μ-loop (λ c. search needs) (λ c. search needs) loop-holds (λ c. search needs) (λ c. search needs)
+    (λ c. search needs) (λ c. search needs) (λ c. search needs) (λ c. search needs) (λ c. search needs) loop-again
     returns)

@@ -15,26 +15,8 @@ Inv-loop words₀ at n j₀ words j = (j ≤ n) × (length words ≡ length word
 abbrev μ-loop : tie.MeasureT-loop
 μ-loop words₀ at n j₀ words j = n - j
 
-sub-n : tie.Need-sub-n Inv-loop μ-loop
-sub-n c = search needs
-
 loop-holds : tie.Need-loop-holds Inv-loop μ-loop
 loop-holds c = (omega arith, refl, paste-zero (c .args .words .now) (c .args .at) (zeros (length (c .args .words .now) - c .args .at)))
-
-add-words : tie.Need-add-words Inv-loop μ-loop
-add-words c = search needs
-
-mul-words : tie.Need-mul-words Inv-loop μ-loop
-mul-words c = search needs
-
-slice-write-words : tie.Need-slice-write-words Inv-loop μ-loop
-slice-write-words c = search needs
-
-add-j : tie.Need-add-j Inv-loop μ-loop
-add-j c = search needs
-
-loop-less : tie.Need-loop-less Inv-loop μ-loop
-loop-less c = search needs
 
 loop-again : tie.Need-loop-again Inv-loop μ-loop
 loop-again c =
@@ -48,9 +30,6 @@ loop-again c =
           ∙ copy-next (a .words .now) (a .at) (zeros n) j _ _ refl (omega arith) (omega (arith, length-replicate {A = ℕ} n 0)) (i .2),
     )
 
-same-length : tie.Need-same-length Inv-loop μ-loop
-same-length c = c .before .loop .inv .1
-
 returns : tie.Need-returns Inv-loop μ-loop
 returns c =
     let a = c .before .before .args in
@@ -61,17 +40,6 @@ returns c =
 
 pub clear-from-spec : {M : Type 1} → statement M
 clear-from-spec =
-    tie.close
-    (tie.spec
-    Inv-loop
-    μ-loop
-    sub-n
-    loop-holds
-    add-words
-    mul-words
-    slice-write-words
-    add-j
-    loop-less
-    loop-again
-    same-length
-    returns)
+    tie.close (tie.spec
+    Inv-loop μ-loop (λ c. search needs) loop-holds (λ c. search needs) (λ c. search needs) (λ c. search needs)
+    (λ c. search needs) (λ c. search needs) loop-again (λ c. c .before .loop .inv .1) returns)

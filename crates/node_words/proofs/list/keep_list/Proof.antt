@@ -4,19 +4,10 @@ use borrow.Author.Needs.{needs}
 use Rattle.node_words.proofs.list.keep_list.Statement.{statement}
 use Rattle.node_words.proofs.list.keep_list.Tie as tie
 
-mul-clear-from : tie.Need-mul-clear-from
-mul-clear-from c = search needs
-
-clear-from-requires : tie.Need-clear-from-requires
-clear-from-requires c κs = search needs
-
-same-length : tie.Need-same-length
-same-length c = search needs
-
 returns : tie.Need-returns
 returns c =
     let a = c .before .before .before .before .before .args in
-    list-kept (a .words .now) (λ i. c .before .before .before .before .slice-known .given i .fits) (omega arith) (a .count) (omega arith) _ (c .before .before .clear-from .ensures)
+    list-kept (a .words .now) (λ i. c .before .before .before .before .slice-known .given i .fits) (omega arith) (a .count) (omega arith) (c .before .before .clear-from .ensures)
 
 pub keep-list-spec : {M : Type 1} → statement M
-keep-list-spec = tie.close (tie.spec mul-clear-from clear-from-requires same-length returns)
+keep-list-spec = tie.close (tie.spec (λ c. search needs) (λ c κs. search needs) (λ c. search needs) returns)

@@ -22,33 +22,6 @@ loop-holds c =
     let e : a .n - a .n ≡ 0 = omega arith in
     (omega arith, refl, rw e (paste-zero (a .words .now) (a .at + entrySize + a .n) (drop (a .at + a .n) (a .words .now))))
 
-sub-j : tie.Need-sub-j Inv-loop μ-loop
-sub-j c = search needs
-
-add-words : tie.Need-add-words Inv-loop μ-loop
-add-words c = search needs
-
-mul-words : tie.Need-mul-words Inv-loop μ-loop
-mul-words c = search needs
-
-slice-read-words : tie.Need-slice-read-words Inv-loop μ-loop
-slice-read-words c = search needs
-
-add-words-2 : tie.Need-add-words-2 Inv-loop μ-loop
-add-words-2 c = search needs
-
-add-words-3 : tie.Need-add-words-3 Inv-loop μ-loop
-add-words-3 c = search needs
-
-mul-words-2 : tie.Need-mul-words-2 Inv-loop μ-loop
-mul-words-2 c = search needs
-
-slice-write-words : tie.Need-slice-write-words Inv-loop μ-loop
-slice-write-words c = search needs
-
-loop-less : tie.Need-loop-less Inv-loop μ-loop
-loop-less c = search needs
-
 loop-again : tie.Need-loop-again Inv-loop μ-loop
 loop-again c =
     let a = c .before .before .before .args in
@@ -57,9 +30,6 @@ loop-again c =
       simp length-set (i .1),
       up-next (a .words .now) (a .at) entrySize (a .n) _ _ (omega arith) (i .0) (omega arith) (i .2),
     )
-
-same-length : tie.Need-same-length Inv-loop μ-loop
-same-length c = c .before .loop .inv .1
 
 returns : tie.Need-returns Inv-loop μ-loop
 returns c =
@@ -72,20 +42,7 @@ returns c =
 
 pub move-up-spec : {M : Type 1} → statement M
 move-up-spec =
-    tie.close
-    (tie.spec
-    Inv-loop
-    μ-loop
-    loop-holds
-    sub-j
-    add-words
-    mul-words
-    slice-read-words
-    add-words-2
-    add-words-3
-    mul-words-2
-    slice-write-words
-    loop-less
-    loop-again
-    same-length
-    returns)
+    tie.close (tie.spec
+    Inv-loop μ-loop loop-holds (λ c. search needs) (λ c. search needs) (λ c. search needs) (λ c. search needs)
+    (λ c. search needs) (λ c. search needs) (λ c. search needs) (λ c. search needs) (λ c. search needs) loop-again
+    (λ c. c .before .loop .inv .1) returns)

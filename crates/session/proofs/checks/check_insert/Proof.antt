@@ -1,73 +1,38 @@
-use mathlib.Core.Path.{_≡_, _∙_, sym, ap}
+use mathlib.Core.Path.{_∙_, sym}
 use native.Mathlib.Omega.{arith}
-use Rattle.refusals.specs.Refusals.{outcome, accepted}
-use Rattle.task_model.specs.Checks.{nodeCheck}
 use Rattle.node_words.proofs.Entries.{length-entries}
-use Rattle.node_words.specs.Words.{nodeOf}
-use Rattle.session.specs.Operations.{changing, inserting, lentCheck}
-use Rattle.session.proofs.Checking.{lent-stops, lent-goes-on, insert-outside, insert-full, insert-entry}
+use Rattle.session.specs.Operations.{lentCheck}
+use Rattle.session.proofs.Checking.{lent-refused, lent-accepted, insert-outside, insert-full, insert-entry}
 use borrow.Author.Needs.{needs}
 use Rattle.session.proofs.checks.check_insert.Statement.{statement}
 use Rattle.session.proofs.checks.check_insert.Tie as tie
-
--- the session is one that may be lent
-sound : (c : tie.After-enum-told)
-    → let a = c .before .before .before .before .args in nodeCheck 0 (nodeOf (a .words .now) (a .count) (a .levels)) ≡ accepted
-sound c = sym (c .before .before .check-words .ensures) ∙ ap outcome (c .enum-told .given .1)
-
-check-words-requires : tie.Need-check-words-requires
-check-words-requires c κs = search needs
-
-enum-told : tie.Need-enum-told
-enum-told c = search needs
-
-enum-told-2 : tie.Need-enum-told-2
-enum-told-2 c = search needs
-
-returns : tie.Need-returns
-unfolding lentCheck
-returns c = ap outcome (c .enum-told2 .given .1)
-    ∙ sym (lent-stops (changing (inserting _ _)) _ _ (sym (c .before .before .check-words .ensures) ∙ ap outcome (c .enum-told2 .given .1)))
 
 returns-2 : tie.Need-returns-2
 unfolding lentCheck
 returns-2 c =
     let a = c .before .before .before .before .before .args in
-    sym
-    (lent-goes-on (changing (inserting (a .position) (a .e))) _ (sound (c .before))
-    ∙ insert-outside (nodeOf (a .words .now) (a .count) (a .levels)) (a .position) (a .e) (omega (arith, length-entries (a .words .now) 0 (a .count))))
+    let n = length-entries (a .words .now) 0 (a .count) in
+    lent-accepted _ _ _ (c .before .before .before .check-words .ensures) (c .before .enum-told .given .1) (sym (insert-outside _ _ _ (omega arith)))
 
 returns-3 : tie.Need-returns-3
 unfolding lentCheck
 returns-3 c =
     let a = c .before .before .before .before .before .before .args in
-    sym
-    (lent-goes-on (changing (inserting (a .position) (a .e))) _ (sound (c .before .before))
-    ∙ insert-full (nodeOf (a .words .now) (a .count) (a .levels)) (a .position) (a .e) (omega (arith, length-entries (a .words .now) 0 (a .count)))
-    (omega (arith, length-entries (a .words .now) 0 (a .count))))
-
-check-entry-requires : tie.Need-check-entry-requires
-check-entry-requires c κs = search needs
+    let n = length-entries (a .words .now) 0 (a .count) in
+    lent-accepted _ _ _ (c .before .before .before .before .check-words .ensures) (c .before .before .enum-told .given .1) (sym (insert-full _ _ _ (omega arith) (omega arith)))
 
 returns-4 : tie.Need-returns-4
 unfolding lentCheck
 returns-4 c =
     let a = c .before .before .before .before .before .before .before .args in
-    c .check-entry .ensures
-    ∙ sym
-    (lent-goes-on (changing (inserting (a .position) (a .e))) _ (sound (c .before .before .before))
-    ∙ insert-entry (nodeOf (a .words .now) (a .count) (a .levels)) (a .position) (a .e) (omega (arith, length-entries (a .words .now) 0 (a .count)))
-    (omega (arith, length-entries (a .words .now) 0 (a .count))))
+    let n = length-entries (a .words .now) 0 (a .count) in
+    lent-accepted _ _ _ (c .before .before .before .before .before .check-words .ensures) (c .before .before .before .enum-told .given .1)
+    (c .check-entry .ensures ∙ sym (insert-entry _ _ _ (omega arith) (omega arith)))
 
 pub check-insert-spec : {M : Type 1} → statement M
+unfolding lentCheck
 check-insert-spec =
-    tie.close
-    (tie.spec
-    check-words-requires
-    enum-told
-    enum-told-2
-    returns
-    returns-2
-    returns-3
-    check-entry-requires
-    returns-4)
+    tie.close (tie.spec
+    (λ c κs. search needs) (λ c. search needs) (λ c. search needs)
+    (λ c. lent-refused _ _ _ (c .before .before .check-words .ensures) (c .enum-told2 .given .1))
+    returns-2 returns-3 (λ c κs. search needs) returns-4)

@@ -1,51 +1,30 @@
-use mathlib.Core.Path.{_≡_, _∙_, sym, ap}
+use mathlib.Core.Path.{sym}
 use native.Mathlib.Omega.{arith}
-use Rattle.refusals.specs.Refusals.{outcome, accepted}
-use Rattle.task_model.specs.Checks.{nodeCheck}
 use Rattle.node_words.proofs.Entries.{length-entries}
-use Rattle.node_words.specs.Words.{nodeOf}
-use Rattle.session.specs.Operations.{changing, removing, lentCheck}
-use Rattle.session.proofs.Checking.{lent-stops, lent-goes-on, remove-outside, remove-inside}
+use Rattle.session.specs.Operations.{lentCheck}
+use Rattle.session.proofs.Checking.{lent-refused, lent-accepted, remove-outside, remove-inside}
 use borrow.Author.Needs.{needs}
 use Rattle.session.proofs.checks.check_remove.Statement.{statement}
 use Rattle.session.proofs.checks.check_remove.Tie as tie
-
--- the session is one that may be lent
-sound : (c : tie.After-enum-told)
-    → let a = c .before .before .before .before .args in nodeCheck 0 (nodeOf (a .words .now) (a .count) (a .levels)) ≡ accepted
-sound c = sym (c .before .before .check-words .ensures) ∙ ap outcome (c .enum-told .given .1)
-
-check-words-requires : tie.Need-check-words-requires
-check-words-requires c κs = search needs
-
-enum-told : tie.Need-enum-told
-enum-told c = search needs
-
-enum-told-2 : tie.Need-enum-told-2
-enum-told-2 c = search needs
-
-returns : tie.Need-returns
-unfolding lentCheck
-returns c = ap outcome (c .enum-told2 .given .1)
-    ∙ sym (lent-stops (changing (removing _)) _ _ (sym (c .before .before .check-words .ensures) ∙ ap outcome (c .enum-told2 .given .1)))
 
 returns-2 : tie.Need-returns-2
 unfolding lentCheck
 returns-2 c =
     let a = c .before .before .before .before .before .args in
-    sym
-    (lent-goes-on (changing (removing (a .position))) _ (sound (c .before))
-    ∙ remove-outside (nodeOf (a .words .now) (a .count) (a .levels)) (a .position) (omega (arith, length-entries (a .words .now) 0 (a .count))))
+    let n = length-entries (a .words .now) 0 (a .count) in
+    lent-accepted _ _ _ (c .before .before .before .check-words .ensures) (c .before .enum-told .given .1) (sym (remove-outside _ _ (omega arith)))
 
 returns-3 : tie.Need-returns-3
 unfolding lentCheck
 returns-3 c =
     let a = c .before .before .before .before .before .args in
-    sym
-    (lent-goes-on (changing (removing (a .position))) _ (sound (c .before))
-    ∙ remove-inside (nodeOf (a .words .now) (a .count) (a .levels)) (a .position) (omega (arith, length-entries (a .words .now) 0 (a .count))))
+    let n = length-entries (a .words .now) 0 (a .count) in
+    lent-accepted _ _ _ (c .before .before .before .check-words .ensures) (c .before .enum-told .given .1) (sym (remove-inside _ _ (omega arith)))
 
 pub check-remove-spec : {M : Type 1} → statement M
+unfolding lentCheck
 check-remove-spec =
-    tie.close
-    (tie.spec check-words-requires enum-told enum-told-2 returns returns-2 returns-3)
+    tie.close (tie.spec
+    (λ c κs. search needs) (λ c. search needs) (λ c. search needs)
+    (λ c. lent-refused _ _ _ (c .before .before .check-words .ensures) (c .enum-told2 .given .1))
+    returns-2 returns-3)

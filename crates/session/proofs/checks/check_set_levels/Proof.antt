@@ -1,41 +1,17 @@
-use mathlib.Core.Path.{_≡_, _∙_, sym, ap}
-use Rattle.refusals.specs.Refusals.{outcome, accepted}
-use Rattle.task_model.specs.Checks.{nodeCheck}
-use Rattle.node_words.specs.Words.{nodeOf}
-use Rattle.session.specs.Operations.{changing, settingLevels, changeCheck, operationCheck, lentCheck}
-use Rattle.session.proofs.Checking.{lent-stops, lent-goes-on}
+use Rattle.session.specs.Operations.{lentCheck, operationCheck, changeCheck}
+use Rattle.session.proofs.Checking.{lent-refused, lent-accepted}
 use borrow.Author.Needs.{needs}
 use Rattle.session.proofs.checks.check_set_levels.Statement.{statement}
 use Rattle.session.proofs.checks.check_set_levels.Tie as tie
 
--- the session is one that may be lent
-sound : (c : tie.After-enum-told)
-    → let a = c .before .before .before .before .args in nodeCheck 0 (nodeOf (a .words .now) (a .count) (a .open-levels)) ≡ accepted
-sound c = sym (c .before .before .check-words .ensures) ∙ ap outcome (c .enum-told .given .1)
-
-check-words-requires : tie.Need-check-words-requires
-check-words-requires c κs = search needs
-
-enum-told : tie.Need-enum-told
-enum-told c = search needs
-
-enum-told-2 : tie.Need-enum-told-2
-enum-told-2 c = search needs
-
-returns : tie.Need-returns
-unfolding lentCheck
-returns c = ap outcome (c .enum-told2 .given .1)
-    ∙ sym (lent-stops (changing (settingLevels _)) _ _ (sym (c .before .before .check-words .ensures) ∙ ap outcome (c .enum-told2 .given .1)))
-
-check-levels-requires : tie.Need-check-levels-requires
-check-levels-requires c κs = search needs
-
 returns-2 : tie.Need-returns-2
 unfolding lentCheck operationCheck changeCheck
-returns-2 c = c .check-levels .ensures
-    ∙ sym (lent-goes-on (changing (settingLevels _)) _ (sound (c .before)))
+returns-2 c = lent-accepted _ _ _ (c .before .before .before .check-words .ensures) (c .before .enum-told .given .1) (c .check-levels .ensures)
 
 pub check-set-levels-spec : {M : Type 1} → statement M
+unfolding lentCheck
 check-set-levels-spec =
-    tie.close
-    (tie.spec check-words-requires enum-told enum-told-2 returns check-levels-requires returns-2)
+    tie.close (tie.spec
+    (λ c κs. search needs) (λ c. search needs) (λ c. search needs)
+    (λ c. lent-refused _ _ _ (c .before .before .check-words .ensures) (c .enum-told2 .given .1))
+    (λ c κs. search needs) returns-2)

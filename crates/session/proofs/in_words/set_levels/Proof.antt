@@ -1,111 +1,26 @@
-use Prim.Native.Nat.{_≤_}
-use mathlib.Core.Path.{_∙_, sym, ap}
 use native.Mathlib.Omega.{arith}
-use lib.ListN.{getD}
-use Rattle.refusals.specs.Refusals.{outcome}
-use Rattle.task_model.specs.Limits.{mostEntries}
-use Rattle.session.specs.Operations.{settingLevels}
-use Rattle.session.proofs.Changing.{made-levels}
-use Rattle.session.proofs.Checking.{levels-ready}
-use Rattle.session.proofs.InWords.{part, part-size, part-refused, part-accepted, put-levels}
+use Rattle.session.specs.Operations.{settingLevels, changed}
+use Rattle.session.proofs.InWords.{PartReady, part-ready, part-refused, part-accepted}
 use borrow.Author.Needs.{needs}
 use Rattle.session.proofs.in_words.set_levels.Statement.{statement}
 use Rattle.session.proofs.in_words.set_levels.Tie as tie
 
 -- what the checks let the change go by
-ready : (c : tie.After-enum-told) → let a = c .before .before .before .before .before .before .before .before .args in getD (a .words .now) 1 0 ≤ mostEntries
-ready c =
-    let a = c .before .before .before .before .before .before .before .before .args in
-    levels-ready (part (a .words .now)) (getD (a .words .now) 1 0) (getD (a .words .now) 0 0) (a .levels) (sym (c .before .before .check-set-levels .ensures) ∙ ap outcome (c .enum-told .given .1))
-
-slice-read-count : tie.Need-slice-read-count
-slice-read-count c = search needs
-
-slice-read-check-set-levels : tie.Need-slice-read-check-set-levels
-slice-read-check-set-levels c = search needs
-
-cast-check-set-levels : tie.Need-cast-check-set-levels
-cast-check-set-levels c = omega (arith, c .before .slice-known2 .given 1)
-
-sub-check-set-levels : tie.Need-sub-check-set-levels
-sub-check-set-levels c = search needs
-
-part-check-set-levels-start : tie.Need-part-check-set-levels-start
-part-check-set-levels-start c = search needs
-
-part-check-set-levels-end : tie.Need-part-check-set-levels-end
-part-check-set-levels-end c = search needs
-
-check-set-levels-requires : tie.Need-check-set-levels-requires
-check-set-levels-requires c κs = search needs
-
-enum-told : tie.Need-enum-told
-enum-told c = search needs
-
-enum-told-2 : tie.Need-enum-told-2
-enum-told-2 c = search needs
-
-same-length : tie.Need-same-length
-same-length c = search needs
-
-returns : tie.Need-returns
-returns c =
-    let s = c .before .before .before .before .before .before .before .before in
-    part-refused (s .args .words .now) (s .pre) (settingLevels _) _ (c .before .before .check-set-levels .ensures) _ (ap outcome (c .enum-told2 .given .1))
-
-sub-keep-list : tie.Need-sub-keep-list
-sub-keep-list c = search needs
-
-part-keep-list-start : tie.Need-part-keep-list-start
-part-keep-list-start c = search needs
-
-part-keep-list-end : tie.Need-part-keep-list-end
-part-keep-list-end c = search needs
-
-cast-keep-list : tie.Need-cast-keep-list
-cast-keep-list c = omega (arith, ready (c .before))
-
-keep-list-requires : tie.Need-keep-list-requires
-keep-list-requires c κs =
-    let s = c .before .before .before .before .before .before .before .before .before in
-    omega (arith, part-size (s .args .words .now) (s .pre), ready (c .before))
-
-slice-write-words : tie.Need-slice-write-words
-slice-write-words c = search needs
-
-same-length-2 : tie.Need-same-length-2
-same-length-2 c = search needs
+ready : (c : tie.After-enum-told) → let a = c .before .before .before .before .before .before .before .before .args in PartReady (settingLevels (a .levels)) (a .words .now)
+ready c = let s = c .before .before .before .before .before .before .before .before in part-ready (s .args .words .now) (s .pre) (settingLevels _) _ (c .before .before .check-set-levels .ensures) (c .enum-told .given .1)
 
 returns-2 : tie.Need-returns-2
+unfolding changed
 returns-2 c =
     let s = c .before .before .before .before .before .before .before .before .before .before .before .before in
-    let a = s .args in
-    let w = a .words .now in
-    let n = getD w 1 0 in
-    part-accepted w (s .pre) (settingLevels (a .levels)) _ (c .before .before .before .before .before .before .check-set-levels .ensures) (ap outcome (c .before .before .before .before .enum-told .given .1)) _
-    (made-levels (part w) n (getD w 0 0) _ (a .levels) (c .before .before .keep-list .ensures)) _
-    (put-levels w (s .pre) _ (a .levels))
+    part-accepted (s .args .words .now) (s .pre) (settingLevels (s .args .levels)) _ (c .before .before .before .before .before .before .check-set-levels .ensures) (c .before .before .before .before .enum-told .given .1) (c .before .before .keep-list .ensures)
 
 pub set-levels-spec : {M : Type 1} → statement M
 set-levels-spec =
-    tie.close
-    (tie.spec
-    slice-read-count
-    slice-read-check-set-levels
-    cast-check-set-levels
-    sub-check-set-levels
-    part-check-set-levels-start
-    part-check-set-levels-end
-    check-set-levels-requires
-    enum-told
-    enum-told-2
-    same-length
-    returns
-    sub-keep-list
-    part-keep-list-start
-    part-keep-list-end
-    cast-keep-list
-    keep-list-requires
-    slice-write-words
-    same-length-2
-    returns-2)
+    tie.close (tie.spec
+    (λ c. search needs) (λ c. search needs) (λ c. omega (arith, c .before .slice-known2 .given 1)) (λ c. search needs)
+    (λ c. search needs) (λ c. search needs) (λ c κs. search needs) (λ c. search needs) (λ c. search needs)
+    (λ c. search needs)
+    (λ c. part-refused _ (c .before .before .before .before .before .before .before .before .pre) (settingLevels _) _ (c .before .before .check-set-levels .ensures) (c .enum-told2 .given .1))
+    (λ c. search needs) (λ c. search needs) (λ c. search needs) (λ c. omega (arith, ready (c .before)))
+    (λ c κs. omega (arith, ready (c .before))) (λ c. search needs) (λ c. search needs) returns-2)
