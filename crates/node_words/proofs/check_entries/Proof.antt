@@ -22,9 +22,25 @@ abbrev μ-loop : tie.MeasureT-loop
 loop-holds : tie.Need-loop-holds Inv-loop μ-loop
 loop-holds c = (omega arith, (rw (add-zero, sub-zero)))
 
+-- places that the needs look back to
+abbrev at-start : tie.After-check-entry Inv-loop μ-loop → tie.Start Inv-loop μ-loop
+at-start c = c .before .before .before .before .before
+
+abbrev in-loop : tie.After-enum-told2 Inv-loop μ-loop → tie.In-loop Inv-loop μ-loop
+in-loop c = c .before .before .before .before
+
+abbrev at-loop : tie.After-enum-told2 Inv-loop μ-loop → tie.At-loop Inv-loop μ-loop
+at-loop c = c .before .before .before .before .before
+
+abbrev in-loop-2 : tie.After-enum-told Inv-loop μ-loop → tie.In-loop Inv-loop μ-loop
+in-loop-2 c = c .before .before .before .before
+
+abbrev at-loop-2 : tie.After-enum-told Inv-loop μ-loop → tie.At-loop Inv-loop μ-loop
+at-loop-2 c = c .before .before .before .before .before
+
 -- what the check of the entry at hand answers
 found : (c : tie.After-check-entry Inv-loop μ-loop) (o : Checked) → c .check-entry .result ≡ o
-    → entryCheck (c .before .before .before .before .before .args .row) (c .before .before .before .loop .position) (entryOf (c .before .before .before .before .before .args .words .now) (c .before .before .before .before .before .args .first + c .before .before .before .loop .position))
+    → entryCheck (at-start c .args .row) (c .before .before .before .loop .position) (entryOf (at-start c .args .words .now) (at-start c .args .first + c .before .before .before .loop .position))
     ≡ outcome o
 found c o p =
     ap (entryCheck _ _) (sym (c .before .entry-of .ensures)) ∙ sym (c .check-entry .ensures) ∙ ap outcome p
@@ -32,14 +48,14 @@ found c o p =
 returns : tie.Need-returns Inv-loop μ-loop
 returns c =
     ap outcome (c .enum-told2 .given .1)
-    ∙ sym (from-stop _ _ _ _ _ (c .before .before .before .before .loop-test .taken) _ (found (c .before .before) _ (c .enum-told2 .given .1)))
-    ∙ c .before .before .before .before .before .loop .inv .1
+    ∙ sym (from-stop _ _ _ _ _ (in-loop c .loop-test .taken) _ (found (c .before .before) _ (c .enum-told2 .given .1)))
+    ∙ at-loop c .loop .inv .1
 
 loop-again : tie.Need-loop-again Inv-loop μ-loop
 loop-again c = (
   omega arith,
-  sym (from-next _ _ _ _ _ (c .before .before .before .before .loop-test .taken) (found (c .before .before) _ (c .enum-told .given .1)))
-      ∙ c .before .before .before .before .before .loop .inv .1,
+  sym (from-next _ _ _ _ _ (in-loop-2 c .loop-test .taken) (found (c .before .before) _ (c .enum-told .given .1)))
+      ∙ at-loop-2 c .loop .inv .1,
 )
 
 returns-2 : tie.Need-returns-2 Inv-loop μ-loop

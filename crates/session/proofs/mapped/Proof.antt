@@ -32,10 +32,14 @@ cast-map-held c = omega (arith, within (c .before .before) .fewLevels)
 map-held-requires : tie.Need-map-held-requires
 map-held-requires c κs = within (c .before .before .before)
 
+-- places that the needs look back to
+abbrev after-enum-told : tie.After-map-held → tie.After-enum-told
+after-enum-told c = c .before .before .before .before
+
 returns-2 : tie.Need-returns-2
 returns-2 c =
     let m = c .before .before in
-    let p = lent (m .before .before .before .before) in
+    let p = lent (after-enum-told m) in
     maps-held _ p _ _ _ (m .map-held .ensures)
 
 pub mapped-spec : {M : Type 1} → statement M

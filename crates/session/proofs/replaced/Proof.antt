@@ -3,9 +3,13 @@ use borrow.Author.Needs.{needs}
 use Rattle.session.proofs.replaced.Statement.{statement}
 use Rattle.session.proofs.replaced.Tie as tie
 
+-- places that the needs look back to
+abbrev after-to-words : tie.After-from-words → tie.After-to-words
+after-to-words c = c .before .before .before .before
+
 returns : tie.Need-returns
 returns c =
-    by-value _ _ (c .before .before .before .before .to-words .ensures) (c .before .before .replace .ensures) (c .from-words .ensures)
+    by-value _ _ (after-to-words c .to-words .ensures) (c .before .before .replace .ensures) (c .from-words .ensures)
 
 pub replaced-spec : {M : Type 1} → statement M
 replaced-spec = tie.close (tie.spec (λ c κs. search needs) (λ c. search needs) (λ c κs. search needs) (λ c κs. search needs) returns)

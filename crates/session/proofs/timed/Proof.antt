@@ -10,10 +10,14 @@ use Rattle.session.proofs.timed.Tie as tie
 returns : tie.Need-returns
 returns c = sym (time-refused _ _ _ _ _ (sym (c .before .before .before .check-time .ensures) ∙ ap outcome (c .before .found .given .1)))
 
+-- places that the needs look back to
+abbrev at-start : tie.After-enum-told → tie.Start
+at-start c = c .before .before .before .before .before .before
+
 completion-test-requires : tie.Need-completion-test-requires
 completion-test-requires c κs =
     let d = c .before .before in
-    let a = d .before .before .before .before .before .before .args in
+    let a = at-start d .args in
     let q =
     time-ready (a .t1 .words) (a .t1 .count) (a .t1 .levels) (a .first) (a .last) (a .i) (sym (d .before .before .check-time .ensures) ∙ ap outcome (d .enum-told .given .1)) in
     (q .0, omega arith)

@@ -134,8 +134,9 @@ put-number-slice-write-out-2 : (t : ℕ) → put-number-lts.Need-slice-write-out
   put-number.Post,
 ) (put-number-at t) put-number.Post
 put-number-slice-write-out-2 t c =
-    let b = c .before .before .before .before .before .before in
-    inside _ _ _ _ _ (b .pre .1) (c .before .before .before .before .if1 .left) (c .before .before .put-number .ensures)
+    let k = c .before .before .before in
+    let b = k .before .before .before in
+    inside _ _ _ _ _ (b .pre .1) (k .before .if1 .left) (c .before .before .put-number .ensures)
 
 -- src/lib.rt:32:5
 put-number-add-result-2 : (t : ℕ) → put-number-lts.Need-add-result-2 (
@@ -143,8 +144,9 @@ put-number-add-result-2 : (t : ℕ) → put-number-lts.Need-add-result-2 (
   put-number.Post,
 ) (put-number-at t) put-number.Post
 put-number-add-result-2 t c =
-    let b = c .before .before .before .before .before .before in
-    omega (arith, inside _ _ _ _ _ (b .pre .1) (c .before .before .before .before .if1 .left) (c .before .before .put-number .ensures), kept _ _ _ _ _ (b .pre .1) (c .before .before .before .before .if1 .left) (c .before .before .put-number .ensures))
+    let k = c .before .before .before in
+    let b = k .before .before .before in
+    omega (arith, inside _ _ _ _ _ (b .pre .1) (k .before .if1 .left) (c .before .before .put-number .ensures), kept _ _ _ _ _ (b .pre .1) (k .before .if1 .left) (c .before .before .put-number .ensures))
 
 -- src/lib.rt:21:1
 put-number-same-length-2 : (t : ℕ) → put-number-lts.Need-same-length-2 (
@@ -152,8 +154,9 @@ put-number-same-length-2 : (t : ℕ) → put-number-lts.Need-same-length-2 (
   put-number.Post,
 ) (put-number-at t) put-number.Post
 put-number-same-length-2 t c =
-    let b = c .before .before .before .before .before .before in
-    length-set (c .before .before .put-number .last .0) (c .before .before .put-number .result) (48 + b .args .n % 10) ∙ kept _ _ _ _ _ (b .pre .1) (c .before .before .before .before .if1 .left) (c .before .before .put-number .ensures)
+    let k = c .before .before .before in
+    let b = k .before .before .before in
+    length-set (c .before .before .put-number .last .0) (c .before .before .put-number .result) (48 + b .args .n % 10) ∙ kept _ _ _ _ _ (b .pre .1) (k .before .if1 .left) (c .before .before .put-number .ensures)
 
 -- src/lib.rt:21:1
 put-number-returns-2 : (t : ℕ) → put-number-lts.Need-returns-2 (
@@ -161,8 +164,9 @@ put-number-returns-2 : (t : ℕ) → put-number-lts.Need-returns-2 (
   put-number.Post,
 ) (put-number-at t) put-number.Post
 put-number-returns-2 t c =
-    let b = c .before .before .before .before .before .before in
-    whole _ _ _ _ _ (b .pre .1) (c .before .before .before .before .if1 .left) (c .before .before .put-number .ensures)
+    let k = c .before .before .before in
+    let b = k .before .before .before in
+    whole _ _ _ _ _ (b .pre .1) (k .before .if1 .left) (c .before .before .put-number .ensures)
 
 pub +put-number-spec : {M : Type 1} → statement M
 +put-number-spec = close μ-put-number λ t. put-number-lts.spec (

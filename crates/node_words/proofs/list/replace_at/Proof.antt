@@ -4,11 +4,21 @@ use borrow.Author.Needs.{needs}
 use Rattle.node_words.proofs.list.replace_at.Statement.{statement}
 use Rattle.node_words.proofs.list.replace_at.Tie as tie
 
+-- places that the needs look back to
+abbrev at-start : tie.After-slice-known3 → tie.Start
+at-start c = c .before .before .before .before .before .before .before .before .before
+
+abbrev after-slice-known : tie.After-slice-known3 → tie.After-slice-known
+after-slice-known c = c .before .before .before .before .before .before .before .before
+
+abbrev after-store-entry : tie.After-slice-known3 → tie.After-store-entry
+after-store-entry c = c .before .before .before .before .before .before
+
 returns : tie.Need-returns
 returns c =
-    let a = c .before .before .before .before .before .before .before .before .before .args in
-    list-replaced (a .words .now) (λ i. c .before .before .before .before .before .before .before .before .slice-known .given i .fits) (omega arith) (a .count) (omega arith) (a .position) (a .e)
-    (omega arith) (c .before .before .before .before .before .before .store-entry .ensures) (c .before .before .clear-from .ensures)
+    let a = at-start c .args in
+    list-replaced (a .words .now) (λ i. after-slice-known c .slice-known .given i .fits) (omega arith) (a .count) (omega arith) (a .position) (a .e)
+    (omega arith) (after-store-entry c .store-entry .ensures) (c .before .before .clear-from .ensures)
 
 pub replace-at-spec : {M : Type 1} → statement M
 replace-at-spec =

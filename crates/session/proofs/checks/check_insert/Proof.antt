@@ -7,26 +7,42 @@ use borrow.Author.Needs.{needs}
 use Rattle.session.proofs.checks.check_insert.Statement.{statement}
 use Rattle.session.proofs.checks.check_insert.Tie as tie
 
+-- places that the needs look back to
+abbrev at-start : tie.Then1 → tie.Start
+at-start c = c .before .before .before .before .before
+
+abbrev at-start-2 : tie.Then2 → tie.Start
+at-start-2 c = c .before .before .before .before .before .before
+
+abbrev after-check-words : tie.Then2 → tie.After-check-words
+after-check-words c = c .before .before .before .before
+
+abbrev at-start-3 : tie.After-check-entry → tie.Start
+at-start-3 c = c .before .before .before .before .before .before .before
+
+abbrev after-check-words-2 : tie.After-check-entry → tie.After-check-words
+after-check-words-2 c = c .before .before .before .before .before
+
 returns-2 : tie.Need-returns-2
 unfolding lentCheck
 returns-2 c =
-    let a = c .before .before .before .before .before .args in
+    let a = at-start c .args in
     let n = length-entries (a .words .now) 0 (a .count) in
     lent-accepted _ _ _ (c .before .before .before .check-words .ensures) (c .before .enum-told .given .1) (sym (insert-outside _ _ _ (omega arith)))
 
 returns-3 : tie.Need-returns-3
 unfolding lentCheck
 returns-3 c =
-    let a = c .before .before .before .before .before .before .args in
+    let a = at-start-2 c .args in
     let n = length-entries (a .words .now) 0 (a .count) in
-    lent-accepted _ _ _ (c .before .before .before .before .check-words .ensures) (c .before .before .enum-told .given .1) (sym (insert-full _ _ _ (omega arith) (omega arith)))
+    lent-accepted _ _ _ (after-check-words c .check-words .ensures) (c .before .before .enum-told .given .1) (sym (insert-full _ _ _ (omega arith) (omega arith)))
 
 returns-4 : tie.Need-returns-4
 unfolding lentCheck
 returns-4 c =
-    let a = c .before .before .before .before .before .before .before .args in
+    let a = at-start-3 c .args in
     let n = length-entries (a .words .now) 0 (a .count) in
-    lent-accepted _ _ _ (c .before .before .before .before .before .check-words .ensures) (c .before .before .before .enum-told .given .1)
+    lent-accepted _ _ _ (after-check-words-2 c .check-words .ensures) (c .before .before .before .enum-told .given .1)
     (c .check-entry .ensures ∙ sym (insert-entry _ _ _ (omega arith) (omega arith)))
 
 pub check-insert-spec : {M : Type 1} → statement M

@@ -7,17 +7,24 @@ use borrow.Author.Needs.{needs}
 use Rattle.session.proofs.checks.check_remove.Statement.{statement}
 use Rattle.session.proofs.checks.check_remove.Tie as tie
 
+-- places that the needs look back to
+abbrev at-start : tie.Then1 → tie.Start
+at-start c = c .before .before .before .before .before
+
+abbrev at-start-2 : tie.Else1 → tie.Start
+at-start-2 c = c .before .before .before .before .before
+
 returns-2 : tie.Need-returns-2
 unfolding lentCheck
 returns-2 c =
-    let a = c .before .before .before .before .before .args in
+    let a = at-start c .args in
     let n = length-entries (a .words .now) 0 (a .count) in
     lent-accepted _ _ _ (c .before .before .before .check-words .ensures) (c .before .enum-told .given .1) (sym (remove-outside _ _ (omega arith)))
 
 returns-3 : tie.Need-returns-3
 unfolding lentCheck
 returns-3 c =
-    let a = c .before .before .before .before .before .args in
+    let a = at-start-2 c .args in
     let n = length-entries (a .words .now) 0 (a .count) in
     lent-accepted _ _ _ (c .before .before .before .check-words .ensures) (c .before .enum-told .given .1) (sym (remove-inside _ _ (omega arith)))
 

@@ -10,12 +10,22 @@ returns : tie.Need-returns
 unfolding stepCheck lentCheck operationCheck
 returns c = in-refused (opening _) _ _ (c .before .before .check-levels .ensures) _ (ap outcome (c .enum-told2 .given .1))
 
+-- places that the needs look back to
+abbrev at-start : tie.After-slice-known2 → tie.Start
+at-start c = c .before .before .before .before .before .before .before .before
+
+abbrev after-check-levels : tie.After-slice-known2 → tie.After-check-levels
+after-check-levels c = c .before .before .before .before .before .before
+
+abbrev after-enum-told : tie.After-slice-known2 → tie.After-enum-told
+after-enum-told c = c .before .before .before .before
+
 returns-2 : tie.Need-returns-2
 unfolding stepCheck lentCheck operationCheck
 returns-2 c =
-    let a = c .before .before .before .before .before .before .before .before .args in
-    in-accepted (opening (a .levels)) (a .words .now) _ (c .before .before .before .before .before .before .check-levels .ensures) (ap outcome (c .before .before .before .before .enum-told .given .1)) _ refl _
-    (opened-words (a .words .now) (a .levels) (c .before .before .before .before .before .before .before .before .pre) _ (c .before .before .clear-from .ensures))
+    let a = at-start c .args in
+    in-accepted (opening (a .levels)) (a .words .now) _ (after-check-levels c .check-levels .ensures) (ap outcome (after-enum-told c .enum-told .given .1)) _ refl _
+    (opened-words (a .words .now) (a .levels) (at-start c .pre) _ (c .before .before .clear-from .ensures))
 
 pub open-spec : {M : Type 1} → statement M
 open-spec =

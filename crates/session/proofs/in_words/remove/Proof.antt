@@ -5,15 +5,31 @@ use borrow.Author.Needs.{needs}
 use Rattle.session.proofs.in_words.remove.Statement.{statement}
 use Rattle.session.proofs.in_words.remove.Tie as tie
 
+-- places that the needs look back to
+abbrev at-start : tie.After-enum-told → tie.Start
+at-start c = c .before .before .before .before .before .before .before .before
+
+abbrev at-start-2 : tie.After-slice-known4 → tie.Start
+at-start-2 c = at-start (c .before .before .before .before)
+
+abbrev after-check-remove : tie.After-slice-known4 → tie.After-check-remove
+after-check-remove c = c .before .before .before .before .before .before
+
+abbrev after-enum-told : tie.After-slice-known4 → tie.After-enum-told
+after-enum-told c = c .before .before .before .before
+
+abbrev at-start-3 : tie.After-enum-told2 → tie.Start
+at-start-3 c = c .before .before .before .before .before .before .before .before
+
 -- what the checks let the change go by
-ready : (c : tie.After-enum-told) → let a = c .before .before .before .before .before .before .before .before .args in PartReady (removing (a .position)) (a .words .now)
-ready c = let s = c .before .before .before .before .before .before .before .before in part-ready (s .args .words .now) (s .pre) (removing _) _ (c .before .before .check-remove .ensures) (c .enum-told .given .1)
+ready : (c : tie.After-enum-told) → let a = at-start c .args in PartReady (removing (a .position)) (a .words .now)
+ready c = let s = at-start c in part-ready (s .args .words .now) (s .pre) (removing _) _ (c .before .before .check-remove .ensures) (c .enum-told .given .1)
 
 returns-2 : tie.Need-returns-2
 unfolding changed
 returns-2 c =
-    let s = c .before .before .before .before .before .before .before .before .before .before .before .before in
-    part-accepted (s .args .words .now) (s .pre) (removing (s .args .position)) _ (c .before .before .before .before .before .before .check-remove .ensures) (c .before .before .before .before .enum-told .given .1) (c .before .before .remove-at .ensures)
+    let s = at-start-2 c in
+    part-accepted (s .args .words .now) (s .pre) (removing (s .args .position)) _ (after-check-remove c .check-remove .ensures) (after-enum-told c .enum-told .given .1) (c .before .before .remove-at .ensures)
 
 pub remove-spec : {M : Type 1} → statement M
 remove-spec =
@@ -21,7 +37,7 @@ remove-spec =
     (λ c. search needs) (λ c. search needs) (λ c. omega (arith, c .before .slice-known2 .given 1)) (λ c. search needs)
     (λ c. search needs) (λ c. search needs) (λ c κs. search needs) (λ c. search needs) (λ c. search needs)
     (λ c. search needs)
-    (λ c. part-refused _ (c .before .before .before .before .before .before .before .before .pre) (removing _) _ (c .before .before .check-remove .ensures) (c .enum-told2 .given .1))
+    (λ c. part-refused _ (at-start-3 c .pre) (removing _) _ (c .before .before .check-remove .ensures) (c .enum-told2 .given .1))
     (λ c. search needs) (λ c. search needs) (λ c. search needs) (λ c. omega (arith, ready (c .before)))
-    (λ c κs. omega (arith, ready (c .before))) (λ c. omega (arith, ready (c .before .before .before .before)))
+    (λ c κs. omega (arith, ready (c .before))) (λ c. omega (arith, ready (after-enum-told c)))
     (λ c. search needs) (λ c. search needs) returns-2)
