@@ -57,7 +57,7 @@ impl Copy {
         clear(&tests.join("src/bin"));
         let library = format!("{:?}", to.join("target/staticlib"));
         write(&tests.join("build.rs"), &BUILD.replace("LIBRARY", &library));
-        let comparing = join_tests(&from.join("tests/tests"), &tests.join("tests"));
+        let comparing = copy_tests(&from.join("tests/tests/all"), &tests.join("tests/all"));
         Copy { tests, comparing }
     }
 
@@ -73,25 +73,18 @@ impl Copy {
     }
 }
 
-/// Joins all test files into one program, which is built and linked once, and
-/// returns the names of those that use the proved library or program.
-fn join_tests(from: &Path, to: &Path) -> Vec<String> {
-    let all = to.join("all");
-    let (mut parts, mut comparing) = (String::new(), Vec::new());
+/// Copies the tests, and returns the names of those that use the proved library
+/// or program.
+fn copy_tests(from: &Path, to: &Path) -> Vec<String> {
+    let mut comparing = Vec::new();
     for path in items(from) {
-        copy_item(&path, &all);
-        if path.extension().is_none_or(|end| end != "rs") {
-            continue;
-        }
-        let stem = path.file_stem().expect("a file has a name");
-        let name = stem.to_string_lossy();
-        parts += &format!("mod {name};\n");
+        copy_item(&path, to);
         let text = fs::read_to_string(&path).expect("a test file can be read");
         if COMPARING.iter().any(|word| text.contains(word)) {
-            comparing.push(name.to_string());
+            let stem = path.file_stem().expect("a file has a name");
+            comparing.push(stem.to_string_lossy().to_string());
         }
     }
-    write(&all.join("main.rs"), &parts);
     comparing
 }
 

@@ -1,0 +1,34 @@
+//! All tests are one program, which is compiled and linked once and runs them side by side.
+
+mod calls;
+mod examples;
+mod files;
+mod generators;
+mod listing;
+mod mapping;
+mod odd;
+mod proved_counts;
+mod proved_damage;
+mod proved_fuzz;
+mod proved_just_late;
+mod proved_kept;
+mod proved_maps;
+mod proved_places;
+mod proved_plans;
+mod proved_program;
+mod proved_session_plans;
+mod proved_sessions;
+mod proved_streams;
+mod proved_table;
+mod proved_text_room;
+mod proved_timing;
+mod proved_writer;
+mod readings;
+mod refusals;
+mod sessions;
+mod starred;
+mod table;
+mod timing;
+mod tuned;
+mod writer;
+mod wrong_programs;
