@@ -12,7 +12,7 @@ use Rattle.level_map.specs.Map.{theMap}
 use Rattle.level_map.specs.Answer.{heldAnswer, mapOf, NodeBestMapOrNone}
 use Rattle.level_map.specs.Cuts.{levelsOfCuts, CutsOf}
 use Rattle.level_map.proofs.Cutting.{length-levels}
-use Rattle.level_map.proofs.Theorems.{held-short, held-map, held-none, demand-three}
+use Rattle.level_map.proofs.Theorems.{held-short, held-map, held-none, best-map-or-none}
 
 -- The answer `a`, with the buffer `before` the call and `after` it, is right: by the definition, and so by promise 3.
 abbrev pub Right : Node → Answer ℕ → List ℕ → List ℕ → Type 0
@@ -21,7 +21,7 @@ Right n a before after =
 
 module _ (n : Node) (holds : NodeHolds n) (before : List ℕ) where
   right : (a : Answer ℕ) (after : List ℕ) → a ≡ heldAnswer n (length before) → after ≡ left a (mapOf n) before → Right n a before after
-  right a after p q = (p, (q, rw (q, p) (demand-three n (holds .each) before)))
+  right a after p q = (p, (q, rw (q, p) (best-map-or-none n (holds .each) before)))
 
   -- 10, and the buffer is untouched
   pub right-short : length before < length (n .entries) → Right n (refuses (at 10 0 0)) before before

@@ -10,7 +10,7 @@ use lib.ListN.{length, getD, drop, replicate, length-append, length-drop, length
 use lib.Seq.{drop-cons}
 use Rattle.level_map.specs.Assignments.{sizeOf}
 use Rattle.level_map.specs.Cuts.{Falling, levelsOfCuts}
-use Rattle.level_map.proofs.Lists.{zeroPadded, fill-rest}
+use Rattle.level_map.proofs.Lists.{filledWith, fill-rest}
 use Rattle.level_map.proofs.Levels.{
   Rising,
   before,
@@ -113,14 +113,14 @@ full-cuts s e f =
 -- levels that are written group by group: the g least urgent groups stand, and one more is written
 pub write-next : (s : List ℕ) (g end : ℕ) (out : List ℕ) → g < length s → Falling (drop g s) end → end ≤ length out
     → (getD s g 0 < end) × Falling (drop (g + 1) s) (getD s g 0)
-    × (levelsOfCuts (drop (g + 1) s) (getD s g 0) ++ drop (getD s g 0) (zeroPadded out (getD s g 0) end (length s - g))
+    × (levelsOfCuts (drop (g + 1) s) (getD s g 0) ++ drop (getD s g 0) (filledWith out (getD s g 0) end (length s - g))
     ≡ levelsOfCuts (drop g s) end ++ drop end out)
 write-next s g end out h f fits =
     let a = getD s g 0 in
     let c : drop g s ≡ a ∷ drop (suc g) s = drop-cons s g 0 h in
     let f′ : Falling (a ∷ drop (suc g) s) end = rw c at f in
     let level : length s - g ≡ suc (length (drop (suc g) s)) = omega (arith, length-drop (suc g) s) in
-    let q : levelsOfCuts (drop (suc g) s) a ++ drop a (zeroPadded out a end (length s - g))
+    let q : levelsOfCuts (drop (suc g) s) a ++ drop a (filledWith out a end (length s - g))
     ≡ levelsOfCuts (a ∷ drop (suc g) s) end ++ drop end out =
     rw (fill-rest out a end (length s - g) (omega arith), level, append-assoc) in
     rw (add-one g, c) (f′ .0, f′ .1, q)

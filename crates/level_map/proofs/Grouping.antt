@@ -22,7 +22,7 @@ use Rattle.level_map.proofs.Levels.{before, before-length, before-in, b
 use Rattle.level_map.proofs.Cutting.{rising-levels, full-cuts}
 use Rattle.level_map.proofs.Optimal.{InTime}
 
--- Under an assignment, the group of an entry has the entries of its level: they stand after those of the levels below.
+-- Under an assignment, the group of an entry has the entries of its level: they stand after those of the more urgent levels.
 module _ {n hi : ℕ} {a : List ℕ} (s : Assignment n hi a) (i : ℕ) (h : i < n) where
   abbrev first : ℕ
   first = before (levelOf a i) a

@@ -46,7 +46,7 @@ abbrev pub leastUrgent : ℕ → List ℕ → ℕ
 leastUrgent k m = above (levelsUsed m - k) m
 
 module _ (ok : ℕ → ℕ → ℕ → Bool) where
-  -- Every entry is on time in its group: the entries of its level, after those of the levels below.
+  -- Every entry is on time in its group: the entries of its level, after those of the more urgent levels.
   abbrev pub InTime : ℕ → List ℕ → Type 0
   InTime n a = (i : ℕ) → i < n → ok i (before (levelOf a i) a) (before (suc (levelOf a i)) a) ≡ true
 

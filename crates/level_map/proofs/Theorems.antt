@@ -173,9 +173,9 @@ module _ (n : Node) (room : ℕ) where
   held-none h p = rw (le-leb (length (n .entries)) room h, p)
 
 -- Promise 3 of docs/SPEC.md holds of the answer, and of what is read from the buffer's start.
-pub demand-three : (n : Node) → AllHold (n .entries) → (buffer : List ℕ)
+pub best-map-or-none : (n : Node) → AllHold (n .entries) → (buffer : List ℕ)
     → NodeBestMapOrNone n buffer (heldAnswer n (length buffer)) (left (heldAnswer n (length buffer)) (mapOf n) buffer)
-demand-three n hold buffer fits =
+best-map-or-none n hold buffer fits =
     ⊎-elim
     (λ r.
     let m = levelsOfCuts (r .0) (length (n .entries)) in

@@ -1,4 +1,4 @@
--- Where the search cuts a node into the groups of its map. No public promise mentions it.
+-- Where the search cuts a node into the groups of its map. No promise of an entry for users mentions it.
 use Prim.Native.Nat.{ℕ, suc, _-_, _≤_, _<_}
 use mathlib.Core.Path.{_≡_}
 use mathlib.Core.Option.{Option, none, some}

@@ -1,4 +1,4 @@
--- When a group passes, and where it can start: what the search computes. No public promise mentions it.
+-- When a group passes, and where it can start: what the search computes. No promise of an entry for users mentions it.
 use Prim.Native.Nat.{ℕ, _+_, _-_, _≤_, _<_}
 use mathlib.Core.Path.{_≡_}
 use mathlib.Core.Bool.{Bool, true}

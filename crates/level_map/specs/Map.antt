@@ -23,7 +23,7 @@ abbrev pub Longer : List ℕ → List ℕ → Type 0
 Longer a m = (l : ℕ) × (sizeOf l a < sizeOf l m) × ((j : ℕ) → l < j → sizeOf j a ≡ sizeOf j m)
 
 -- The choice among the passing maps with at most `most` levels: one with the fewest levels. If several have as few, the one
--- with the longest least urgent group; then with the longest group above it, and so on.
+-- with the longest least urgent group; then with the longest group on the next more urgent level, and so on.
 pub record Chosen (Passes : List ℕ → Type 0) (most n : ℕ) (m : List ℕ) : Type 0 where
   pub isMap : IsMap n m
   pub passes : Passes m
@@ -31,14 +31,15 @@ pub record Chosen (Passes : List ℕ → Type 0) (most n : ℕ) (m : List ℕ) :
   pub fewest : (a : List ℕ) → IsMap n a → Passes a → levelsUsed a ≤ most → levelsUsed m ≤ levelsUsed a
   pub longest : (a : List ℕ) → IsMap n a → Passes a → levelsUsed a ≡ levelsUsed m → (a ≡ m) ⊎ Longer a m
 
--- From here on, the same choice as a computation. This is f s ++ f (s - 1) ++ .. ++ f 1, for group sizes from the longest
--- down.
+-- From here on, the same choice as a computation.
+
+-- f s ++ f (s - 1) ++ .. ++ f 1, for group sizes from the longest down.
 unfoldable pub fromLongest : ℕ → (ℕ → List (List ℕ)) → List (List ℕ)
 fromLongest zero f = []
 fromLongest (suc s) f = f (suc s) ++ fromLongest s f
 
 -- All maps of n entries with c levels, in order of preference: first those with the longest least urgent group. The
--- remaining entries are mapped to the levels above it, again in order of preference.
+-- remaining entries are mapped to the more urgent levels, again in order of preference.
 unfoldable pub mapsWith : ℕ → ℕ → List (List ℕ)
 mapsWith zero zero = [] ∷ []
 mapsWith zero (suc n) = []

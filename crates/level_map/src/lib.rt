@@ -37,9 +37,10 @@ enum Start {
     Nowhere,
 }
 
-// The least start of a group that ends just before `end` and has no late entry. A late entry is also late in every narrower
-// group that contains it, because the entries that leave its level become more urgent. So the next start to try is one past
-// the late entry. Tests begin with the last entry, because it rules out the most starts. A wider group may still pass.
+// The least start of a group that ends just before `end` and has no late entry. A late entry is late in every group with
+// this end that starts later and contains it, because the entries that leave its level become more urgent. So the next start
+// to try is one past the late entry. Tests begin with the last entry, because it rules out the most starts. A wider group
+// may still pass.
 // `added` is what the end of the group adds to the blocking of its entries.
 fn least_start(words: &NodeWords, count: usize, end: usize, added: u32) -> Start
     requires { ⌜ AllHold (entriesOf (now words) count) ⌝ ∗ ⌜ (end ≤ count) × (count ≤ mostEntries) × (added ≤ mostTicks) ⌝ }

@@ -1,4 +1,4 @@
--- The lines of one group, as the program writes them. No public promise mentions them.
+-- The lines of one group, as the program writes them. No promise of an entry for users mentions them.
 use Prim.Native.Nat.{ℕ, zero, suc, _+_}
 use mathlib.Core.List.{List, [], _++_}
 use Rattle.task_model.specs.declared.Entry.{Entry}

@@ -49,7 +49,7 @@ module _ (ws : List ℕ) (n : ℕ) (all : AllHold (entriesOf ws n)) (first last 
       → b + runs ≡ initialTimeWith b (entriesOf ws n) (groupLevel first last) i
   initial-runs runs p = omega (arith, p, words-initial ws n first last i hf hi hl b)
 
-  -- no time at which the demand is met is before a bound by the load
+  -- no time at which the demand is met is before the bound by the utilisation
   pub not-earlier : (s x : ℕ) → s ≡ initialTimeWith b (entriesOf ws n) (groupLevel first last) i
       → ((t : ℕ) → s ≤ t
       → fullUtilisation * (s - sumTo (runOf d ws) first) ≤ (fullUtilisation - sumTo (utilisationOf d ws) first) * t

@@ -34,7 +34,7 @@ utilisation-part e h t =
     let runs : (q * e .period) * releases e t ≤ (fullUtilisation * e .wcet) * releases e t = mul-le-mul-right (releases e t) below in
     omega (arith, sym (mul-assoc q (e .period) (releases e t)), mul-assoc fullUtilisation (e .wcet) (releases e t))
 
--- no entry has a load above 1, since C is at most T
+-- no entry has a utilisation above 1, since C is at most T
 utilisation-most : (e : Entry) → TimesHold e → utilisation e ≤ fullUtilisation
 unfolding utilisation
 utilisation-most e h =
@@ -64,7 +64,7 @@ module _ (d : ℕ) (e : Entry) where
       (λ h. omega (arith, recurs h, utilisation-most e ok))
       (λ h. omega (arith, recurs-not (omega arith)))
 
-  -- one run, or the load times t, is no more than the share
+  -- one job, or the utilisation times t, is no more than the interference
   recurring-runs : TimesHold e → (t : ℕ) → 1 ≤ t
       → fullUtilisation * e .wcet + recurringUtilisation d e * t ≤ fullUtilisation * (higherLevelInterference e t + recurringWcet d e)
   recurring-runs ok t p =
@@ -108,11 +108,11 @@ module _ (es : List Entry) (all : AllHold es) (first last i : ℕ) (hf : first �
       let ok = all j (omega arith) .times in
       omega (arith, same-level-first e ok (entryAt es i .calls), same-level-up e ok (entryAt es i .calls) 1 t p))
 
-  -- The runs that the load stands for are among those that the test starts with.
+  -- The jobs that the utilisation stands for are among those of the initial time.
   pub runs-within : (d : ℕ) → sumTo (runIn d es) first ≤ sumTo (wcetIn es) first
   runs-within d = sumTo-le (runIn d es) (wcetIn es) first (λ j k. run-most d (entryAt es j))
 
-  -- The demand is at least the start without those runs, and the load times t.
+  -- The demand is at least the initial time without those jobs, plus the utilisation times t.
   pub demand-utilisation : (b d t : ℕ) → 1 ≤ t
       → fullUtilisation * (initialTimeWith b es (groupLevel first last) i - sumTo (runIn d es) first) + sumTo (utilisationIn d es) first * t
       ≤ fullUtilisation * demandWith b es (groupLevel first last) i t
@@ -131,7 +131,7 @@ module _ (es : List Entry) (all : AllHold es) (first last i : ℕ) (hf : first �
         recurring-sum d es t first p (λ j k. all j (omega arith) .times),
       )
 
-  -- Where the demand is at most t, what runs once is at most what the load leaves free of t.
+  -- If the demand is at most t, the jobs that run once fit into what the utilisation leaves free of t.
   pub fits-by-utilisation : (b d t : ℕ) → demandWith b es (groupLevel first last) i t ≤ t
       → fullUtilisation * (initialTimeWith b es (groupLevel first last) i - sumTo (runIn d es) first)
       ≤ (fullUtilisation - sumTo (utilisationIn d es) first) * t

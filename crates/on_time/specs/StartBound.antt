@@ -1,5 +1,5 @@
--- A lower bound on the start of a group that ends just before `end` and passes. It saves the search tests; no public
--- promise mentions it.
+-- A lower bound on the start of a group that ends just before `end` and passes. It saves the search tests; no
+-- promise of an entry for users mentions it.
 use Prim.Native.Nat.{ℕ, zero, suc, _+_}
 use mathlib.Core.Bool.{Bool, true, false}
 use mathlib.Core.List.{List}

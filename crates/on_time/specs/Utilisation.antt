@@ -1,5 +1,5 @@
 -- The utilisation of the entries on higher levels. It gives a lower bound on a completion time and so saves rounds; no
--- public promise mentions it.
+-- promise of an entry for users mentions it.
 use Prim.Native.Nat.{ℕ, _*_, _/_}
 use lib.Dec.{ltb}
 use Rattle.task_model.specs.declared.Entry.{Entry}
@@ -14,8 +14,9 @@ unfoldable pub utilisation : Entry → ℕ
 utilisation e = (fullUtilisation * e .wcet) / e .period
 
 -- In t ticks an entry on a higher level runs for at least its utilisation times t, and for at least C. The lower bound up
--- to a limit d uses the utilisation of entries that are released again before d (T < d), and C of all others. This is the
--- utilisation of an entry with T < d, and else 0.
+-- to a limit d uses the utilisation of entries that are released again before d (T < d), and C of all others.
+
+-- The utilisation of an entry with T < d, and else 0.
 unfoldable pub recurringUtilisation : ℕ → Entry → ℕ
 recurringUtilisation d e = only (ltb (e .period) d) (utilisation e)
 

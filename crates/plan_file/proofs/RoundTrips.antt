@@ -97,12 +97,12 @@ module _ (f rs ws : List ℕ) (ok : fileCheck f ≡ accepted) (er : map rowWord 
   sizes rows words hr hw =
       read-filled f rows words ok (length rs) (length ws / entrySize) (sym nodes) (omega (arith, counted)) hr (omega (arith, counted))
 
-  zeroPadded : (oldRows oldWords : List ℕ) (a : Answer Sizes) (newRows newWords : List ℕ)
+  filled : (oldRows oldWords : List ℕ) (a : Answer Sizes) (newRows newWords : List ℕ)
       → length rs ≤ length oldRows → length ws ≤ length oldWords → ReadCall f oldRows oldWords a newRows newWords
       → (a ≡ gives (record { rows = length rs; entries = length ws / entrySize }))
       × (newRows ≡ rs ++ drop (length rs) oldRows)
       × (newWords ≡ ws ++ drop (length ws) oldWords)
-  zeroPadded oldRows oldWords a newRows newWords hr hw c =
+  filled oldRows oldWords a newRows newWords hr hw c =
       let t = c .answer ∙ sizes (length oldRows) (length oldWords) hr hw in (
         t,
         c .rowsThere ∙ ap (λ o. left o (map rowWord (planIn f .rows)) oldRows) t ∙ ap (λ s. s ++ drop (length s) oldRows) er,
@@ -133,4 +133,4 @@ read-again rs ws file (gives n) fileLeft hr hw c =
     let m = write-read-memory rs ws hr hw (g .0) in
     let e : take n fileLeft ≡ encoding (planOf rs ws) = ap (take n) (c .fileThere) ∙ front _ file n (g .2) in
     λ oldRows oldWords a newRows newWords lr lw t.
-    zeroPadded (encoding (planOf rs ws)) rs ws (m .0) (m .1) (m .2) oldRows oldWords a newRows newWords lr lw (read-same e t)
+    filled (encoding (planOf rs ws)) rs ws (m .0) (m .1) (m .2) oldRows oldWords a newRows newWords lr lw (read-same e t)

@@ -51,14 +51,14 @@ module _ (rows : List Row) (entries : List Entry) (words : ℕ) where
     pub writer-nodes : tally rows words ≡ accepted → writerCheck rows entries words ≡ nodesCheck 0 rows entries
     writer-nodes p = regrouped ∙ rw (h, p)
 
-  pub record HandedHolds : Type 0 where
+  pub record WriterHolds : Type 0 where
     pub some : 1 ≤ length rows
     pub few : length rows ≤ mostNodes
     pub rowsHold : rowsCheck 0 0 rows ≡ accepted
     pub counts : words ≡ entryCount rows * entrySize
     pub nodes : nodesCheck 0 rows entries ≡ accepted
 
-  pub writer-holds : writerCheck rows entries words ≡ accepted → HandedHolds
+  pub writer-holds : writerCheck rows entries words ≡ accepted → WriterHolds
   writer-holds p =
       let p1 = both-accepted (mustHold (countTest (length rows)) (at 3 0 0)) _ (sym regrouped ∙ p) in
       let p2 = both-accepted (tally rows words) _ (p1 .1) in

@@ -11,7 +11,7 @@ use Rattle.level_map.specs.Answer.{answer, mapOf, NodeBestMapOrNone}
 use Rattle.session.specs.declared.Session.{Session}
 use Rattle.session.specs.State.{nodeIn}
 use Rattle.session.specs.Mapping.{mapAnswer, Maps}
-use Rattle.session.proofs.Mapping.{own-demand}
+use Rattle.session.proofs.Mapping.{own-best}
 use Rattle.planner_c.specs.Returned.{Returned, sized}
 
 module _ {s : Session} (t : Session) (read : s ≡ t) (buffer : List ℕ) {a : MappedNode} {after : List ℕ} (h : Maps (nodeIn s) buffer a after) where
@@ -21,6 +21,6 @@ module _ {s : Session} (t : Session) (read : s ≡ t) (buffer : List ℕ) {a : M
   pub map-buffer : after ≡ left (mapAnswer (nodeIn t) (length buffer)) (mapOf (nodeIn t)) buffer
   map-buffer = rw (h .answers, read) at (h .written)
 
-  pub map-demand : nodeCheck 0 (nodeIn t) ≡ accepted
+  pub map-best : nodeCheck 0 (nodeIn t) ≡ accepted
       → NodeBestMapOrNone (nodeIn t) buffer (mapAnswer (nodeIn t) (length buffer)) after
-  map-demand p = rw map-buffer (own-demand (nodeIn t) p buffer)
+  map-best p = rw map-buffer (own-best (nodeIn t) p buffer)

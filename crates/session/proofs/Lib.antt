@@ -3,7 +3,7 @@ pub mod Held
 pub mod Changing
 pub mod Checking
 pub mod Reading
-pub mod Rows
+pub mod Sequences
 pub mod InWords
 pub mod Theorems
 pub mod Lent

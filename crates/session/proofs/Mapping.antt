@@ -13,7 +13,7 @@ use Rattle.refusals.proofs.Outcomes.{not-both}
 use Rattle.level_map.specs.declared.MappedNode.{MappedNode}
 use Rattle.level_map.specs.declared.MappedNode.the-variants.{Refused}
 use Rattle.level_map.specs.Answer.{answer, mapOf, heldAnswer, NodeBestMapOrNone}
-use Rattle.level_map.proofs.Theorems.{demand-three}
+use Rattle.level_map.proofs.Theorems.{best-map-or-none}
 use Rattle.level_map.proofs.Answers.{Right}
 use Rattle.session.specs.Operations.{asking, mapping, queryCheck, operationCheck, lentCheck}
 use Rattle.session.specs.Mapping.{mapAnswer, Maps}
@@ -28,9 +28,9 @@ module _ (n : Node) where
   unfolding mapAnswer heldAnswer lentCheck operationCheck queryCheck
   own-answer p room = rw (lent-goes-on (asking (mapping room)) n p)
 
-  pub own-demand : nodeCheck 0 n ≡ accepted → (buffer : List ℕ)
+  pub own-best : nodeCheck 0 n ≡ accepted → (buffer : List ℕ)
       → NodeBestMapOrNone n buffer (mapAnswer n (length buffer)) (left (mapAnswer n (length buffer)) (mapOf n) buffer)
-  own-demand p buffer = rw (own-answer p (length buffer)) (demand-three n (node-accepted 0 n .0 p .each) buffer)
+  own-best p buffer = rw (own-answer p (length buffer)) (best-map-or-none n (node-accepted 0 n .0 p .each) buffer)
 
   -- a session that may not be lent is refused, and the buffer kept; one that may is mapped as a node at hand
   pub maps-forged : (r : Refusal) → nodeCheck 0 n ≡ refused (numbered r) → (buffer : List ℕ) → Maps n buffer (Refused r) buffer

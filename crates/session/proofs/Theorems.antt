@@ -57,9 +57,9 @@ use Rattle.session.proofs.Checking.{
   after-refused,
   after-accepted,
 }
-use Rattle.session.proofs.Mapping.{own-answer, own-demand}
+use Rattle.session.proofs.Mapping.{own-answer, own-best}
 use Rattle.session.proofs.InWords.{words-back, words-refused, words-accepted, rows-words}
-use Rattle.session.proofs.Rows.{kept-empty, own-checks, rows-session, rows-answers, rows-kept}
+use Rattle.session.proofs.Sequences.{kept-empty, own-checks, rows-session, rows-answers, rows-kept}
 
 -- From the opening, by any row of operations, refused ones included, and whatever the memory held before. `levels` is
 -- the level count at opening, `os` the row.
@@ -184,10 +184,10 @@ module _ (s : Session) (h : Sound s) where
   map-writes buffer = ap (λ a. left a (mapOf (nodeIn s)) buffer) (map-answers (length buffer))
 
   -- Promise 3 of docs/SPEC.md, into a buffer of a byte an entry or more.
-  pub map-demand-three : (buffer : List ℕ)
+  pub map-best-or-none : (buffer : List ℕ)
       → NodeBestMapOrNone (nodeIn s) buffer (mapAnswer (nodeIn s) (length buffer))
       (left (mapAnswer (nodeIn s) (length buffer)) (mapOf (nodeIn s)) buffer)
-  map-demand-three buffer = own-demand (nodeIn s) within-checks buffer
+  map-best-or-none buffer = own-best (nodeIn s) within-checks buffer
 
 -- A session as 322 words: each form is the inverse of the other.
 pub words-inverse : (w : List ℕ) → length w ≡ sessionSize → wordsIn (sessionIn w) ≡ w

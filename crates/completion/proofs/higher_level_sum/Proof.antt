@@ -28,7 +28,7 @@ higher-level-interference-requires c κs =
     let p = c .before .before .before .pre in
     (rw (c .entry-at .ensures) (all-at _ _ (p .0) _ (c .before .loop-test .taken) .times), p .1 .1)
 
--- the share of the entry at hand
+-- the interference of the entry at hand
 module _ (c : tie.After-higher-level-interference Inv-loop μ-loop) where
   abbrev at-start : tie.Start Inv-loop μ-loop
   at-start = c .before .before .before .before

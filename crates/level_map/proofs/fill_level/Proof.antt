@@ -2,13 +2,13 @@ use Prim.Native.Nat.{_-_, _≤_}
 use mathlib.Core.Path.{_≡_, _∙_, ap}
 use native.Mathlib.Omega.{arith}
 use lib.ListN.{length}
-use Rattle.level_map.proofs.Lists.{zeroPadded, fill-none, fill-next, length-filled}
+use Rattle.level_map.proofs.Lists.{filledWith, fill-none, fill-next, length-filled}
 use Rattle.level_map.proofs.fill_level.Statement.{statement}
 use Rattle.level_map.proofs.fill_level.Tie as tie
 
 -- nothing from j on is written, and the entries from `start` up to j have the level
 abbrev Inv-loop : tie.InvT-loop
-Inv-loop out₀ start end level j₀ out j = (out ≡ zeroPadded out₀ start j level) × (start ≤ j) × (j ≤ end)
+Inv-loop out₀ start end level j₀ out j = (out ≡ filledWith out₀ start j level) × (start ≤ j) × (j ≤ end)
 
 abbrev μ-loop : tie.MeasureT-loop
 μ-loop out₀ start end level j₀ out j = end - j

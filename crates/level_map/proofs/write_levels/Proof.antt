@@ -7,7 +7,7 @@ use lib.ListN.{length, getD, take, drop, drop-of-length-le}
 use lib.Seq.{length-take-le, getD-take}
 use Rattle.task_model.specs.Limits.{mostEntries}
 use Rattle.level_map.specs.Cuts.{Falling, levelsOfCuts}
-use Rattle.level_map.proofs.Lists.{zeroPadded, length-filled}
+use Rattle.level_map.proofs.Lists.{filledWith, length-filled}
 use Rattle.level_map.proofs.Cutting.{falling-few, write-next}
 use Rattle.level_map.proofs.write_levels.Statement.{statement}
 use Rattle.level_map.proofs.write_levels.Tie as tie
@@ -52,7 +52,7 @@ module _ (c : tie.In-loop Inv-loop μ-loop) where
   next : (cut < c .before .loop .end)
       × Falling (drop (c .before .loop .g + 1) (s at-start)) cut
       × (levelsOfCuts (drop (c .before .loop .g + 1) (s at-start)) cut
-      ++ drop cut (zeroPadded (c .before .loop .out) cut (c .before .loop .end) (at-start .args .groups - c .before .loop .g))
+      ++ drop cut (filledWith (c .before .loop .out) cut (c .before .loop .end) (at-start .args .groups - c .before .loop .g))
       ≡ levelsOfCuts (s at-start) (at-start .args .count) ++ drop (at-start .args .count) (at-start .args .out .now))
   next =
       let l = c .before .loop in

@@ -40,14 +40,14 @@ module _ (c : tie.After-list-plan) where
   size : c .list-plan .result ≡ Text (length shown)
   size = listed-size read (at-start .args .text .now) _ (c .list-plan .result) (omega (arith, c .list-plan .ensures .1 .1, at-start .pre .1 .1)) (c .list-plan .ensures .0) (c .list-plan .ensures .1 .0)
 
-  zeroPadded : c .list-plan .last .1 .0 ≡ shown ++ drop (length shown) (at-start .args .text .now)
-  zeroPadded = listed-text read (at-start .args .text .now) _ (c .list-plan .result) (omega (arith, c .list-plan .ensures .1 .1, at-start .pre .1 .1)) (c .list-plan .ensures .0) (c .list-plan .ensures .1 .0)
+  written : c .list-plan .last .1 .0 ≡ shown ++ drop (length shown) (at-start .args .text .now)
+  written = listed-text read (at-start .args .text .now) _ (c .list-plan .result) (omega (arith, c .list-plan .ensures .1 .1, at-start .pre .1 .1)) (c .list-plan .ensures .0) (c .list-plan .ensures .1 .0)
 
   begins : take (length shown) (c .list-plan .last .1 .0) ≡ shown
-  begins = ap (take (length shown)) zeroPadded ∙ take-at shown (drop (length shown) (at-start .args .text .now)) (length shown) refl
+  begins = ap (take (length shown)) written ∙ take-at shown (drop (length shown) (at-start .args .text .now)) (length shown) refl
 
   long : length shown ≤ length (c .list-plan .last .1 .0)
-  long = omega (arith, ap length zeroPadded, length-append shown (drop (length shown) (at-start .args .text .now)))
+  long = omega (arith, ap length written, length-append shown (drop (length shown) (at-start .args .text .now)))
 
   -- what was read is listed as the whole input is
   whole : (input : List ℕ) → ReadOf input (at-start .args .array .now) (at-start .args .n) → shown ≡ listing input

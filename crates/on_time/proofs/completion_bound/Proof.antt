@@ -22,7 +22,7 @@ spare-utilisation-requires c κs = search needs
 add-result : tie.Need-add-result
 add-result c = search needs
 
--- the load never stands for all that the test starts with
+-- the utilisation never stands for all of the initial time
 module _ (c : tie.After-recurring-sum) where
   less : c .recurring-sum .result .runs + 1 ≤ c .before .args .initial
   less =

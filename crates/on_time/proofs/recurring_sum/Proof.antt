@@ -12,13 +12,13 @@ use Rattle.on_time.proofs.recurring_sum.Statement.{statement}
 use Rattle.on_time.proofs.recurring_sum.Tie as tie
 
 abbrev Inv-loop : tie.InvT-loop
-Inv-loop words end limit load₀ runs₀ j₀ utilisation runs j =
+Inv-loop words end limit utilisation₀ runs₀ j₀ utilisation runs j =
     (j ≤ end) × (utilisation ≤ fullUtilisation * j) × (runs ≤ mostTicks * j)
     × (utilisation ≡ sumTo (λ k. recurringUtilisation limit (entryOf words k)) j)
     × (runs ≡ sumTo (λ k. recurringWcet limit (entryOf words k)) j)
 
 abbrev μ-loop : tie.MeasureT-loop
-μ-loop words end limit load₀ runs₀ j₀ utilisation runs j = end - j
+μ-loop words end limit utilisation₀ runs₀ j₀ utilisation runs j = end - j
 
 loop-holds : tie.Need-loop-holds Inv-loop μ-loop
 loop-holds c = (omega arith, omega arith, omega arith, sym (sumTo-none _), sym (sumTo-none _))

@@ -11,11 +11,11 @@ use Rattle.on_time.proofs.start_bound.Statement.{statement}
 use Rattle.on_time.proofs.start_bound.Tie as tie
 
 abbrev Inv-loop : tie.InvT-loop
-Inv-loop words count end runs behind₀ i₀ bound i =
+Inv-loop words count end runs bound₀ i₀ bound i =
     (bound ≡ pastLast (lateByRuns (entriesOf words count) end) i) × (i ≤ end) × (runs ≤ mostRuns)
 
 abbrev μ-loop : tie.MeasureT-loop
-μ-loop words count end runs behind₀ i₀ bound i = end - i
+μ-loop words count end runs bound₀ i₀ bound i = end - i
 
 loop-holds : tie.Need-loop-holds Inv-loop μ-loop
 loop-holds c =

@@ -2,7 +2,7 @@ use mathlib.Core.Path.{_∙_, ap, sym}
 use Rattle.level_map.specs.Answer.{answer}
 use Rattle.session.specs.InWords.{sessionIn}
 use Rattle.planner_c.specs.Returned.{sized}
-use Rattle.planner_c.proofs.Mapping.{map-returned, map-buffer, map-demand}
+use Rattle.planner_c.proofs.Mapping.{map-returned, map-buffer, map-best}
 use borrow.Author.Needs.{needs}
 use Rattle.planner_c.proofs.sessions.maiplur_session_map.Statement.{statement}
 use Rattle.planner_c.proofs.sessions.maiplur_session_map.Tie as tie
@@ -57,7 +57,7 @@ returns c =
     let read = after-from-words c .from-words .ensures in
     let t = sessionIn (a .words .now) in (
       map-returned t read (a .levels .now) e _ (c .give .ensures ∙ ap sized (sym (ap answer (c .before .before .before .mapped2 .given .1)))),
-      (map-buffer t read (a .levels .now) e, map-demand t read (a .levels .now) e),
+      (map-buffer t read (a .levels .now) e, map-best t read (a .levels .now) e),
     )
 
 same-length-2 : tie.Need-same-length-2
@@ -70,7 +70,7 @@ returns-2 c =
     let read = after-from-words-2 c .from-words .ensures in
     let t = sessionIn (a .words .now) in (
       map-returned t read (a .levels .now) e _ (c .refuse .ensures ∙ ap sized (sym (ap answer (c .before .before .before .mapped3 .given .1)))),
-      (map-buffer t read (a .levels .now) e, map-demand t read (a .levels .now) e),
+      (map-buffer t read (a .levels .now) e, map-best t read (a .levels .now) e),
     )
 
 pub maiplur-session-map-spec : {M : Type 1} → statement M
