@@ -2,7 +2,7 @@
 //! fuzz runs have found.
 
 use crate::programs::root;
-use crate::rows::Row;
+use crate::sequences::Sequence;
 use std::fs;
 use std::path::PathBuf;
 
@@ -21,10 +21,10 @@ pub fn kept() -> Vec<Vec<u8>> {
 }
 
 /// Every kept sequence of operations, sorted by name.
-pub fn kept_rows() -> Vec<Row> {
+pub fn kept_sequences() -> Vec<Sequence> {
     ending("session")
         .into_iter()
-        .map(|path| Row::from_text(&fs::read_to_string(path).expect("the file can be read")))
+        .map(|path| Sequence::from_text(&fs::read_to_string(path).expect("the file can be read")))
         .collect()
 }
 

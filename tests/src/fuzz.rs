@@ -7,7 +7,7 @@ use crate::compare;
 use crate::corpus;
 use crate::file::{check, decode, encode};
 use crate::gen::budget;
-use crate::gen::ops::row;
+use crate::gen::ops::sequence;
 use crate::gen::plans;
 use crate::listing::list;
 use crate::mutate::mutate;
@@ -27,7 +27,7 @@ pub struct Fuzz {
     pool: Vec<Vec<u8>>,
     kinds: HashSet<String>,
     files: u64,
-    rows: u64,
+    sequences: u64,
     tally: Tally,
     sessions: Tally,
 }
@@ -55,7 +55,7 @@ impl Fuzz {
             pool,
             kinds: HashSet::new(),
             files: 0,
-            rows: 0,
+            sequences: 0,
             tally: Tally::default(),
             sessions: Tally::default(),
         }
@@ -64,7 +64,7 @@ impl Fuzz {
     /// One file, and now and then a sequence of session operations before it.
     pub fn step(&mut self) -> Result<(), Difference> {
         if self.rng.chance(1, 10) {
-            self.row()?;
+            self.sequence()?;
         }
         self.file()
     }
@@ -75,8 +75,8 @@ impl Fuzz {
     }
 
     /// Sequences of session operations so far.
-    pub fn rows(&self) -> u64 {
-        self.rows
+    pub fn sequences(&self) -> u64 {
+        self.sequences
     }
 
     /// Different kinds of answers so far.
@@ -94,14 +94,16 @@ impl Fuzz {
         &self.sessions
     }
 
-    fn row(&mut self) -> Result<(), Difference> {
+    fn sequence(&mut self) -> Result<(), Difference> {
         let tally = &mut self.sessions;
-        let row = row(&mut self.rng, tally);
-        self.rows += 1;
-        let compared = panic::catch_unwind(AssertUnwindSafe(|| compare::session::row(tally, &row)));
+        let sequence = sequence(&mut self.rng, tally);
+        self.sequences += 1;
+        let compared = panic::catch_unwind(AssertUnwindSafe(|| {
+            compare::session::sequence(tally, &sequence)
+        }));
         compared.map_err(|_| Difference {
             end: "session",
-            contents: row.to_text().into_bytes(),
+            contents: sequence.to_text().into_bytes(),
         })
     }
 
@@ -139,9 +141,13 @@ impl Fuzz {
 
 impl fmt::Display for Fuzz {
     fn fmt(&self, f: &mut fmt::Formatter<'_>) -> fmt::Result {
-        let (files, kinds, rows) = (self.files, self.kinds.len(), self.rows);
+        let (files, kinds, sequences) = (self.files, self.kinds.len(), self.sequences);
         writeln!(f, "{files} files, {kinds} kinds of answers: {}", self.tally)?;
-        write!(f, "{rows} rows of session operations: {}", self.sessions)
+        write!(
+            f,
+            "{sequences} sequences of session operations: {}",
+            self.sessions
+        )
     }
 }
 

@@ -37,7 +37,7 @@ pub mod plain;
 pub mod programs;
 pub mod refusal;
 pub mod rng;
-pub mod rows;
+pub mod sequences;
 pub mod session;
 pub mod tally;
 pub mod timing;

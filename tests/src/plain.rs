@@ -198,14 +198,14 @@ fn completion(entries: &[Entry], first: usize, last: usize, i: usize) -> Option<
 
 /// One past the last entry with D < B + sum of C over the entries before `end`,
 /// or 0.
-fn behind_late(entries: &[Entry], end: usize) -> usize {
+fn start_bound(entries: &[Entry], end: usize) -> usize {
     let runs: u64 = entries[..end].iter().map(|e| u64::from(e.c)).sum();
     let late = |e: &Entry| u64::from(e.d) < u64::from(e.b) + runs;
     entries[..end].iter().rposition(late).map_or(0, |i| i + 1)
 }
 
 fn least_start(entries: &[Entry], end: usize) -> Option<usize> {
-    let mut start = behind_late(entries, end);
+    let mut start = start_bound(entries, end);
     'starts: while start < end {
         for i in (start..end).rev() {
             if completion(entries, start, end - 1, i).is_none() {

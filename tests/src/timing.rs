@@ -54,7 +54,7 @@ pub fn demand(entries: &[Entry], levels: &[u8], i: usize, t: u64) -> u64 {
 }
 
 /// The time at which the test of entry `i` starts.
-pub fn start(entries: &[Entry], levels: &[u8], i: usize) -> u64 {
+pub fn initial_time(entries: &[Entry], levels: &[u8], i: usize) -> u64 {
     let runs: u64 = (0..entries.len())
         .filter(|&j| levels[j] <= levels[i])
         .map(|j| entries[j].c)
@@ -65,7 +65,7 @@ pub fn start(entries: &[Entry], levels: &[u8], i: usize) -> u64 {
 /// The completion time test of entry `i`.
 pub fn completion(entries: &[Entry], levels: &[u8], i: usize) -> Timing {
     let mut rounds = 0;
-    let mut t = start(entries, levels, i);
+    let mut t = initial_time(entries, levels, i);
     while t <= entries[i].d {
         let needed = demand(entries, levels, i, t);
         rounds += 1;

@@ -11,7 +11,7 @@ use oracle::model::{Node, Plan};
 use oracle::rng::Rng;
 use std::path::Path;
 
-/// A station of 32 controllers with usual loads and periods.
+/// A station of 32 controllers with usual utilisations and periods.
 fn station() -> Plan {
     let mut rng = Rng::new(32);
     let nodes = (0..32)

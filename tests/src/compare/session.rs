@@ -10,7 +10,7 @@ use crate::map::EXHAUSTIVE_ENTRIES;
 use crate::model::{Node, Plan};
 use crate::refusal::Refusal;
 use crate::rng::Rng;
-use crate::rows::Row;
+use crate::sequences::Sequence;
 use crate::session::{Op, Reply, Session};
 use crate::tally::Tally;
 use crate::words::entry_words;
@@ -82,9 +82,9 @@ impl Both {
 }
 
 /// Makes a sequence of operations; a short list is mapped after each.
-pub fn row(tally: &mut Tally, row: &Row) {
-    let mut both = Both::of(&row.start);
-    for op in &row.ops {
+pub fn sequence(tally: &mut Tally, sequence: &Sequence) {
+    let mut both = Both::of(&sequence.start);
+    for op in &sequence.ops {
         let _ = both.step(tally, op, 64);
         if both.session().is_ok_and(|held| held.entries().len() <= 8) {
             both.map(tally, &mut Rng::new(0));

@@ -66,7 +66,8 @@ fn block_levels(rng: &mut Rng, count: usize, blocks: usize) -> Vec<u8> {
         .collect()
 }
 
-/// Entries that pass with these levels, or none where the load is too high.
+/// Entries that pass with these levels, or none where the utilisation is too
+/// high.
 fn drawn(rng: &mut Rng, levels: &[u8]) -> Option<Vec<Entry>> {
     let mut entries: Vec<Entry> = Vec::new();
     for block in levels.chunk_by(|a, b| a == b) {

@@ -46,25 +46,25 @@ pub fn scattered(rng: &mut Rng, count: usize) -> Vec<Entry> {
         .collect()
 }
 
-/// Entries like those of a station: usual periods, load 0.3 to 0.95, listed by
-/// deadline, now and then with the sections first.
+/// Entries like those of a station: usual periods, utilisation 0.3 to 0.95,
+/// listed by deadline, now and then with the sections first.
 pub fn realistic(rng: &mut Rng, count: usize) -> Vec<Entry> {
     let base = rng.pick(&[100, 1_000, 10_000]);
-    loaded(rng, count, base, &PERIODS)
+    utilised(rng, count, base, &PERIODS)
 }
 
 /// The same with periods of up to 1,000,000,000.
 pub fn long_periods(rng: &mut Rng, count: usize) -> Vec<Entry> {
     let base = rng.pick(&[100_000, 1_000_000, 10_000_000]);
-    loaded(rng, count, base, &PERIODS)
+    utilised(rng, count, base, &PERIODS)
 }
 
 /// Many entries, with periods close enough for short tests.
 pub fn many(rng: &mut Rng, count: usize) -> Vec<Entry> {
-    loaded(rng, count, 10_000, &PERIODS[..7])
+    utilised(rng, count, 10_000, &PERIODS[..7])
 }
 
-/// Periods from 1,000 to 1,000,000 in no usual steps, load about 0.6.
+/// Periods from 1,000 to 1,000,000 in no usual steps, utilisation about 0.6.
 pub fn mixed(rng: &mut Rng, count: usize) -> Vec<Entry> {
     let mut entries: Vec<Entry> = (1..=count as u16)
         .map(|number| {
@@ -184,15 +184,15 @@ fn limit_entry(rng: &mut Rng, periods: &[u64]) -> Entry {
     kinded(rng, Entry::task(number, c, t, d).calling(r).blocked(b))
 }
 
-fn loaded(rng: &mut Rng, count: usize, base: u64, periods: &[u64]) -> Vec<Entry> {
-    let load = rng.range(300, 950);
+fn utilised(rng: &mut Rng, count: usize, base: u64, periods: &[u64]) -> Vec<Entry> {
+    let utilisation = rng.range(300, 950);
     let weights: Vec<u64> = (0..count).map(|_| rng.range(1, 10)).collect();
     let whole: u64 = 1_000 * weights.iter().sum::<u64>();
     let mut entries: Vec<Entry> = (1..)
         .zip(weights)
         .map(|(number, weight)| {
             let t = base * rng.pick(periods);
-            let c = (t * load * weight / whole).max(1);
+            let c = (t * utilisation * weight / whole).max(1);
             let d = (t * rng.pick(&[100, 100, 100, 100, 90, 75]) / 100).max(c);
             let r = rng.pick(&[0, 0, 0, 1, 2, 3, MAX_R]);
             kinded(rng, Entry::task(number, c, t, d).calling(r))

@@ -8,8 +8,8 @@ use crate::timing::{completion_in_group, Timing};
 /// Position of the last entry of [`slow`].
 pub const SLOW: usize = 5;
 
-/// 1/2/2, 1/3/3, 1/7/7, 1/43/43 and 1/`fifth`/`fifth`, with a load of 1 -
-/// 1/1,806 + 1/`fifth`, and after them a last entry with C 1.
+/// 1/2/2, 1/3/3, 1/7/7, 1/43/43 and 1/`fifth`/`fifth`, with a utilisation of
+/// 1 - 1/1,806 + 1/`fifth`, and after them a last entry with C 1.
 pub fn slow(fifth: u64, blocking: u64) -> Vec<Entry> {
     let mut entries: Vec<Entry> = (1..)
         .zip([2, 3, 7, 43, fifth])
@@ -51,13 +51,13 @@ pub fn first_group(rng: &mut Rng) -> Vec<Entry> {
     entries
 }
 
-/// One group whose tests start at 2^`bits` plus at most 10^9. Truncated to
-/// `bits` bits, the start is at most the last deadline.
-pub fn high_start(rng: &mut Rng, bits: u32) -> Vec<Entry> {
-    let start = (1 << bits) + rng.range(1, MAX_TICKS);
-    let least = start.div_ceil(MAX_TICKS) as usize;
+/// One group whose tests have an initial time of 2^`bits` plus at most 10^9.
+/// Truncated to `bits` bits, it is at most the last deadline.
+pub fn high_initial_time(rng: &mut Rng, bits: u32) -> Vec<Entry> {
+    let initial_time = (1 << bits) + rng.range(1, MAX_TICKS);
+    let least = initial_time.div_ceil(MAX_TICKS) as usize;
     let count = rng.count(least, MAX_ENTRIES);
-    let mut left = start;
+    let mut left = initial_time;
     let mut entries: Vec<Entry> = (1..=count)
         .map(|number| {
             // The later entries can still take what this one leaves.
@@ -77,9 +77,9 @@ pub fn high_start(rng: &mut Rng, bits: u32) -> Vec<Entry> {
     entries
 }
 
-/// Entries with a load of 1 or nearly 1 each, then a last entry that starts
-/// below its deadline. With n entries before it, its first demand is about n +
-/// 1 times its start.
+/// Entries with a utilisation of 1 or nearly 1 each, then a last entry whose
+/// initial time is below its deadline. With n entries before it, its first
+/// demand is about n + 1 times its initial time.
 pub fn high_demand(rng: &mut Rng) -> Vec<Entry> {
     let count = rng.count(5, MAX_ENTRIES - 1);
     let run = rng.pick(&[1, 10, 1_000, 50_000]);
@@ -95,9 +95,9 @@ pub fn high_demand(rng: &mut Rng) -> Vec<Entry> {
     entries
 }
 
-/// One or two entries with short periods and a load of up to 2/3, one with
-/// hardly any load, and a last one that waits for millions of their runs and
-/// mostly ends in time.
+/// One or two entries with short periods and a utilisation of up to 2/3, one
+/// with hardly any utilisation, and a last one that waits for millions of their
+/// runs and mostly ends in time.
 pub fn many_releases(rng: &mut Rng) -> Vec<Entry> {
     let short = rng.range(1, 2);
     let mut entries: Vec<Entry> = (1..=short as u16)
@@ -107,9 +107,9 @@ pub fn many_releases(rng: &mut Rng) -> Vec<Entry> {
         })
         .collect();
     entries.push(Entry::task(7, 3, 3_000, 3_000));
-    // The load in millionths; the blocking leaves that share of the time.
-    let load: u64 = entries.iter().map(|e| e.c * 1_000_000 / e.t + 1).sum();
-    let b = rng.range(900, 990) * (1_000_000 - load);
+    // The utilisation in millionths; the blocking leaves that share of the time.
+    let utilisation: u64 = entries.iter().map(|e| e.c * 1_000_000 / e.t + 1).sum();
+    let b = rng.range(900, 990) * (1_000_000 - utilisation);
     entries.push(Entry::task(8, 5, MAX_TICKS, MAX_TICKS).blocked(b));
     entries
 }

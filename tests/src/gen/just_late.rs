@@ -1,12 +1,12 @@
 //! Nodes whose last deadlines are at a completion time that takes very many
-//! rounds to find, or a tick before it. The load alone does not decide these
-//! entries.
+//! rounds to find, or a tick before it. The utilisation alone does not decide
+//! these entries.
 
 use crate::model::{Entry, MAX_TICKS};
 use crate::rng::Rng;
 use crate::timing::{completion_in_group, Timing};
 
-/// At least 13 entries. 1/2/2, 1/3/3, 1/7/7 and 1/43/43 leave a load of
+/// At least 13 entries. 1/2/2, 1/3/3, 1/7/7 and 1/43/43 leave a utilisation of
 /// 1/1,806. Entries with long periods take nearly all of that. The last entries
 /// have deadlines `early` ticks before their completion time.
 pub fn just_late(rng: &mut Rng, early: u64) -> Vec<Entry> {

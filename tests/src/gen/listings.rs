@@ -17,9 +17,9 @@ pub fn long_listing(nodes: u16) -> Plan {
     Plan { nodes }
 }
 
-/// The first entry has a load of 0.9, so the tests of the others take many
-/// rounds. Each deadline is the entry's completion time on a level of its own,
-/// so no two entries can share a level.
+/// The first entry has a utilisation of 0.9, so the tests of the others take
+/// many rounds. Each deadline is the entry's completion time on a level of its
+/// own, so no two entries can share a level.
 fn one_a_level() -> Vec<Entry> {
     let mut entries = vec![Entry::task(65_001, 9, 10, 10)];
     for number in 65_002..65_001 + MAX_ENTRIES as u16 {

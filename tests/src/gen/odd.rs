@@ -1,5 +1,5 @@
-//! Odd plans: nodes whose load is close to 1, so that the test of an entry may
-//! take very many rounds.
+//! Odd plans: nodes whose utilisation is close to 1, so that the test of an
+//! entry may take very many rounds.
 
 use crate::model::{Entry, Node, Plan, MAX_ENTRIES, MAX_NODES, MAX_R, MAX_TICKS};
 use crate::rng::Rng;
@@ -8,18 +8,18 @@ use crate::timing::{completion_in_group, Timing};
 /// A name, and the entries of a full node for which no grouping passes.
 pub type Family = (&'static str, fn() -> Vec<Entry>);
 
-/// Full nodes without a map; tests/odd.rs says why they have none.
+/// Full nodes without a map; tests/all/odd.rs says why they have none.
 pub const FAMILIES: [Family; 5] = [
-    ("load 1 by one entry", one_entry),
-    ("load 1 by three entries", three_entries),
+    ("utilisation 1 by one entry", one_entry),
+    ("utilisation 1 by three entries", three_entries),
     ("periods of powers of 2", powers),
     ("a long run before powers of 2", long_run),
-    ("load 1 by 62 entries", sixty_two),
+    ("utilisation 1 by 62 entries", sixty_two),
 ];
 
 /// Full nodes without a map whose deadlines are one tick below a completion
-/// time. Loads show that entries of the first are late, but not if rounded
-/// down; for the second, even exact loads do not.
+/// time. Utilisations show that entries of the first are late, but not if
+/// rounded down; for the second, even exact ones do not.
 pub const JUST_LATE: [Family; 2] = [
     ("deadlines just below the completion time", just_late),
     ("the same with primes as periods", primes),
@@ -62,7 +62,7 @@ fn sixty_two() -> Vec<Entry> {
 /// A node with a map whose last entries are on time after millions of rounds:
 /// 1/2/2, 1/3/3, 1/7/7, 1/43/43, 1/1807/1807, then 1/10^9/10^9 up to `count`.
 ///
-/// The load of the first five is 1 - 1/3,263,442.
+/// The utilisation of the first five is 1 - 1/3,263,442.
 pub fn many_rounds(count: usize) -> Vec<Entry> {
     let mut entries: Vec<Entry> = [2, 3, 7, 43, 1_807].map(|t| task(1, t)).to_vec();
     entries.resize(count, task(1, MAX_TICKS));
@@ -79,8 +79,8 @@ fn just_late() -> Vec<Entry> {
     entries
 }
 
-/// 34 primes as periods, with a load of 1 - 1/14,200,000 or so, and 30 entries
-/// that end at 588,022,764.
+/// 34 primes as periods, with a utilisation of 1 - 1/14,200,000 or so, and 30
+/// entries that end at 588,022,764.
 fn primes() -> Vec<Entry> {
     const PERIODS: [u64; 34] = [
         2, 3, 7, 43, 53_959, 54_011, 54_013, 54_037, 54_049, 54_059, 54_083, 54_091, 54_101,
@@ -132,9 +132,9 @@ fn numbered(mut entries: Vec<Entry>) -> Vec<Entry> {
 /// them.
 const WHOLES: [u64; 10] = [8, 12, 32, 60, 62, 64, 126, 420, 512, 5_040];
 
-/// A few entries with a load just below, at or just above 1, then one or two
-/// with long deadlines, some of them exactly at the completion time. All times
-/// may be multiplied by one factor, which does not change the rounds.
+/// A few entries with a utilisation just below, at or just above 1, then one or
+/// two with long deadlines, some of them exactly at the completion time. All
+/// times may be multiplied by one factor, which does not change the rounds.
 pub fn near_one(rng: &mut Rng) -> Vec<Entry> {
     let whole = rng.pick(&WHOLES);
     let excess = rng.pick(&[-3, -2, -1, -1, -1, -1, 0, 1]);
@@ -150,7 +150,8 @@ pub fn near_one(rng: &mut Rng) -> Vec<Entry> {
     numbered(entries.iter().map(|e| times(e, factor)).collect())
 }
 
-/// One to four entries with a load of 1 + `excess`/`whole`, where possible.
+/// One to four entries with a utilisation of 1 + `excess`/`whole`, where
+/// possible.
 fn urgent(rng: &mut Rng, whole: u64, excess: i64) -> Vec<Entry> {
     let periods: Vec<u64> = (2..=whole).filter(|&t| whole.is_multiple_of(t)).collect();
     let mut left = whole.saturating_add_signed(excess);

@@ -7,7 +7,7 @@ use super::sessions::FAMILIES;
 use crate::lent::{apply, session_in};
 use crate::model::{Entry, MAX_LEVELS};
 use crate::rng::Rng;
-use crate::rows::Row;
+use crate::sequences::Sequence;
 use crate::session::{Op, Session};
 use crate::tally::Tally;
 
@@ -44,10 +44,10 @@ pub fn next_op(rng: &mut Rng, session: &Session, course: Course) -> Op {
 /// A sequence of operations on a blank, short, nearly full or damaged session,
 /// or on one that holds a node of a plan; the tally counts what is left out for
 /// its cost.
-pub fn row(rng: &mut Rng, tally: &mut Tally) -> Row {
+pub fn sequence(rng: &mut Rng, tally: &mut Tally) -> Sequence {
     if rng.chance(1, 3) {
         let family = rng.pick(&FAMILIES);
-        return family.row(rng, tally);
+        return family.sequence(rng, tally);
     }
     let (start, course) = match rng.below(4) {
         0 => ([0; 322], Course::Short),
@@ -66,7 +66,7 @@ pub fn row(rng: &mut Rng, tally: &mut Tally) -> Row {
         let _ = apply(&mut words, &op, &mut []);
         ops.push(op);
     }
-    Row { start, ops }
+    Sequence { start, ops }
 }
 
 /// A level count, now and then outside the limits.

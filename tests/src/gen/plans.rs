@@ -97,8 +97,8 @@ pub fn long_periods(rng: &mut Rng) -> Plan {
     })
 }
 
-/// One node with a load just below, at or just above 1; its tests may take more
-/// rounds than those of the other plans.
+/// One node with a utilisation just below, at or just above 1; its tests may
+/// take more rounds than those of the other plans.
 pub fn near_one(rng: &mut Rng) -> Plan {
     plan(rng, 1, odd::near_one)
 }

@@ -7,7 +7,7 @@ use super::plans;
 use crate::lent::words_of;
 use crate::model::{Entry, Node, Plan, MAX_ENTRIES, MAX_R, MAX_TICKS, TASK};
 use crate::rng::Rng;
-use crate::rows::Row;
+use crate::sequences::Sequence;
 use crate::session::{Op, Session};
 use crate::tally::Tally;
 
@@ -39,10 +39,10 @@ pub const LONG: Family = of("long periods", plans::long_periods);
 pub const LIMITS: Family = of("at the limits", plans::at_limits);
 /// 13 to 64 entries with blocking and remote sections.
 pub const MANY: Family = of("13 to 64 entries", plans::many_entries);
-/// Loads just below, at and just above 1.
+/// Utilisations just below, at and just above 1.
 pub const NEAR_ONE: Family = Family {
     rounds: 50_000,
-    ..of("loads near 1", plans::near_one)
+    ..of("utilisations near 1", plans::near_one)
 };
 
 /// Every family.
@@ -71,7 +71,7 @@ impl Family {
     /// A sequence of changes, maps and timings whose tests are all short
     /// enough; the tally counts the changes left out because their tests are
     /// too long.
-    pub fn row(&self, rng: &mut Rng, tally: &mut Tally) -> Row {
+    pub fn sequence(&self, rng: &mut Rng, tally: &mut Tally) -> Sequence {
         let mut held = self.session(rng);
         let start = words_of(&held);
         let mut ops = Vec::new();
@@ -88,7 +88,7 @@ impl Family {
             ops.push(group(rng, held.entries().len()));
         }
         ops.push(Op::Map);
-        Row { start, ops }
+        Sequence { start, ops }
     }
 
     /// Whether the tests of these entries are short enough.

@@ -30,7 +30,7 @@ fn slots(session: &mut Session) -> &mut [Words] {
 }
 
 /// Leaves a session with its first `count` entries, and zeros after them.
-fn keep(session: &mut Session, count: usize) {
+fn clear_rest(session: &mut Session, count: usize) {
     session.count = count as u32;
     session.words[count * 5..].fill(0);
 }
@@ -59,7 +59,7 @@ fn check_entry(entry: &Words, position: usize) -> Result<(), Refusal> {
 pub fn open(session: &mut Session, levels: u8) -> Result<(), Refusal> {
     check_levels(levels)?;
     session.levels = u32::from(levels);
-    keep(session, 0);
+    clear_rest(session, 0);
     Ok(())
 }
 
@@ -69,7 +69,7 @@ pub fn set_levels(session: &mut Session, levels: u8) -> Result<(), Refusal> {
     let count = held(session)?.len();
     check_levels(levels)?;
     session.levels = u32::from(levels);
-    keep(session, count);
+    clear_rest(session, count);
     Ok(())
 }
 
@@ -87,7 +87,7 @@ pub fn insert(session: &mut Session, position: usize, entry: &Words) -> Result<(
     let slots = slots(session);
     slots.copy_within(position..count, position + 1);
     slots[position] = *entry;
-    keep(session, count + 1);
+    clear_rest(session, count + 1);
     Ok(())
 }
 
@@ -99,7 +99,7 @@ pub fn remove(session: &mut Session, position: usize) -> Result<(), Refusal> {
         return Err(Refusal::plain(POSITION));
     }
     slots(session).copy_within(position + 1..count, position);
-    keep(session, count - 1);
+    clear_rest(session, count - 1);
     Ok(())
 }
 
@@ -112,7 +112,7 @@ pub fn replace(session: &mut Session, position: usize, entry: &Words) -> Result<
     }
     check_entry(entry, position)?;
     slots(session)[position] = *entry;
-    keep(session, count);
+    clear_rest(session, count);
     Ok(())
 }
 

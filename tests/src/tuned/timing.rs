@@ -4,8 +4,8 @@
 use super::entry::Entry;
 use crate::timing::Timing;
 
-/// A load of 1; loads are in units of 2^-34.
-const ONE: u64 = 1 << 34;
+/// A utilisation of 1; utilisations are in units of 2^-34.
+const FULL_UTILISATION: u64 = 1 << 34;
 
 /// The sum of C over these entries.
 pub fn runs_of(entries: &[impl Entry]) -> u64 {
@@ -14,7 +14,7 @@ pub fn runs_of(entries: &[impl Entry]) -> u64 {
 
 /// What an entry on a more urgent level runs in `t` ticks. The first period
 /// needs no division.
-fn urgent_share(entry: &impl Entry, t: u32) -> u64 {
+fn higher_level_interference(entry: &impl Entry, t: u32) -> u64 {
     let (wcet, period) = (u64::from(entry.wcet()), entry.period());
     if t <= period {
         return wcet;
@@ -25,23 +25,23 @@ fn urgent_share(entry: &impl Entry, t: u32) -> u64 {
 /// What an entry on the same level as the tested one runs in `t` ticks; `calls`
 /// is that of the tested entry. Once `calls` periods are past, the count is at
 /// its limit and needs no division.
-fn beside_share(entry: &impl Entry, calls: u32, t: u32) -> u64 {
+fn same_level_interference(entry: &impl Entry, calls: u32, t: u32) -> u64 {
     if u64::from(entry.period()) * u64::from(calls) < u64::from(t) {
         return u64::from(entry.wcet()) * u64::from(calls + 1);
     }
-    urgent_share(entry, t)
+    higher_level_interference(entry, t)
 }
 
 /// An entry in its group, with the entries that its demand counts.
 pub struct Test<'a, E> {
     own: &'a E,
-    /// Where the test starts: B of the entry plus C of every entry.
-    start: u64,
+    /// The time at which the test starts: B of the entry plus C of every entry.
+    initial_time: u64,
     /// The entries on more urgent levels.
     urgent: &'a [E],
     /// The other entries on its level.
     before: &'a [E],
-    behind: &'a [E],
+    after: &'a [E],
 }
 
 impl<'a, E: Entry> Test<'a, E> {
@@ -50,20 +50,20 @@ impl<'a, E: Entry> Test<'a, E> {
     pub fn new(entries: &'a [E], first: usize, i: usize, runs: u64) -> Test<'a, E> {
         let (earlier, later) = entries.split_at(i);
         let (urgent, before) = earlier.split_at(first);
-        let (own, behind) = later.split_first().expect("the entry is in the list");
+        let (own, after) = later.split_first().expect("the entry is in the list");
         Test {
             own,
-            start: u64::from(own.blocking()) + runs,
+            initial_time: u64::from(own.blocking()) + runs,
             urgent,
             before,
-            behind,
+            after,
         }
     }
 
     /// The test, with its rounds.
     pub fn completion(&self) -> Timing {
         let deadline = u64::from(self.own.deadline());
-        let mut t = self.start;
+        let mut t = self.initial_time;
         let mut rounds = 0;
         while t <= deadline {
             let next = self.demand(t as u32);
@@ -76,14 +76,15 @@ impl<'a, E: Entry> Test<'a, E> {
         Timing::Late { rounds }
     }
 
-    /// Whether the entry ends by its deadline. The start decides, or the demand
-    /// at the deadline, or else rounds that begin as late as the load allows.
+    /// Whether the entry ends by its deadline. The initial time decides, or
+    /// the demand at the deadline, or else rounds that begin as late as the
+    /// utilisation allows.
     pub fn is_on_time(&self) -> bool {
         let deadline = self.own.deadline();
-        if self.start > u64::from(deadline) {
+        if self.initial_time > u64::from(deadline) {
             return false;
         }
-        self.demand(deadline) <= u64::from(deadline) || self.is_met_from(self.earliest())
+        self.demand(deadline) <= u64::from(deadline) || self.is_met_from(self.completion_bound())
     }
 
     /// The demand at `t`.
@@ -91,33 +92,35 @@ impl<'a, E: Entry> Test<'a, E> {
         let calls = self.own.calls();
         let mut sum = u64::from(self.own.wcet()) + u64::from(self.own.blocking());
         for entry in self.urgent {
-            sum += urgent_share(entry, t);
+            sum += higher_level_interference(entry, t);
         }
         for entry in self.before {
-            sum += beside_share(entry, calls, t);
+            sum += same_level_interference(entry, calls, t);
         }
-        for entry in self.behind {
-            sum += beside_share(entry, calls, t);
+        for entry in self.after {
+            sum += same_level_interference(entry, calls, t);
         }
         sum
     }
 
-    /// A time before which the demand is not met: the start, or a later time if
-    /// the load of the more urgent entries with T < D shows it.
-    fn earliest(&self) -> u64 {
+    /// A time before which the demand is not met: the initial time, or a later
+    /// one if the utilisation of the more urgent entries with T < D shows it.
+    fn completion_bound(&self) -> u64 {
         let deadline = self.own.deadline();
-        let (mut load, mut runs) = (0, 0);
+        let (mut utilisation, mut runs) = (0, 0);
         for entry in self.urgent {
             if entry.period() < deadline {
-                load += ONE * u64::from(entry.wcet()) / u64::from(entry.period());
+                utilisation +=
+                    FULL_UTILISATION * u64::from(entry.wcet()) / u64::from(entry.period());
                 runs += u64::from(entry.wcet());
             }
         }
-        if load >= ONE {
+        if utilisation >= FULL_UTILISATION {
             return u64::from(deadline) + 1;
         }
-        let by_load = (ONE * (self.start - runs)).div_ceil(ONE - load);
-        by_load.max(self.start)
+        let by_utilisation = (FULL_UTILISATION * (self.initial_time - runs))
+            .div_ceil(FULL_UTILISATION - utilisation);
+        by_utilisation.max(self.initial_time)
     }
 
     /// Whether the demand is met by the deadline, by rounds from `t`; it must

@@ -107,9 +107,9 @@ fn stations_are_as_described() {
     assert!(plans.iter().any(|plan| plan.nodes.len() >= 31));
     for node in nodes(&plans) {
         assert!((3..=20).contains(&node.entries.len()));
-        // In millionths; rounding C to whole ticks changes the load a little.
-        let load: u64 = node.entries.iter().map(|e| e.c * 1_000_000 / e.t).sum();
-        assert!((250_000..=960_000).contains(&load), "{load}");
+        // In millionths; rounding C to whole ticks changes it a little.
+        let utilisation: u64 = node.entries.iter().map(|e| e.c * 1_000_000 / e.t).sum();
+        assert!((250_000..=960_000).contains(&utilisation), "{utilisation}");
     }
 }
 

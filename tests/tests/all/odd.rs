@@ -1,5 +1,5 @@
-//! Odd plans: nodes whose load is close to 1. A search that makes every round
-//! may take hours for them.
+//! Odd plans: nodes whose utilisation is close to 1. A search that makes every
+//! round may take hours for them.
 
 use oracle::cases;
 use oracle::compare;
@@ -11,15 +11,15 @@ use oracle::tally::Tally;
 use oracle::timing::{completion, completion_in_group, Timing};
 use std::io::Write;
 
-/// Whether the load shows that the entry at `i` is late in the group from
-/// `start` to the last entry. It computes exactly, in integers, and without a
-/// round.
+/// Whether the utilisation shows that the entry at `i` is late in the group
+/// from `start` to the last entry. It computes exactly, in integers, and
+/// without a round.
 ///
 /// For t ≤ D its demand W(t) is at least K + U t. K is its blocking, plus C of
 /// each entry of the group, plus C of each entry before the group with T ≥ D.
-/// U is the load of the other entries before the group. So W(t) ≤ t gives
-/// K ≤ (1 - U) t. If U < 1, then K ≤ (1 - U) D. If U ≥ 1, there is no such t,
-/// because K > 0.
+/// U is the utilisation of the other entries before the group. So W(t) ≤ t
+/// gives K ≤ (1 - U) t. If U < 1, then K ≤ (1 - U) D. If U ≥ 1, there is no
+/// such t, because K > 0.
 fn surely_late(entries: &[Entry], start: usize, i: usize) -> bool {
     let own = &entries[i];
     let (short, long): (Vec<&Entry>, Vec<&Entry>) =
@@ -28,11 +28,11 @@ fn surely_late(entries: &[Entry], start: usize, i: usize) -> bool {
     let group: Vec<&Entry> = entries[start..].iter().collect();
     let k = i128::from(own.b) + runs(&group) + runs(&long);
     let whole = short.iter().fold(1, |whole, e| least_multiple(whole, e.t));
-    let load: i128 = short
+    let utilisation: i128 = short
         .iter()
         .map(|e| i128::from(e.c) * (whole / i128::from(e.t)))
         .sum();
-    k * whole > (whole - load) * i128::from(own.d)
+    k * whole > (whole - utilisation) * i128::from(own.d)
 }
 
 fn least_multiple(whole: i128, t: u64) -> i128 {
@@ -55,9 +55,9 @@ fn the_families_have_no_map() {
     }
 }
 
-/// How many entries the load shows to be late in some last group; the second
-/// implementation must find them late too.
-fn late_by_load(entries: &[Entry]) -> u64 {
+/// How many entries the utilisation shows to be late in some last group; the
+/// second implementation must find them late too.
+fn late_by_utilisation(entries: &[Entry]) -> u64 {
     let last = entries.len() - 1;
     let mut sure = 0;
     for start in 0..=last {
@@ -72,15 +72,15 @@ fn late_by_load(entries: &[Entry]) -> u64 {
     sure
 }
 
-/// Loads just below, at and just above 1: every call is compared with the
-/// second implementation, which makes every round.
+/// Utilisations just below, at and just above 1: every call is compared with
+/// the second implementation, which makes every round.
 #[test]
-fn loads_near_one() {
+fn utilisations_near_one() {
     let (mut rng, mut tally) = (rng(260), Tally::default());
     let (mut maps, mut none, mut sure) = (0, 0, 0);
     for _ in 0..times(8_000) {
         let entries = near_one(&mut rng);
-        sure += late_by_load(&entries);
+        sure += late_by_utilisation(&entries);
         let file = cases::file(cases::node(rng.pick(&[2, 3, 64]), &entries));
         let before = tally.accepted();
         compare::map(&mut tally, &file, 7, entries.len());
@@ -92,7 +92,7 @@ fn loads_near_one() {
     // Not `println!`: the harness hides what passing tests print with it.
     writeln!(
         std::io::stdout(),
-        "\n{} nodes with a load near 1: {maps} with a map, {none} without; {sure} entries late by load",
+        "\n{} nodes with a utilisation near 1: {maps} with a map, {none} without; {sure} entries late by it",
         maps + none
     )
     .expect("output is open");

@@ -16,14 +16,14 @@ fn every_kept_file() {
 }
 
 #[test]
-fn every_kept_row() {
+fn every_kept_sequence() {
     let mut tally = Tally::default();
-    let rows = corpus::kept_rows();
-    for row in &rows {
-        compare::session::row(&mut tally, row);
+    let sequences = corpus::kept_sequences();
+    for sequence in &sequences {
+        compare::session::sequence(&mut tally, sequence);
     }
     assert!(
         tally.met(12) > 0 && tally.met(11) > 0,
-        "case P's row is there"
+        "case P's sequence is there"
     );
 }

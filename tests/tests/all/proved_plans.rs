@@ -109,7 +109,7 @@ fn starred_cases() {
     }
 }
 
-/// A load just below 1, so that a test takes up to 30,000 rounds.
+/// A utilisation just below 1, so that a test takes up to 30,000 rounds.
 #[test]
 fn many_rounds() {
     let mut rng = rng(208);

@@ -6,14 +6,14 @@ use oracle::cases;
 use oracle::compare;
 use oracle::compare::session::Both;
 use oracle::gen::extremes::{
-    first_group, five_full, high_demand, high_start, many_releases, slow, slow_until, SLOW,
+    first_group, five_full, high_demand, high_initial_time, many_releases, slow, slow_until, SLOW,
 };
 use oracle::lent::words_of;
 use oracle::model::{Entry, MAX_TICKS};
 use oracle::options::{rng, times};
 use oracle::session::{Op, Reply, Session};
 use oracle::tally::Tally;
-use oracle::timing::{demand, group_levels, start, Timing};
+use oracle::timing::{demand, group_levels, initial_time, Timing};
 use std::io::Write;
 
 fn say(what: String) {
@@ -106,17 +106,17 @@ fn rounds_above_20_in_a_first_group() {
     assert_eq!(tally.met(11), 0, "one level does");
 }
 
-/// Starts above 2^32 to 2^35. Truncated to 32 to 35 bits, they would be at most
-/// D.
+/// Initial times above 2^32 to 2^35. Truncated to 32 to 35 bits, they would be
+/// at most D.
 #[test]
-fn starts_above_2_to_the_34th() {
+fn initial_times_above_2_to_the_34th() {
     let (mut rng, mut tally) = (rng(302), Tally::default());
     let mut highest = 0;
     for bits in 32..=35 {
         for _ in 0..times(50) {
-            let entries = high_start(&mut rng, bits);
+            let entries = high_initial_time(&mut rng, bits);
             let last = entries.len() - 1;
-            let at = start(&entries, &vec![1; entries.len()], last);
+            let at = initial_time(&entries, &vec![1; entries.len()], last);
             assert!(at > 1 << bits && at % (1 << bits) <= MAX_TICKS, "{at}");
             highest = highest.max(at);
             for first in [0, last / 2, last] {
@@ -126,7 +126,7 @@ fn starts_above_2_to_the_34th() {
             compare::list(&mut tally, &cases::file(cases::node(64, &entries)));
         }
     }
-    say(format!("highest start {highest}"));
+    say(format!("highest initial time {highest}"));
     assert!(highest > 1 << 35, "{highest}");
 }
 
@@ -139,7 +139,12 @@ fn demands_above_2_to_the_34th() {
     for _ in 0..times(2_000) {
         let entries = high_demand(&mut rng);
         let (levels, last) = behind_all(&entries);
-        let most = demand(&entries, &levels, last, start(&entries, &levels, last));
+        let most = demand(
+            &entries,
+            &levels,
+            last,
+            initial_time(&entries, &levels, last),
+        );
         highest = highest.max(most);
         for (bits, count) in (32..).zip(&mut telling) {
             let cut: u64 = most % (1 << bits);
@@ -189,7 +194,7 @@ fn releases_above_2_to_the_23rd() {
 fn five_full_entries() {
     let (entries, mut tally) = (five_full(), Tally::default());
     let (levels, last) = behind_all(&entries);
-    assert_eq!(start(&entries, &levels, last), 800_000_001);
+    assert_eq!(initial_time(&entries, &levels, last), 800_000_001);
     assert_eq!(demand(&entries, &levels, last, 800_000_001), 4_800_000_001);
     for first in 0..entries.len() {
         time_last(&mut tally, &entries, first);

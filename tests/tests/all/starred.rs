@@ -3,7 +3,7 @@
 use oracle::cases;
 use oracle::map::{by_groupings, by_groups, map_entries, Map};
 use oracle::model::{Entry, Node};
-use oracle::timing::{completion, demand, start, Timing};
+use oracle::timing::{completion, demand, initial_time, Timing};
 
 fn on_time(time: u64, rounds: u64) -> Timing {
     Timing::OnTime { time, rounds }
@@ -64,7 +64,7 @@ fn f_no_map() {
     assert_eq!(map(&f), None);
     // Entry 1 would take 118. Its test already starts there, above its
     // deadline.
-    assert_eq!(start(&f.entries, &[1, 1, 1], 0), 118);
+    assert_eq!(initial_time(&f.entries, &[1, 1, 1], 0), 118);
     assert_eq!(demand(&f.entries, &[1, 1, 1], 0, 118), 118);
     assert_eq!(completion(&f.entries, &[1, 1, 1], 0), late(0));
 }
@@ -105,11 +105,11 @@ fn s_no_map() {
     let s = cases::s();
     assert_eq!(map(&s), None);
     for levels in [[1, 2, 3], [1, 1, 2], [1, 2, 2]] {
-        assert_eq!(start(&s.entries, &levels, 2), 128);
+        assert_eq!(initial_time(&s.entries, &levels, 2), 128);
         assert_eq!(demand(&s.entries, &levels, 2, 128), 148);
         assert_eq!(completion(&s.entries, &levels, 2), late(1));
     }
-    assert_eq!(start(&s.entries, &[1, 1, 1], 0), 128);
+    assert_eq!(initial_time(&s.entries, &[1, 1, 1], 0), 128);
     assert_eq!(demand(&s.entries, &[1, 1, 1], 0, 128), 128);
     assert_eq!(completion(&s.entries, &[1, 1, 1], 0), late(0));
 }

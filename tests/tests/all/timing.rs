@@ -4,7 +4,7 @@ use oracle::gen::entries;
 use oracle::model::Entry;
 use oracle::options::{rng, times};
 use oracle::rng::Rng;
-use oracle::timing::{completion, completion_in_group, demand, rounds_bound, start, Timing};
+use oracle::timing::{completion, completion_in_group, demand, initial_time, rounds_bound, Timing};
 
 fn draw(rng: &mut Rng) -> Vec<Entry> {
     let count = rng.count(1, 9);
@@ -72,7 +72,7 @@ fn rounds_count_evaluations_and_keep_the_bound() {
 
 /// How often the demand is evaluated.
 fn evaluations(entries: &[Entry], levels: &[u8], i: usize) -> u64 {
-    let first = start(entries, levels, i);
+    let first = initial_time(entries, levels, i);
     let times = std::iter::successors(Some(first), |&t| {
         let next = demand(entries, levels, i, t);
         (next != t).then_some(next)
@@ -81,7 +81,7 @@ fn evaluations(entries: &[Entry], levels: &[u8], i: usize) -> u64 {
 }
 
 #[test]
-fn no_rounds_if_the_start_exceeds_the_deadline() {
+fn no_rounds_if_the_initial_time_exceeds_the_deadline() {
     let entries = [Entry::task(1, 3, 9, 4), Entry::task(2, 3, 9, 6)];
     assert_eq!(completion(&entries, &[1, 1], 0), Timing::Late { rounds: 0 });
     let met = Timing::OnTime { time: 6, rounds: 1 };
@@ -119,7 +119,7 @@ fn largest_numbers() {
     let full = Entry::task(1, TOP, TOP, TOP).calling(15).blocked(TOP);
     let all = [full; 64];
     for i in [0, 63] {
-        assert_eq!(start(&all, &[1; 64], i), 65 * TOP);
+        assert_eq!(initial_time(&all, &[1; 64], i), 65 * TOP);
         assert_eq!(completion(&all, &[1; 64], i), Timing::Late { rounds: 0 });
     }
     let alone = Entry::task(1, TOP, TOP, TOP);

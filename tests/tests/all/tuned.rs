@@ -7,7 +7,7 @@ use oracle::gen::budget;
 use oracle::gen::buffers::known;
 use oracle::gen::damage::{damage, truncations, AIMS};
 use oracle::gen::listings::long_listing;
-use oracle::gen::ops::row;
+use oracle::gen::ops::sequence;
 use oracle::gen::plans;
 use oracle::lent;
 use oracle::listing;
@@ -194,9 +194,9 @@ fn long_texts() {
 fn sessions() {
     let (mut rng, mut tally) = (rng(343), Tally::default());
     for _ in 0..times(400) {
-        let row = row(&mut rng, &mut tally);
-        let (mut session, mut due) = (Session::of(&row.start), row.start);
-        for op in row.ops.iter().map(callable) {
+        let sequence = sequence(&mut rng, &mut tally);
+        let (mut session, mut due) = (Session::of(&sequence.start), sequence.start);
+        for op in sequence.ops.iter().map(callable) {
             let room = rng.pick(&[3, 64, 64]);
             let (mut buffer, mut due_buffer) = (known(room), known(room));
             let before = session.memory();

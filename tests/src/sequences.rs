@@ -7,14 +7,14 @@ use std::fmt::Write;
 
 /// The memory lent to the first operation, and the operations.
 #[derive(Clone, Debug, PartialEq, Eq)]
-pub struct Row {
+pub struct Sequence {
     /// All 322 words.
     pub start: Words,
     /// The operations.
     pub ops: Vec<Op>,
 }
 
-impl Row {
+impl Sequence {
     /// The words on one line, without the zeros at the end, then a line for
     /// each operation. An entry is its five words.
     pub fn to_text(&self) -> String {
@@ -28,8 +28,8 @@ impl Row {
     }
 
     /// The sequence in a text, which must be well formed.
-    pub fn from_text(text: &str) -> Row {
-        let mut row = Row {
+    pub fn from_text(text: &str) -> Sequence {
+        let mut sequence = Sequence {
             start: [0; 322],
             ops: Vec::new(),
         };
@@ -39,14 +39,14 @@ impl Row {
             let numbers: Vec<usize> = parts.map(|part| part.parse().expect("a number")).collect();
             match name {
                 "words" => {
-                    for (target, number) in row.start.iter_mut().zip(numbers) {
+                    for (target, number) in sequence.start.iter_mut().zip(numbers) {
                         *target = word(number);
                     }
                 }
-                _ => row.ops.push(op_of(name, &numbers)),
+                _ => sequence.ops.push(op_of(name, &numbers)),
             }
         }
-        row
+        sequence
     }
 }
 
@@ -99,16 +99,16 @@ fn word(number: usize) -> u32 {
 #[cfg(test)]
 mod tests {
     use super::*;
-    use crate::gen::ops::row;
+    use crate::gen::ops::sequence;
     use crate::rng::Rng;
     use crate::tally::Tally;
 
     #[test]
-    fn a_row_is_kept_by_its_text() {
+    fn a_sequence_is_kept_by_its_text() {
         let mut rng = Rng::new(3);
         for _ in 0..50 {
-            let row = row(&mut rng, &mut Tally::default());
-            assert_eq!(Row::from_text(&row.to_text()), row);
+            let sequence = sequence(&mut rng, &mut Tally::default());
+            assert_eq!(Sequence::from_text(&sequence.to_text()), sequence);
         }
     }
 }
