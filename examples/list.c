@@ -12,7 +12,7 @@ static uint8_t text[MAIPLUR_MOST_TEXT];
 
 static void show_map(size_t length, uint16_t node) {
     uint8_t levels[MAIPLUR_MOST_LEVELS];
-    size_t values[2];
+    size_t values[3];
     uint32_t refused = maiplur_map(file, length, node, levels, sizeof levels, values);
     if (refused) {
         printf("map of %u: refused %u\n", (unsigned)node, (unsigned)refused);
@@ -24,7 +24,7 @@ static void show_map(size_t length, uint16_t node) {
 int main(void) {
     uint32_t rows[MAIPLUR_MOST_ROWS];
     static uint32_t entries[MAIPLUR_MOST_WORDS];
-    size_t values[2];
+    size_t values[3];
     size_t length = fread(file, 1, sizeof file, stdin);
     if (maiplur_list(file, length, text, sizeof text, values)) {
         return 1; /* never: the text fits */

@@ -10,7 +10,7 @@ extern "C" {
         file_length: usize,
         text: *mut u8,
         text_length: usize,
-        values: *mut [usize; 2],
+        values: *mut [usize; 3],
     ) -> u32;
 }
 
@@ -20,7 +20,7 @@ const MOST_TEXT: usize = 115_625;
 /// The listing of a plan file, or the line that it is refused with.
 fn listing(file: &[u8]) -> Vec<u8> {
     let mut text = vec![0; MOST_TEXT];
-    let mut values = [0; 2];
+    let mut values = [0; 3];
     // SAFETY: the pointers come from slices and an array that live through the call, and nothing overlaps.
     let refused = unsafe {
         maiplur_list(

@@ -11,7 +11,7 @@ enum { TASK = 1 << 16 }; /* kind 1 in the first word of an entry, above its numb
 
 static void show_map(const maiplur_session *session) {
     uint8_t levels[MAIPLUR_MOST_LEVELS];
-    size_t values[2];
+    size_t values[3];
     uint32_t refused = maiplur_session_map(session, levels, sizeof levels, values);
     if (refused) {
         printf("map: refused %u\n", (unsigned)refused);
@@ -26,7 +26,7 @@ static void show_map(const maiplur_session *session) {
 
 /* Times the third entry, on one level with the second and after the first. */
 static void show_time(const maiplur_session *session) {
-    size_t values[2];
+    size_t values[3];
     uint32_t refused = maiplur_session_time(session, 1, 2, 2, values);
     if (refused) {
         printf("time: refused %u\n", (unsigned)refused);
@@ -37,7 +37,7 @@ static void show_time(const maiplur_session *session) {
     }
 }
 
-static void show_change(const char *change, uint32_t refused, const size_t values[2]) {
+static void show_change(const char *change, uint32_t refused, const size_t values[3]) {
     if (refused) {
         printf("%s: refused %u row %zu entry %zu\n", change, (unsigned)refused, values[0], values[1]);
     } else {
@@ -47,8 +47,8 @@ static void show_change(const char *change, uint32_t refused, const size_t value
 
 /* The third task must end earlier; then the second goes, and one level is left. */
 static void try_changes(maiplur_session *session) {
-    static const uint32_t earlier[5] = {TASK + 3, 68, 150, 137, 0};
-    size_t values[2];
+    static const uint32_t earlier[6] = {TASK + 3, 68, 150, 137, 0, 0};
+    size_t values[3];
     show_change("replace", maiplur_session_replace(session, 2, earlier, values), values);
     show_map(session);
     show_time(session);
@@ -58,10 +58,20 @@ static void try_changes(maiplur_session *session) {
     show_time(session);
 }
 
+/* The last task may start late, as long as its jitter leaves it time to run. */
+static void try_jitter(maiplur_session *session) {
+    static const uint32_t starts_late[6] = {TASK + 3, 68, 150, 137, 0, 49};
+    static const uint32_t too_late[6] = {TASK + 3, 68, 150, 137, 0, 70};
+    size_t values[3];
+    show_change("replace", maiplur_session_replace(session, 1, starts_late, values), values);
+    show_map(session);
+    show_change("replace", maiplur_session_replace(session, 1, too_late, values), values);
+}
+
 /* Refused changes leave the session as it is. */
 static void try_refused(maiplur_session *session) {
-    static const uint32_t long_run[5] = {TASK + 4, 6, 10, 5, 0};
-    size_t values[2];
+    static const uint32_t long_run[6] = {TASK + 4, 6, 10, 5, 0, 0};
+    size_t values[3];
     show_change("insert", maiplur_session_insert(session, 1, long_run, values), values);
     show_change("remove", maiplur_session_remove(session, 2, values), values);
     show_change("set levels", maiplur_session_set_levels(session, 0, values), values);
@@ -69,14 +79,14 @@ static void try_refused(maiplur_session *session) {
 }
 
 int main(void) {
-    /* Number and kind, C, T, D and B. */
-    static const uint32_t entries[3][5] = {
-        {TASK + 1, 20, 100, 100, 0},
-        {TASK + 2, 30, 145, 145, 0},
-        {TASK + 3, 68, 150, 150, 0},
+    /* Number and kind, C, T, D, B and J. */
+    static const uint32_t entries[3][6] = {
+        {TASK + 1, 20, 100, 100, 0, 0},
+        {TASK + 2, 30, 145, 145, 0, 0},
+        {TASK + 3, 68, 150, 150, 0, 0},
     };
     static maiplur_session session;
-    size_t values[2];
+    size_t values[3];
     if (maiplur_session_open(&session, 2, values)) {
         return 1;
     }
@@ -88,6 +98,7 @@ int main(void) {
     show_map(&session);
     show_time(&session);
     try_changes(&session);
+    try_jitter(&session);
     try_refused(&session);
     return 0;
 }

@@ -1,4 +1,5 @@
-/* Writes the plan file of case P (docs/SPEC.md) to standard output, after the library has checked it and read it back.
+/* Writes the plan file of case P (docs/SPEC.md) to standard output, after the library has checked it and read it back. With
+ * the argument 2, the file is of the second edition.
  *
  * gcc -Iinclude examples/write.c target/staticlib/libplanner_c.a -o write && ./write > p.plan
  */
@@ -7,49 +8,52 @@
 #include <stdio.h>
 #include <string.h>
 
-enum { TASK = 1, ENTRIES = 3, WORDS = 5 * ENTRIES };
+enum { TASK = 1, ENTRIES = 3, ENTRY_WORDS = 6, WORDS = ENTRY_WORDS * ENTRIES };
 
 /* Packs a row (number, levels, entry count), or the first word of an entry (number, kind, r). */
 static uint32_t packed(uint32_t number, uint32_t middle, uint32_t high) {
     return number | middle << 16 | high << 24;
 }
 
-/* Sets a task with r = 0 and B = 0. */
-static void set_task(uint32_t entry[5], uint32_t number, uint32_t run, uint32_t period, uint32_t deadline) {
+/* Sets a task with r = 0, B = 0 and J = 0. */
+static void set_task(uint32_t entry[ENTRY_WORDS], uint32_t number, uint32_t run, uint32_t period, uint32_t deadline) {
     entry[0] = packed(number, TASK, 0);
     entry[1] = run;
     entry[2] = period;
     entry[3] = deadline;
     entry[4] = 0;
+    entry[5] = 0;
 }
 
-static int turned_back(const char *call, uint32_t refused, const size_t values[2]) {
+static int turned_back(const char *call, uint32_t refused, const size_t values[3]) {
     fprintf(stderr, "%s: refused %u row %zu entry %zu\n", call, (unsigned)refused, values[0], values[1]);
     return 1;
 }
 
-/* Whether a file holds exactly one row and these entries. */
-static int reads_back(const uint8_t *file, size_t length, uint32_t row, const uint32_t entries[WORDS]) {
+/* Whether a file of this edition holds exactly one row and these entries. */
+static int reads_back(const uint8_t *file, size_t length, uint32_t edition, uint32_t row, const uint32_t entries[WORDS]) {
     uint32_t rows[MAIPLUR_MOST_ROWS];
     static uint32_t words[MAIPLUR_MOST_WORDS];
-    size_t values[2];
+    size_t values[3];
     uint32_t refused = maiplur_read(file, length, rows, MAIPLUR_MOST_ROWS, words, MAIPLUR_MOST_WORDS, values);
     if (refused) {
         turned_back("read", refused, values);
         return 0;
     }
-    return values[0] == 1 && values[1] == ENTRIES && rows[0] == row && memcmp(words, entries, sizeof(uint32_t) * WORDS) == 0;
+    return values[0] == 1 && values[1] == ENTRIES && values[2] == edition && rows[0] == row &&
+           memcmp(words, entries, sizeof(uint32_t) * WORDS) == 0;
 }
 
-int main(void) {
+int main(int count, char **arguments) {
     static uint8_t file[MAIPLUR_MOST_FILE];
+    uint32_t edition = count > 1 && strcmp(arguments[1], "2") == 0 ? 2 : 1;
     uint32_t row = packed(7, 2, ENTRIES);
     uint32_t entries[WORDS];
-    size_t values[2];
+    size_t values[3];
     set_task(entries, 1, 20, 100, 100);
-    set_task(entries + 5, 2, 30, 145, 145);
-    set_task(entries + 10, 3, 68, 150, 150);
-    uint32_t refused = maiplur_write(&row, 1, entries, WORDS, file, sizeof file, values);
+    set_task(entries + ENTRY_WORDS, 2, 30, 145, 145);
+    set_task(entries + 2 * ENTRY_WORDS, 3, 68, 150, 150);
+    uint32_t refused = maiplur_write(edition, &row, 1, entries, WORDS, file, sizeof file, values);
     if (refused) {
         return turned_back("write", refused, values);
     }
@@ -58,7 +62,7 @@ int main(void) {
     if (refused) {
         return turned_back("check", refused, values);
     }
-    if (!reads_back(file, length, row, entries)) {
+    if (!reads_back(file, length, edition, row, entries)) {
         return 2; /* never: what was written is read back */
     }
     return fwrite(file, 1, length, stdout) == length && fflush(stdout) == 0 ? 0 : 3;

@@ -2,9 +2,9 @@
  *
  * Link with target/staticlib/libplanner_c.a, which `rt staticlib planner_c` makes (x86-64 Linux).
  *
- * Every function returns 0, or the number of a refusal (MAIPLUR_SHORT_FILE and so on), and leaves two values in `values`. If
- * it refuses, they are the row and the entry position, both from 0, and every other lent buffer is untouched. Otherwise the
- * comment at the function says what they are.
+ * Every function returns 0, or the number of a refusal (MAIPLUR_SHORT_FILE and so on), and leaves three values in `values`. If
+ * it refuses, they are the row and the entry position, both from 0, and 0, and every other lent buffer is untouched.
+ * Otherwise the comment at the function says what they are. A value that it does not name is 0.
  *
  * No function keeps a pointer, allocates, or has state of its own, and each returns on every input. The caller must ensure
  * what no function can check: each pointer points to as many elements as its length says (it is not NULL, even at length 0),
@@ -35,7 +35,7 @@ extern "C" {
 /* The refusals. */
 enum {
     MAIPLUR_SHORT_FILE = 1,     /* fewer than 8 bytes, or the contents cut off */
-    MAIPLUR_OPENING_BYTES = 2,
+    MAIPLUR_OPENING_BYTES = 2,  /* of neither edition; to the writer: no such edition */
     MAIPLUR_NODE_COUNT = 3,     /* no node, more than 32, or one of bytes 5 to 7 is not 0 */
     MAIPLUR_ROW = 4,            /* node numbers that do not rise, no level or more than 64, more than 64 entries */
     MAIPLUR_OFFSET = 5,
@@ -46,14 +46,15 @@ enum {
     MAIPLUR_SHORT_BUFFER = 10,
     MAIPLUR_NO_MAP = 11,
     MAIPLUR_OUTSIDE_LIST = 12,  /* a position or a group outside the session's list */
-    MAIPLUR_FULL_LIST = 13      /* insert into 64 entries */
+    MAIPLUR_FULL_LIST = 13,     /* insert into 64 entries */
+    MAIPLUR_JITTER = 14         /* J above D - C; to the writer: J above 0 in the first edition */
 };
 
 /* Buffers of these sizes always suffice. */
 enum {
     MAIPLUR_MOST_ROWS = 32,      /* rows of a plan, a word each */
-    MAIPLUR_MOST_WORDS = 10240,  /* words of a plan's entries, five each */
-    MAIPLUR_MOST_FILE = 41224,   /* bytes of a plan file */
+    MAIPLUR_MOST_WORDS = 12288,  /* words of a plan's entries, six each */
+    MAIPLUR_MOST_FILE = 49416,   /* bytes of a plan file */
     MAIPLUR_MOST_LEVELS = 64,    /* bytes of a map */
     MAIPLUR_MOST_TEXT = 115625   /* bytes of a listing */
 };
@@ -66,93 +67,98 @@ enum {
  *   T  the period                                             D <= T <= 1,000,000,000
  *   D  the deadline, counted from the release                 C <= D <= T
  *   B  how long less urgent work can block it                 0 <= B <= 1,000,000,000
+ *   J  how late a job may start after its period does         0 <= J <= D - C
  *   r  the remote sections that it calls in a period          0 <= r <= 15 for a task, 0 for a section
  *
  * A node is a controller: a number from 0 to 65,535, 1 to 64 priority levels, and up to 64 entries, most urgent first. A
  * plan is a row for each of 1 to 32 nodes, with rising numbers, and their entries.
  *
  * A plan in memory is words of 32 bits. A row is one word: the node number in its low 16 bits, then the levels and the entry
- * count in 8 bits each. An entry is five words. The first has the number in its low 16 bits, then the kind and r in 8 bits
- * each; the others are C, T, D and B. The entries of all nodes follow one another, in the order of the rows.
+ * count in 8 bits each. An entry is six words. The first has the number in its low 16 bits, then the kind and r in 8 bits
+ * each; the others are C, T, D, B and J. The entries of all nodes follow one another, in the order of the rows.
+ *
+ * A plan file is of edition 1, which has no J, or of edition 2. In memory both are the same: an entry read from a file of
+ * edition 1 has J 0.
  */
 
-/* Accepts a plan file, or refuses it (1 to 8) with the first of its checks that is met. Values: 0 and 0. It returns 0
+/* Accepts a plan file of either edition, or refuses it (1 to 8, 14) with the first of its checks that is met. It returns 0
  * exactly for the files of plans within the limits.
  */
-uint32_t maiplur_check(const uint8_t *file, size_t file_length, size_t values[2]);
+uint32_t maiplur_check(const uint8_t *file, size_t file_length, size_t values[3]);
 
-/* Reads a plan file into `rows` and `entries`, from their starts, and keeps what lies beyond. Values: how many rows and how
- * many entries. Refuses as maiplur_check does, then a buffer that is too short (10): `row_count` must be at least one word
- * for each row, `word_count` at least five for each entry. maiplur_write turns what it filled into the same bytes again.
+/* Reads a plan file into `rows` and `entries`, from their starts, and keeps what lies beyond. Values: how many rows, how
+ * many entries, and the edition, 1 or 2. Refuses as maiplur_check does, then a buffer that is too short (10): `row_count`
+ * must be at least one word for each row, `word_count` at least six for each entry. maiplur_write turns what it filled into
+ * the same bytes again, in that edition.
  */
 uint32_t maiplur_read(const uint8_t *file, size_t file_length, uint32_t *rows, size_t row_count, uint32_t *entries,
-                      size_t word_count, size_t values[2]);
+                      size_t word_count, size_t values[3]);
 
-/* Writes a plan as a file from the start of `file`, and keeps what lies beyond. Values: the file's length in bytes, and 0.
- * Refuses 3, 4 row by row, 6 if `word_count` is not five for each entry that the rows count, 7 and 8 entry by entry, then a
- * buffer that is too short (10). maiplur_read turns what it wrote into the same words again.
+/* Writes a plan as a file of edition 1 or 2 from the start of `file`, and keeps what lies beyond. Values: the file's length
+ * in bytes. Refuses another edition (2), 3, 4 row by row, 6 if `word_count` is not six for each entry that the rows count,
+ * 7, 8 and 14 entry by entry, then a buffer that is too short (10). In edition 1, a J above 0 is 14. maiplur_read turns
+ * what it wrote into the same words and the same edition again.
  */
-uint32_t maiplur_write(const uint32_t *rows, size_t row_count, const uint32_t *entries, size_t word_count, uint8_t *file,
-                       size_t file_length, size_t values[2]);
+uint32_t maiplur_write(uint32_t edition, const uint32_t *rows, size_t row_count, const uint32_t *entries,
+                       size_t word_count, uint8_t *file, size_t file_length, size_t values[3]);
 
 /* Maps the node with the given number: fills `levels` from its start with the level of each entry, one byte per entry, and
- * keeps what lies beyond. Values: how many levels the map uses, and 0. Refuses as maiplur_check does, then a number that the
- * plan does not have (9), a buffer with less than one byte per entry (10), and a node that has no map (11).
+ * keeps what lies beyond. Values: how many levels the map uses. Refuses as maiplur_check does, then a number that the plan
+ * does not have (9), a buffer with less than one byte per entry (10), and a node that has no map (11).
  */
 uint32_t maiplur_map(const uint8_t *file, size_t file_length, uint16_t number, uint8_t *levels, size_t level_count,
-                     size_t values[2]);
+                     size_t values[3]);
 
 /* Writes the listing of a plan file, or the one refusal line of a refused file, from the start of `text`, and keeps what
- * lies beyond. No zero byte follows the text. Values: the text's length in bytes, and 0. Refuses only a buffer that is too
- * short for the text (10). It takes less than 128 KiB of stack.
+ * lies beyond. No zero byte follows the text. Values: the text's length in bytes. Refuses only a buffer that is too short
+ * for the text (10). It takes less than 128 KiB of stack.
  */
-uint32_t maiplur_list(const uint8_t *file, size_t file_length, uint8_t *text, size_t text_length, size_t values[2]);
+uint32_t maiplur_list(const uint8_t *file, size_t file_length, uint8_t *text, size_t text_length, size_t values[3]);
 
 /* A session: one node that is changed entry by entry. The caller owns the struct and lends it to each call. A zeroed
  * struct is a session that is not open: every function except maiplur_session_open refuses it (4).
  *
  * Each function except maiplur_session_open first checks the session as a node of a file: 4 if its level count or its entry
- * count is outside the limits, then 7 and 8 entry by entry, with row 0 and the entry's position. A session that was opened
+ * count is outside the limits, then 7, 8 and 14 entry by entry, with row 0 and the entry's position. A session that was opened
  * and changed by these functions always passes. Then come the function's own checks, in the order of its comment.
  */
 typedef struct {
     uint32_t levels;      /* 1 to 64 */
     uint32_t count;       /* entries, 0 to 64 */
-    uint32_t words[320];  /* five to an entry, as above; zero beyond the entries */
+    uint32_t words[384];  /* six to an entry, as above; zero beyond the entries */
 } maiplur_session;
 
-/* Opens a session, whatever the struct holds: an empty node with `levels` levels. Values: 0 and 0. Refuses levels that
- * are not 1 to 64 (4).
+/* Opens a session, whatever the struct holds: an empty node with `levels` levels. Refuses levels that are not 1 to 64 (4).
  */
-uint32_t maiplur_session_open(maiplur_session *session, uint8_t levels, size_t values[2]);
+uint32_t maiplur_session_open(maiplur_session *session, uint8_t levels, size_t values[3]);
 
-/* Sets the level count. Values: 0 and 0. Refuses levels that are not 1 to 64 (4). */
-uint32_t maiplur_session_set_levels(maiplur_session *session, uint8_t levels, size_t values[2]);
+/* Sets the level count. Refuses levels that are not 1 to 64 (4). */
+uint32_t maiplur_session_set_levels(maiplur_session *session, uint8_t levels, size_t values[3]);
 
-/* Inserts an entry, given by its five words, before a position; the position just after the last entry appends. Values: 0
- * and 0. Refuses a position beyond that (12), a list of 64 entries (13), then the entry (7, 8) with row 0 and the position.
- * `entry` must lie outside the session: to insert one of its own entries, copy that entry first.
+/* Inserts an entry, given by its six words, before a position; the position just after the last entry appends. Refuses a
+ * position beyond that (12), a list of 64 entries (13), then the entry (7, 8, 14) with row 0 and the position. `entry` must
+ * lie outside the session: to insert one of its own entries, copy that entry first.
  */
-uint32_t maiplur_session_insert(maiplur_session *session, size_t position, const uint32_t entry[5], size_t values[2]);
+uint32_t maiplur_session_insert(maiplur_session *session, size_t position, const uint32_t entry[6], size_t values[3]);
 
-/* Removes the entry at a position. Values: 0 and 0. Refuses a position that has no entry (12). */
-uint32_t maiplur_session_remove(maiplur_session *session, size_t position, size_t values[2]);
+/* Removes the entry at a position. Refuses a position that has no entry (12). */
+uint32_t maiplur_session_remove(maiplur_session *session, size_t position, size_t values[3]);
 
-/* Replaces the entry at a position; `entry` as for maiplur_session_insert. Values: 0 and 0. Refuses a position that has
- * no entry (12), then the entry (7, 8) with row 0 and the position.
+/* Replaces the entry at a position; `entry` as for maiplur_session_insert. Refuses a position that has no entry (12), then
+ * the entry (7, 8, 14) with row 0 and the position.
  */
-uint32_t maiplur_session_replace(maiplur_session *session, size_t position, const uint32_t entry[5], size_t values[2]);
+uint32_t maiplur_session_replace(maiplur_session *session, size_t position, const uint32_t entry[6], size_t values[3]);
 
 /* Times the entry at `i` in the group from `first` to `last`; the entries before the group are more urgent. Values: the
- * completion time, or 0 if the entry is late (no completion time is 0), and the rounds. Refuses anything but
- * first <= i <= last with `last` in the list (12).
+ * completion time, or 0 if the entry is late (no completion time is 0), and the rounds. Refuses anything but first <= i <=
+ * last with `last` in the list (12).
  */
-uint32_t maiplur_session_time(const maiplur_session *session, size_t first, size_t last, size_t i, size_t values[2]);
+uint32_t maiplur_session_time(const maiplur_session *session, size_t first, size_t last, size_t i, size_t values[3]);
 
-/* Maps the node as maiplur_map does. Values: how many levels the map uses, and 0. Refuses a buffer with less than one byte
- * per entry (10), and a node that has no map (11).
+/* Maps the node as maiplur_map does. Values: how many levels the map uses. Refuses a buffer with less than one byte per
+ * entry (10), and a node that has no map (11).
  */
-uint32_t maiplur_session_map(const maiplur_session *session, uint8_t *levels, size_t level_count, size_t values[2]);
+uint32_t maiplur_session_map(const maiplur_session *session, uint8_t *levels, size_t level_count, size_t values[3]);
 
 #ifdef __cplusplus
 }

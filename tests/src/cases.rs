@@ -21,9 +21,15 @@ pub fn node(levels: u8, entries: &[Entry]) -> Node {
     }
 }
 
-/// The file of a plan with this node alone.
+/// The file of a plan with this node alone, of the first edition if every J is
+/// 0.
 pub fn file(node: Node) -> Vec<u8> {
-    encode(&Plan { nodes: vec![node] }).expect("the case is inside the limits")
+    encode(&Plan::of(vec![node])).expect("the case is inside the limits")
+}
+
+/// The file of a plan with this node alone, of the second edition.
+pub fn second_file(node: Node) -> Vec<u8> {
+    encode(&Plan::second(vec![node])).expect("the case is inside the limits")
 }
 
 /// Case P with another level count and another third deadline.
@@ -98,4 +104,30 @@ pub fn v() -> Node {
 /// Case E: an empty node.
 pub fn e() -> Node {
     node(3, &[])
+}
+
+/// The node with release jitter `j` on the entry at `position`.
+pub fn jittered(mut node: Node, position: usize, j: u64) -> Node {
+    node.entries[position].j = j;
+    node
+}
+
+/// A first entry that is released twice while the second one runs, if it
+/// starts late: 3/10/10 and 5/20/20, with J on the first.
+pub fn again(j: u64) -> Node {
+    let entries = [
+        Entry::task(1, 3, 10, 10).jittered(j),
+        Entry::task(2, 5, 20, 20),
+    ];
+    node(2, &entries)
+}
+
+/// A first entry that the second one finds twice on its own level: 2/10/10
+/// with J, and 3/30/30 with r 1.
+pub fn twice_ahead(j: u64) -> Node {
+    let entries = [
+        Entry::task(1, 2, 10, 10).jittered(j),
+        Entry::task(2, 3, 30, 30).calling(1),
+    ];
+    node(2, &entries)
 }

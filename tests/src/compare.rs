@@ -7,12 +7,12 @@
 pub mod session;
 
 use crate::ffi;
-use crate::file;
+use crate::file::{self, contents_end, entry_length};
 use crate::gen::budget;
 use crate::gen::buffers::known;
 use crate::listing;
 use crate::map::map_node;
-use crate::model::{Entry, Node, Plan, Row};
+use crate::model::{Edition, Entry, Node, Plan, Row};
 use crate::refusal::{Refusal, BUFFER};
 use crate::tally::Tally;
 use crate::words::{self, ENTRY_WORDS};
@@ -36,7 +36,7 @@ pub fn read(tally: &mut Tally, file: &[u8], row_room: usize, word_room: usize) {
     let mut due_rows = vec![Row::default(); row_room];
     let mut due_entries = vec![Entry::default(); word_room / ENTRY_WORDS];
     let due = tally.note(file::read(file, &mut due_rows, &mut due_entries));
-    let (row_count, entry_count) = due.unwrap_or((0, 0));
+    let (row_count, entry_count, _) = due.unwrap_or((0, 0, Edition::First));
     let (mut rows, mut entries) = (words::known(row_room), words::known(word_room));
     let answer = ffi::read(file, &mut rows, &mut entries);
     let lent = || format!("{row_room}, {word_room} words: read of {}", hex(file));
@@ -53,23 +53,27 @@ pub fn read(tally: &mut Tally, file: &[u8], row_room: usize, word_room: usize) {
     assert_eq!(entries, kept, "{}", lent());
 }
 
-/// Compares writing rows and entries into `room` bytes.
+/// Compares writing rows and entries into `room` bytes, in the edition with
+/// this number.
 pub fn write(
     tally: &mut Tally,
+    edition: u32,
     rows: &[Row],
     entries: &[Entry],
     room: usize,
 ) -> Result<usize, Refusal> {
     let mut due_buffer = known(room);
-    let due = tally.note(file::write(rows, entries, &mut due_buffer));
+    let due = tally.note(file::write(edition, rows, entries, &mut due_buffer));
     let mut buffer = known(room);
     let answer = ffi::write(
+        edition,
         &words::of_rows(rows),
         &words::of_entries(entries),
         &mut buffer,
     );
-    assert_eq!(answer, due, "{room} bytes: {rows:?} {entries:?}");
-    assert_eq!(buffer, due_buffer, "{room} bytes: {rows:?} {entries:?}");
+    let lent = || format!("{room} bytes, edition {edition}: {rows:?} {entries:?}");
+    assert_eq!(answer, due, "{}", lent());
+    assert_eq!(buffer, due_buffer, "{}", lent());
     due
 }
 
@@ -142,9 +146,18 @@ fn plan(tally: &mut Tally, plan: &Plan, bytes: &[u8]) {
         }
     }
     for room in rooms(bytes.len()) {
-        let _ = write(tally, &rows, &entries, room);
+        let _ = write(tally, plan.edition.number(), &rows, &entries, room);
     }
-    let mut short = Plan::default();
+    // In the other edition, and in one that does not exist.
+    let other = plan.edition.other();
+    let room = contents_end(rows.len()) + entries.len() * entry_length(other);
+    for edition in [other.number(), 3] {
+        let _ = write(tally, edition, &rows, &entries, room);
+    }
+    let mut short = Plan {
+        nodes: Vec::new(),
+        ..*plan
+    };
     for node in &plan.nodes {
         let done = budget::fits(&node.entries);
         tally.node(done);

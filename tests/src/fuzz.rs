@@ -45,7 +45,13 @@ impl Fuzz {
     /// A run that starts with the kept files and a few generated ones.
     pub fn new(mut rng: Rng) -> Fuzz {
         let mut pool = corpus::kept();
-        for draw in [plans::small, plans::wide, plans::tight, plans::at_limits] {
+        for draw in [
+            plans::small,
+            plans::wide,
+            plans::tight,
+            plans::queued,
+            plans::at_limits,
+        ] {
             for _ in 0..5 {
                 pool.push(encode(&draw(&mut rng)).expect("a good plan"));
             }

@@ -1,20 +1,23 @@
-//! A session in lent memory: its level count, its entry count, and five words
+//! A session in lent memory: its level count, its entry count, and six words
 //! for each of 64 entries. Every word beyond the last entry is zero.
 //!
 //! Memory from elsewhere may hold anything. Every operation except opening
-//! first checks it as a node of a file: 4, then 7 and 8 with the place.
+//! first checks it as a node of a file: 4, then 7, 8 and 14 with the place.
 
 use crate::model::{Entry, MAX_ENTRIES};
 use crate::refusal::{Refusal, ROW};
 use crate::session::{Op, Reply, Session};
 use crate::words::{entry_of, entry_words, ENTRY_WORDS};
 
+/// How many words a session has.
+pub const SESSION_WORDS: usize = 2 + MAX_ENTRIES * ENTRY_WORDS;
+
 /// The words of a session.
-pub type Words = [u32; 2 + MAX_ENTRIES * ENTRY_WORDS];
+pub type Words = [u32; SESSION_WORDS];
 
 /// The words of an open session.
 pub fn words_of(session: &Session) -> Words {
-    let mut words = [0; 2 + MAX_ENTRIES * ENTRY_WORDS];
+    let mut words = [0; SESSION_WORDS];
     words[0] = u32::from(session.levels());
     words[1] = session.entries().len() as u32;
     let slots = words[2..].chunks_exact_mut(ENTRY_WORDS);

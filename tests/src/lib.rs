@@ -6,7 +6,8 @@
 //!
 //! - [`mod@file`], [`map`], [`listing`] and [`session`] implement that text, on
 //!   top of [`timing`]. [`assignments`] lists assignments to check maps with,
-//!   and [`lent`] keeps a session in lent memory.
+//!   and [`lent`] keeps a session in lent memory. [`punctual`] is what all of it
+//!   was while no entry started late.
 //! - [`cases`] has the cases of that text, and [`gen`] generates others.
 //!   [`options`] sets the seed and the size of a run.
 //! - [`ffi`] calls the proved library, and [`words`] has the form in which it
@@ -35,6 +36,7 @@ pub mod mutate;
 pub mod options;
 pub mod plain;
 pub mod programs;
+pub mod punctual;
 pub mod refusal;
 pub mod rng;
 pub mod sequences;

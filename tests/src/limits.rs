@@ -3,9 +3,9 @@
 //! File, writer and session share them, each in its own order.
 
 use crate::model::{Entry, Row, MAX_ENTRIES, MAX_LEVELS, MAX_R, MAX_TICKS, SECTION, TASK};
-use crate::refusal::{Refusal, KIND, ROW, TICKS};
+use crate::refusal::{Refusal, JITTER, KIND, ROW, TICKS};
 
-/// Checks 7 and 8 on the entry at `position` of row `row`.
+/// Checks 7, 8 and 14 on the entry at `position` of row `row`.
 pub fn check_entry(entry: &Entry, row: usize, position: usize) -> Result<(), Refusal> {
     if !kind_fits(entry) {
         return Err(Refusal::at_entry(KIND, row, position));
@@ -13,7 +13,20 @@ pub fn check_entry(entry: &Entry, row: usize, position: usize) -> Result<(), Ref
     if !ticks_fit(entry) {
         return Err(Refusal::at_entry(TICKS, row, position));
     }
+    if !jitter_fits(entry) {
+        return Err(Refusal::at_entry(JITTER, row, position));
+    }
     Ok(())
+}
+
+/// Check 14 on an entry to be written in the first edition, which has no room
+/// for J.
+pub fn check_no_jitter(entry: &Entry, row: usize, position: usize) -> Result<(), Refusal> {
+    if entry.j == 0 {
+        Ok(())
+    } else {
+        Err(Refusal::at_entry(JITTER, row, position))
+    }
 }
 
 /// Check 4 on the row at `index`; `last` is the number of the row before it.
@@ -51,6 +64,11 @@ fn kind_fits(entry: &Entry) -> bool {
 fn ticks_fit(entry: &Entry) -> bool {
     let Entry { c, t, d, b, .. } = *entry;
     1 <= c && c <= d && d <= t && t <= MAX_TICKS && b <= MAX_TICKS
+}
+
+/// Of an entry whose other ticks fit.
+fn jitter_fits(entry: &Entry) -> bool {
+    entry.j <= entry.d - entry.c
 }
 
 #[cfg(test)]
@@ -98,6 +116,35 @@ mod tests {
             ..Entry::task(1, 6, 5, 5)
         };
         assert_eq!(check_entry(&both, 2, 3), Err(Refusal::at_entry(KIND, 2, 3)));
+    }
+
+    #[test]
+    fn jitter_at_the_limits() {
+        let number = |j| check_entry(&Entry::task(1, 3, 12, 10).jittered(j), 0, 0);
+        for j in [0, 1, 6, 7] {
+            assert_eq!(number(j), Ok(()), "{j}");
+        }
+        for j in [8, 9, 10, TOP, 4_294_967_295, u64::MAX] {
+            assert_eq!(number(j), Err(Refusal::at_entry(JITTER, 0, 0)), "{j}");
+        }
+        let longest = Entry::task(1, 1, TOP, TOP);
+        assert!(check_entry(&longest.jittered(TOP - 1), 0, 0).is_ok());
+        assert!(check_entry(&longest.jittered(TOP), 0, 0).is_err());
+        let no_room = Entry::task(1, TOP, TOP, TOP);
+        assert!(check_entry(&no_room, 0, 0).is_ok());
+        assert!(check_entry(&no_room.jittered(1), 0, 0).is_err());
+    }
+
+    #[test]
+    fn kind_and_ticks_come_before_jitter() {
+        let ticks = Entry::task(1, 6, 5, 5).jittered(9);
+        let refused = |entry, number| {
+            let due = Refusal::at_entry(number, 2, 3);
+            assert_eq!(check_entry(&entry, 2, 3), Err(due));
+        };
+        refused(ticks, TICKS);
+        refused(Entry { kind: 3, ..ticks }, KIND);
+        refused(Entry { c: 1, ..ticks }, JITTER);
     }
 
     #[test]

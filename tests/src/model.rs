@@ -15,6 +15,44 @@ pub const TASK: u8 = 1;
 /// Kind byte of a global critical section.
 pub const SECTION: u8 = 2;
 
+/// The editions of the plan file.
+#[derive(Clone, Copy, Debug, Default, PartialEq, Eq, Hash)]
+pub enum Edition {
+    /// Without release jitter.
+    #[default]
+    First,
+    /// With the release jitter of each entry.
+    Second,
+}
+
+impl Edition {
+    /// Both editions.
+    pub const BOTH: [Edition; 2] = [Edition::First, Edition::Second];
+
+    /// Its number, by which a caller names it.
+    pub fn number(self) -> u32 {
+        match self {
+            Edition::First => 1,
+            Edition::Second => 2,
+        }
+    }
+
+    /// The edition with this number, if there is one.
+    pub fn numbered(number: u32) -> Option<Edition> {
+        Edition::BOTH
+            .into_iter()
+            .find(|edition| edition.number() == number)
+    }
+
+    /// The other edition.
+    pub fn other(self) -> Edition {
+        match self {
+            Edition::First => Edition::Second,
+            Edition::Second => Edition::First,
+        }
+    }
+}
+
 /// A task or a global critical section.
 ///
 /// The ticks have wide types, so that tests can try values far outside the
@@ -35,10 +73,12 @@ pub struct Entry {
     pub d: u64,
     /// Blocking.
     pub b: u64,
+    /// Release jitter: how long after the start of its period it may begin.
+    pub j: u64,
 }
 
 impl Entry {
-    /// A task with the given C, T and D; r and B are 0.
+    /// A task with the given C, T and D; r, B and J are 0.
     pub const fn task(number: u16, c: u64, t: u64, d: u64) -> Entry {
         Entry {
             number,
@@ -48,6 +88,7 @@ impl Entry {
             t,
             d,
             b: 0,
+            j: 0,
         }
     }
 
@@ -59,6 +100,11 @@ impl Entry {
     /// The same entry with `r` remote sections.
     pub const fn calling(self, r: u8) -> Entry {
         Entry { r, ..self }
+    }
+
+    /// The same entry with release jitter `j`.
+    pub const fn jittered(self, j: u64) -> Entry {
+        Entry { j, ..self }
     }
 }
 
@@ -96,14 +142,42 @@ impl Node {
     }
 }
 
-/// Nodes in the order of the contents.
+/// Nodes in the order of the contents, and the edition of their file.
 #[derive(Clone, Debug, Default, PartialEq, Eq)]
 pub struct Plan {
+    /// The edition that it came in, in which it is written again.
+    pub edition: Edition,
     /// The nodes.
     pub nodes: Vec<Node>,
 }
 
 impl Plan {
+    /// A plan of the first edition.
+    pub fn first(nodes: Vec<Node>) -> Plan {
+        let edition = Edition::First;
+        Plan { edition, nodes }
+    }
+
+    /// A plan of the second edition.
+    pub fn second(nodes: Vec<Node>) -> Plan {
+        let edition = Edition::Second;
+        Plan { edition, nodes }
+    }
+
+    /// A plan of the first edition if every J is 0, else of the second.
+    pub fn of(nodes: Vec<Node>) -> Plan {
+        let plan = Plan::first(nodes);
+        match plan.is_punctual() {
+            true => plan,
+            false => Plan::second(plan.nodes),
+        }
+    }
+
+    /// Whether every J is 0.
+    pub fn is_punctual(&self) -> bool {
+        self.entries().iter().all(|entry| entry.j == 0)
+    }
+
     /// The rows of the contents.
     pub fn rows(&self) -> Vec<Row> {
         self.nodes.iter().map(Node::row).collect()
@@ -116,7 +190,7 @@ impl Plan {
 
     /// The plan of these rows; `entries` must have as many entries as they
     /// count.
-    pub fn from_parts(rows: &[Row], entries: &[Entry]) -> Plan {
+    pub fn from_parts(edition: Edition, rows: &[Row], entries: &[Entry]) -> Plan {
         let mut rest = entries.iter().copied();
         let nodes = rows
             .iter()
@@ -126,6 +200,6 @@ impl Plan {
                 entries: rest.by_ref().take(usize::from(row.entries)).collect(),
             })
             .collect();
-        Plan { nodes }
+        Plan { edition, nodes }
     }
 }

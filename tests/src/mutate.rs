@@ -1,6 +1,9 @@
 //! Random changes to files, for the fuzz run.
 
-use crate::file::{contents_end, ENTRY_BYTES, HEAD_BYTES, ROW_BYTES};
+use crate::file::{
+    contents_end, edition_of, entry_length, FIRST_ENTRY, HEAD_BYTES, ROW_BYTES, SECOND_ENTRY,
+};
+use crate::model::Edition;
 use crate::rng::Rng;
 
 /// Numbers near the limits of some field.
@@ -40,7 +43,7 @@ fn change(rng: &mut Rng, file: &mut Vec<u8>, other: &[u8]) {
         return;
     }
     let at = rng.index(file.len());
-    match rng.below(8) {
+    match rng.below(10) {
         0 => file[at] = rng.word() as u8,
         1 => file[at] ^= 1 << rng.below(8),
         2 => file[at] = rng.pick(&TELLING) as u8,
@@ -48,11 +51,40 @@ fn change(rng: &mut Rng, file: &mut Vec<u8>, other: &[u8]) {
         4 => put_word(file, at / 4 * 4, rng.below(200) as u32),
         5 => file.truncate(at),
         6 => {
-            let more = rng.count(1, ENTRY_BYTES);
+            let more = rng.count(1, SECOND_ENTRY);
             file.resize(file.len() + more, 0);
         }
+        7 => change_edition(file),
+        8 => change_jitter(rng, file),
         _ => take_over(rng, file, other),
     }
+}
+
+/// Exchanges the opening bytes of the two editions.
+fn change_edition(file: &mut [u8]) {
+    if let Some(byte) = file.get_mut(3) {
+        *byte = match *byte {
+            0x31 => 0x32,
+            _ => 0x31,
+        };
+    }
+}
+
+/// Sets J of an entry of the second edition to D - C, or a tick more or less.
+fn change_jitter(rng: &mut Rng, file: &mut [u8]) {
+    if file.len() < HEAD_BYTES {
+        return;
+    }
+    let bodies = contents_end(usize::from(file[4])).min(file.len());
+    let entries = file[bodies..].as_chunks_mut::<SECOND_ENTRY>().0;
+    if entries.is_empty() {
+        return;
+    }
+    let at = rng.index(entries.len());
+    let words = entries[at].as_chunks_mut::<4>().0;
+    let [c, d] = [1, 3].map(|field| u32::from_le_bytes(words[field]));
+    let j = d.wrapping_sub(c).wrapping_add(rng.pick(&[0, 1, u32::MAX]));
+    words[5] = j.to_le_bytes();
 }
 
 fn put_word(file: &mut [u8], at: usize, value: u32) {
@@ -66,25 +98,26 @@ fn take_over(rng: &mut Rng, file: &mut [u8], other: &[u8]) {
     if other.is_empty() {
         return;
     }
-    let length = rng.pick(&[4, ROW_BYTES, ENTRY_BYTES]);
+    let length = rng.pick(&[4, ROW_BYTES, FIRST_ENTRY, SECOND_ENTRY]);
     let (to, from) = (rng.index(file.len()), rng.index(other.len()));
     for (target, byte) in file[to..].iter_mut().zip(&other[from..]).take(length) {
         *target = *byte;
     }
 }
 
-/// Makes the offsets and the length fit the counts, so that more of the changed
-/// files pass the checks of the contents.
+/// Makes the offsets and the length fit the counts and the edition, so that more
+/// of the changed files pass the checks of the contents.
 fn lay_out(file: &mut Vec<u8>) {
     if file.len() < HEAD_BYTES || file.len() < contents_end(usize::from(file[4])) {
         return;
     }
     let nodes = usize::from(file[4]);
+    let length = entry_length(edition_of(file).unwrap_or(Edition::First));
     let mut offset = contents_end(nodes);
     for index in 0..nodes {
         let at = contents_end(index);
         put_word(file, at + 4, offset as u32);
-        offset += usize::from(file[at + 3].min(64)) * ENTRY_BYTES;
+        offset += usize::from(file[at + 3].min(64)) * length;
     }
     file.resize(offset, 1);
 }

@@ -25,6 +25,7 @@ struct Entry {
     t: u32,
     d: u32,
     b: u32,
+    j: u32,
 }
 
 /// A node, read from a file.
@@ -40,7 +41,17 @@ fn word(file: &[u8], at: usize) -> u32 {
     u32::from_le_bytes([file[at], file[at + 1], file[at + 2], file[at + 3]])
 }
 
-fn entry(bytes: &[u8; 20]) -> Entry {
+/// How many bytes an entry has, and the edition's number.
+fn edition(file: &[u8]) -> Option<(usize, u32)> {
+    match file.get(..4)? {
+        b"LMP1" => Some((20, 1)),
+        b"LMP2" => Some((24, 2)),
+        _ => None,
+    }
+}
+
+/// The entry in the bytes of a file; N is 20 or 24.
+fn entry<const N: usize>(bytes: &[u8; N]) -> Entry {
     Entry {
         number: u16::from_le_bytes([bytes[0], bytes[1]]),
         kind: bytes[2],
@@ -49,6 +60,7 @@ fn entry(bytes: &[u8; 20]) -> Entry {
         t: word(bytes, 8),
         d: word(bytes, 12),
         b: word(bytes, 16),
+        j: if N == 24 { word(bytes, 20) } else { 0 },
     }
 }
 
@@ -58,15 +70,25 @@ fn entry_holds(e: &Entry) -> bool {
         2 => e.r == 0,
         _ => false,
     };
-    kind && 1 <= e.c && e.c <= e.d && e.d <= e.t && e.t <= TICKS && e.b <= TICKS
+    let times = 1 <= e.c && e.c <= e.d && e.d <= e.t && e.t <= TICKS && e.b <= TICKS;
+    kind && times && e.j <= e.d - e.c
+}
+
+/// Whether all entries of the bodies are within the limits.
+fn bodies_hold<const N: usize>(bodies: &[u8]) -> bool {
+    let entries = bodies.as_chunks::<N>().0;
+    entries.iter().all(|bytes| entry_holds(&entry(bytes)))
 }
 
 /// Whether the file is accepted.
 #[inline(never)]
 pub fn check(file: &[u8]) -> bool {
-    if file.len() < 8 || &file[..4] != b"LMP1" {
+    if file.len() < 8 {
         return false;
     }
+    let Some((length, _)) = edition(file) else {
+        return false;
+    };
     let nodes = usize::from(file[4]);
     if !(1..=32).contains(&nodes) || file[5..8] != [0; 3] || file.len() < 8 + nodes * 8 {
         return false;
@@ -82,25 +104,31 @@ pub fn check(file: &[u8]) -> bool {
             return false;
         }
         least = number + 1;
-        required += usize::from(row[3]) * 20;
+        required += usize::from(row[3]) * length;
     }
     if file.len() != required {
         return false;
     }
     let bodies = &file[8 + nodes * 8..];
-    let entries = bodies.as_chunks::<20>().0;
-    entries.iter().all(|bytes| entry_holds(&entry(bytes)))
+    if length == 20 {
+        bodies_hold::<20>(bodies)
+    } else {
+        bodies_hold::<24>(bodies)
+    }
 }
 
-/// Reads an accepted file into words, and returns how many rows and entries.
+/// Reads an accepted file into words, and returns how many rows and entries,
+/// and the edition.
 #[inline(never)]
-pub fn read(file: &[u8], rows: &mut [u32], entries: &mut [u32]) -> Option<(usize, usize)> {
+pub fn read(file: &[u8], rows: &mut [u32], entries: &mut [u32]) -> Option<(usize, usize, u32)> {
     if !check(file) {
         return None;
     }
+    let (length, edition) = edition(file)?;
     let nodes = usize::from(file[4]);
     let bodies = &file[8 + nodes * 8..];
-    if rows.len() < nodes || entries.len() < bodies.len() / 4 {
+    let count = bodies.len() / length;
+    if rows.len() < nodes || entries.len() < count * 6 {
         return None;
     }
     for (row, bytes) in rows
@@ -109,15 +137,30 @@ pub fn read(file: &[u8], rows: &mut [u32], entries: &mut [u32]) -> Option<(usize
     {
         *row = word(bytes, 0);
     }
-    for (target, bytes) in entries.iter_mut().zip(bodies.as_chunks::<4>().0) {
-        *target = u32::from_le_bytes(*bytes);
+    if edition == 1 {
+        read_bodies::<20>(bodies, entries);
+    } else {
+        read_bodies::<24>(bodies, entries);
     }
-    Some((nodes, bodies.len() / 20))
+    Some((nodes, count, edition))
 }
 
-/// Writes words as a file, and returns its length.
-#[inline(never)]
-pub fn write(rows: &[u32], words: &[u32], file: &mut [u8]) -> Option<usize> {
+/// Reads each entry into six words; in the first edition the last one is 0.
+fn read_bodies<const N: usize>(bodies: &[u8], entries: &mut [u32]) {
+    let entries = entries.as_chunks_mut::<6>().0;
+    for (target, bytes) in entries.iter_mut().zip(bodies.as_chunks::<N>().0) {
+        for (at, word) in target.iter_mut().enumerate() {
+            *word = if at * 4 < N {
+                self::word(bytes, at * 4)
+            } else {
+                0
+            };
+        }
+    }
+}
+
+/// How many entries good rows count.
+fn count_entries(rows: &[u32]) -> Option<usize> {
     if !(1..=32).contains(&rows.len()) {
         return None;
     }
@@ -130,24 +173,50 @@ pub fn write(rows: &[u32], words: &[u32], file: &mut [u8]) -> Option<usize> {
         least = number + 1;
         count += entries as usize;
     }
-    let entries = words.as_chunks::<5>().0;
-    if words.len() != count * 5 || !entries.iter().all(|e| entry_holds(&session::entry(e))) {
+    Some(count)
+}
+
+/// Writes words as a file of an edition, and returns its length.
+#[inline(never)]
+pub fn write(edition: u32, rows: &[u32], words: &[u32], file: &mut [u8]) -> Option<usize> {
+    let (opening, length) = match edition {
+        1 => (b"LMP1", 20),
+        2 => (b"LMP2", 24),
+        _ => return None,
+    };
+    let count = count_entries(rows)?;
+    let entries = words.as_chunks::<6>().0;
+    if words.len() != count * 6 || !entries.iter().all(|e| entry_holds(&session::entry(e))) {
+        return None;
+    }
+    if edition == 1 && entries.iter().any(|e| e[5] > 0) {
         return None;
     }
     let bodies = 8 + rows.len() * 8;
-    let file = file.get_mut(..bodies + words.len() * 4)?;
-    file[..4].copy_from_slice(b"LMP1");
+    let file = file.get_mut(..bodies + count * length)?;
+    file[..4].copy_from_slice(opening);
     file[4..8].copy_from_slice(&[rows.len() as u8, 0, 0, 0]);
     let mut offset = bodies as u32;
     for (target, row) in file[8..bodies].as_chunks_mut::<8>().0.iter_mut().zip(rows) {
         target[..4].copy_from_slice(&row.to_le_bytes());
         target[4..].copy_from_slice(&offset.to_le_bytes());
-        offset += (row >> 24) * 20;
+        offset += (row >> 24) * length as u32;
     }
-    for (target, word) in file[bodies..].as_chunks_mut::<4>().0.iter_mut().zip(words) {
-        *target = word.to_le_bytes();
+    if edition == 1 {
+        write_bodies::<20>(entries, &mut file[bodies..]);
+    } else {
+        write_bodies::<24>(entries, &mut file[bodies..]);
     }
     Some(file.len())
+}
+
+/// Writes as many words of each entry as the edition has.
+fn write_bodies<const N: usize>(entries: &[[u32; 6]], bodies: &mut [u8]) {
+    for (target, words) in bodies.as_chunks_mut::<N>().0.iter_mut().zip(entries) {
+        for (bytes, word) in target.as_chunks_mut::<4>().0.iter_mut().zip(words) {
+            *bytes = word.to_le_bytes();
+        }
+    }
 }
 
 fn load(file: &[u8], row: usize) -> Node {
@@ -159,13 +228,19 @@ fn load(file: &[u8], row: usize) -> Node {
         entries: [Entry::default(); MOST],
     };
     let body = word(file, at + 4) as usize;
-    for (target, bytes) in node.entries[..node.count]
-        .iter_mut()
-        .zip(file[body..].as_chunks::<20>().0)
-    {
-        *target = entry(bytes);
+    let entries = &mut node.entries[..node.count];
+    if file[3] == b'1' {
+        load_entries::<20>(&file[body..], entries);
+    } else {
+        load_entries::<24>(&file[body..], entries);
     }
     node
+}
+
+fn load_entries<const N: usize>(body: &[u8], entries: &mut [Entry]) {
+    for (target, bytes) in entries.iter_mut().zip(body.as_chunks::<N>().0) {
+        *target = entry(bytes);
+    }
 }
 
 /// The completion time and the rounds of the entry at `i`, in the group from
@@ -174,16 +249,17 @@ fn completion(entries: &[Entry], first: usize, last: usize, i: usize) -> Option<
     let own = entries[i];
     let runs: u64 = entries[..=last].iter().map(|e| u64::from(e.c)).sum();
     let mut t = u64::from(own.b) + runs;
+    let limit = u64::from(own.d - own.j);
     let mut rounds = 0;
-    while t <= u64::from(own.d) {
+    while t <= limit {
         let now = t as u32;
         let mut sum = u64::from(own.c) + u64::from(own.b);
         for e in &entries[..first] {
-            sum += u64::from(e.c) * u64::from((now + (e.t - 1)) / e.t);
+            sum += u64::from(e.c) * u64::from((now + e.j + (e.t - 1)) / e.t);
         }
         for (j, e) in entries[..=last].iter().enumerate().skip(first) {
             if j != i {
-                let runs = ((now + (e.t - 1)) / e.t).min(own.r + 1);
+                let runs = ((now + e.j + (e.t - 1)) / e.t).min(own.r + 1);
                 sum += u64::from(e.c) * u64::from(runs);
             }
         }
@@ -196,11 +272,11 @@ fn completion(entries: &[Entry], first: usize, last: usize, i: usize) -> Option<
     None
 }
 
-/// One past the last entry with D < B + sum of C over the entries before `end`,
-/// or 0.
+/// One past the last entry with D - J < B + sum of C over the entries before
+/// `end`, or 0.
 fn start_bound(entries: &[Entry], end: usize) -> usize {
     let runs: u64 = entries[..end].iter().map(|e| u64::from(e.c)).sum();
-    let late = |e: &Entry| u64::from(e.d) < u64::from(e.b) + runs;
+    let late = |e: &Entry| u64::from(e.d - e.j) < u64::from(e.b) + runs;
     entries[..end].iter().rposition(late).map_or(0, |i| i + 1)
 }
 

@@ -4,7 +4,7 @@ use std::fmt;
 
 /// Fewer than 8 bytes, or the contents cut off.
 pub const CUT_OFF: u8 = 1;
-/// The opening bytes differ.
+/// The opening bytes differ, or the writer is given no edition.
 pub const OPENING: u8 = 2;
 /// Node count 0 or above 32, or a zero byte isn't 0.
 pub const COUNT: u8 = 3;
@@ -28,13 +28,15 @@ pub const NO_MAP: u8 = 11;
 pub const POSITION: u8 = 12;
 /// The session is full.
 pub const FULL: u8 = 13;
+/// J is outside its range, or has no room in the edition to be written.
+pub const JITTER: u8 = 14;
 /// How many numbers there are.
-pub const NUMBERS: u8 = 13;
+pub const NUMBERS: u8 = 14;
 
 /// Why a call was refused, and where.
 #[derive(Clone, Copy, Debug, PartialEq, Eq, Hash)]
 pub struct Refusal {
-    /// The number in the table, 1 to 13.
+    /// The number in the table, 1 to 14.
     pub number: u8,
     /// Row of the contents, from 0.
     pub row: usize,

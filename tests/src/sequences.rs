@@ -1,6 +1,6 @@
 //! Sequences of session operations, and their form as text.
 
-use crate::lent::Words;
+use crate::lent::{Words, SESSION_WORDS};
 use crate::session::Op;
 use crate::words::{entry_of, entry_words};
 use std::fmt::Write;
@@ -8,7 +8,7 @@ use std::fmt::Write;
 /// The memory lent to the first operation, and the operations.
 #[derive(Clone, Debug, PartialEq, Eq)]
 pub struct Sequence {
-    /// All 322 words.
+    /// All 386 words.
     pub start: Words,
     /// The operations.
     pub ops: Vec<Op>,
@@ -16,7 +16,7 @@ pub struct Sequence {
 
 impl Sequence {
     /// The words on one line, without the zeros at the end, then a line for
-    /// each operation. An entry is its five words.
+    /// each operation. An entry is its six words.
     pub fn to_text(&self) -> String {
         let used = self.start.iter().rposition(|word| *word != 0);
         let words = &self.start[..used.map_or(0, |last| last + 1)];
@@ -30,7 +30,7 @@ impl Sequence {
     /// The sequence in a text, which must be well formed.
     pub fn from_text(text: &str) -> Sequence {
         let mut sequence = Sequence {
-            start: [0; 322],
+            start: [0; SESSION_WORDS],
             ops: Vec::new(),
         };
         for line in text.lines() {
@@ -73,8 +73,8 @@ fn op_of(name: &str, numbers: &[usize]) -> Op {
         ("remove", &[position]) => Op::Remove(position),
         ("map", &[]) => Op::Map,
         ("time", &[first, last, i]) => Op::Time(first, last, i),
-        ("insert" | "replace", &[position, head, c, t, d, b]) => {
-            let entry = entry_of(&[head, c, t, d, b].map(word));
+        ("insert" | "replace", &[position, head, c, t, d, b, j]) => {
+            let entry = entry_of(&[head, c, t, d, b, j].map(word));
             match name {
                 "insert" => Op::Insert(position, entry),
                 _ => Op::Replace(position, entry),

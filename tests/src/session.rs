@@ -54,7 +54,7 @@ impl Session {
     }
 
     /// A session that holds a node, which is checked as a node of a file: 4,
-    /// then 7 and 8 entry by entry.
+    /// then 7, 8 and 14 entry by entry.
     pub fn holding(levels: usize, entries: &[Entry]) -> Result<Session, Refusal> {
         let mut session = Session::open(levels)?;
         if entries.len() > MAX_ENTRIES {
@@ -77,7 +77,7 @@ impl Session {
         &self.entries
     }
 
-    /// Inserts before `position`, or appends. Checks 12, 13, 7, 8.
+    /// Inserts before `position`, or appends. Checks 12, 13, 7, 8, 14.
     pub fn insert(&mut self, position: usize, entry: Entry) -> Result<(), Refusal> {
         if position > self.entries.len() {
             return Err(Refusal::plain(POSITION));
@@ -97,7 +97,7 @@ impl Session {
         Ok(())
     }
 
-    /// Replaces the entry at `position`. Checks 12, 7, 8.
+    /// Replaces the entry at `position`. Checks 12, 7, 8, 14.
     pub fn replace(&mut self, position: usize, entry: Entry) -> Result<(), Refusal> {
         self.check_position(position)?;
         check_entry(&entry, 0, position)?;

@@ -2,7 +2,7 @@
 //!
 //! `levels` gives a level to every entry of the node; a smaller level is more
 //! urgent. With ticks inside the limits and t at most D, each term of the
-//! demand is at most t + C, so 64 bits hold every sum.
+//! demand is below t + J + T, so 64 bits hold every sum.
 
 use crate::model::Entry;
 use std::cmp::Ordering;
@@ -38,6 +38,12 @@ impl Timing {
     }
 }
 
+/// How often an entry is released in `t` ticks, at most: it may have begun
+/// up to J ticks after the start of its period.
+fn releases(entry: &Entry, t: u64) -> u64 {
+    (t + entry.j).div_ceil(entry.t)
+}
+
 /// The demand of entry `i` at time `t`, which is at least 1.
 pub fn demand(entries: &[Entry], levels: &[u8], i: usize, t: u64) -> u64 {
     let own = &entries[i];
@@ -45,8 +51,8 @@ pub fn demand(entries: &[Entry], levels: &[u8], i: usize, t: u64) -> u64 {
     let mut sum = own.c + own.b;
     for (j, other) in entries.iter().enumerate() {
         match levels[j].cmp(&levels[i]) {
-            Ordering::Less => sum += other.c * t.div_ceil(other.t),
-            Ordering::Equal if j != i => sum += other.c * t.div_ceil(other.t).min(most_runs),
+            Ordering::Less => sum += other.c * releases(other, t),
+            Ordering::Equal if j != i => sum += other.c * releases(other, t).min(most_runs),
             _ => {}
         }
     }
@@ -62,11 +68,18 @@ pub fn initial_time(entries: &[Entry], levels: &[u8], i: usize) -> u64 {
     entries[i].b + runs
 }
 
-/// The completion time test of entry `i`.
+/// The last time by which an entry may end, counted from its start: if it
+/// began J late, that is its deadline.
+pub fn limit(entry: &Entry) -> u64 {
+    entry.d - entry.j
+}
+
+/// The completion time test of entry `i`. The completion time is counted from
+/// its start, without its J.
 pub fn completion(entries: &[Entry], levels: &[u8], i: usize) -> Timing {
     let mut rounds = 0;
     let mut t = initial_time(entries, levels, i);
-    while t <= entries[i].d {
+    while t <= limit(&entries[i]) {
         let needed = demand(entries, levels, i, t);
         rounds += 1;
         match needed.cmp(&t) {
@@ -82,7 +95,7 @@ pub fn completion(entries: &[Entry], levels: &[u8], i: usize) -> Timing {
 pub fn rounds_bound(entries: &[Entry], levels: &[u8], i: usize) -> u64 {
     let further: u64 = (0..entries.len())
         .filter(|&j| j != i && levels[j] <= levels[i])
-        .map(|j| entries[i].d.div_ceil(entries[j].t) - 1)
+        .map(|j| (entries[i].d + entries[j].j).div_ceil(entries[j].t) - 1)
         .sum();
     1 + further
 }

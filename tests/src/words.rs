@@ -3,14 +3,14 @@
 use crate::model::{Entry, Row};
 
 /// Words of one entry.
-pub const ENTRY_WORDS: usize = 5;
+pub const ENTRY_WORDS: usize = 6;
 
 /// A row: number, levels and entry count from the low bits up.
 pub fn row_word(row: &Row) -> u32 {
     packed(row.number, row.levels, row.entries)
 }
 
-/// An entry: number, kind and r, then C, T, D and B.
+/// An entry: number, kind and r, then C, T, D, B and J.
 pub fn entry_words(entry: &Entry) -> [u32; ENTRY_WORDS] {
     let ticks =
         |value: u64| u32::try_from(value).expect("a word has no room for ticks above 2^32 - 1");
@@ -20,12 +20,13 @@ pub fn entry_words(entry: &Entry) -> [u32; ENTRY_WORDS] {
         ticks(entry.t),
         ticks(entry.d),
         ticks(entry.b),
+        ticks(entry.j),
     ]
 }
 
-/// The entry that five words hold.
+/// The entry that six words hold.
 pub fn entry_of(words: &[u32; ENTRY_WORDS]) -> Entry {
-    let [head, c, t, d, b] = *words;
+    let [head, c, t, d, b, j] = *words;
     let [low, high, kind, r] = head.to_le_bytes();
     Entry {
         number: u16::from_le_bytes([low, high]),
@@ -35,6 +36,7 @@ pub fn entry_of(words: &[u32; ENTRY_WORDS]) -> Entry {
         t: u64::from(t),
         d: u64::from(d),
         b: u64::from(b),
+        j: u64::from(j),
     }
 }
 
@@ -43,7 +45,7 @@ pub fn of_rows(rows: &[Row]) -> Vec<u32> {
     rows.iter().map(row_word).collect()
 }
 
-/// Five words for each entry.
+/// Six words for each entry.
 pub fn of_entries(entries: &[Entry]) -> Vec<u32> {
     entries.iter().flat_map(entry_words).collect()
 }

@@ -8,7 +8,7 @@ use lib.ListN.{length}
 use lib.Dec.{ltb, eqb}
 use Rattle.task_model.specs.declared.Entry.{Entry}
 use Rattle.task_model.specs.Limits.{entryAt}
-use Rattle.completion.specs.Demand.{ceilDiv, releases, sumTo, only, higherLevelInterference, sameLevelInterference, demandWith, initialTimeWith}
+use Rattle.completion.specs.Demand.{releases, sumTo, only, higherLevelInterference, sameLevelInterference, demandWith, initialTimeWith}
 use Rattle.completion.specs.Test.{limit, testWith}
 use Rattle.completion.proofs.Sums.{sumTo-eq}
 use Rattle.completion.proofs.Iteration.{test-same}
@@ -41,17 +41,18 @@ module _ (b : ℕ) (es : List Entry) (lv lv′ : ℕ → ℕ) (i : ℕ)
       (λ j l.
       ap (λ c. only c (entryAt es j .wcet)) (leb-or (lv j) (lv i) ∙ ap₂ _||_ (h j l .0) (h j l .1) ∙ sym (leb-or (lv′ j) (lv′ i)))))
 
--- nodes that agree in C and T up to the group's last entry, and in the timed entry's blocking and r
+-- nodes that agree in C, T and J up to the group's last entry, and in the timed entry's blocking and r
 module _ (es es′ : List Entry) (first last i : ℕ) (hf : first ≤ i) (hi : i ≤ last)
-    (ct : (j : ℕ) → j ≤ last → (entryAt es j .wcet ≡ entryAt es′ j .wcet) × (entryAt es j .period ≡ entryAt es′ j .period))
+    (ct : (j : ℕ) → j ≤ last
+    → (entryAt es j .wcet ≡ entryAt es′ j .wcet) × (entryAt es j .period ≡ entryAt es′ j .period) × (entryAt es j .jitter ≡ entryAt es′ j .jitter))
     (r : entryAt es i .calls ≡ entryAt es′ i .calls) where
   higher-level-same : (t j : ℕ) → j ≤ last → higherLevelIn es t j ≡ higherLevelIn es′ t j
   unfolding higherLevelInterference releases
-  higher-level-same t j l = ap₂ (λ c p. c * ceilDiv t p) (ct j l .0) (ct j l .1)
+  higher-level-same t j l = rw (ct j l .0, ct j l .1, ct j l .2)
 
   same-level-same : (t j : ℕ) → j ≤ last → sameLevelIn es i t j ≡ sameLevelIn es′ i t j
   unfolding sameLevelInterference releases
-  same-level-same t j l = rw (ct j l .0, ct j l .1, r)
+  same-level-same t j l = rw (ct j l .0, ct j l .1, ct j l .2, r)
 
   pub demandIn-same : (b t : ℕ) → demandIn b es first last i t ≡ demandIn b es′ first last i t
   demandIn-same b t =

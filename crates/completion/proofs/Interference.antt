@@ -12,7 +12,7 @@ use lib.ListN.{length}
 use lib.Dec.{ltb, leb, eqb}
 use borrow.Author.Tests.{lt-ltb, le-ltb, le-leb, lt-leb, eq-eqb, ne-eqb}
 use Rattle.task_model.specs.declared.Entry.{Entry}
-use Rattle.task_model.specs.Limits.{entryAt, TimesHold, AllHold}
+use Rattle.task_model.specs.Limits.{entryAt, AllHold}
 use Rattle.completion.specs.Demand.{releases, sumTo, only, moreUrgent, sharesLevel, higherLevelInterference, sameLevelInterference, demandWith, initialTimeWith}
 use Rattle.task_model.proofs.Tests.{true-or-false}
 use Rattle.completion.proofs.Sums.{sumTo-le, sumTo-eq, sumTo-add, sumTo-strict, sumTo-one}
@@ -81,11 +81,8 @@ abbrev pub later : List Entry → (ℕ → ℕ) → ℕ → ℕ → ℕ → ℕ
 later es lv i t j = only (leb (lv j) (lv i) && not (eqb j i)) (releases (entryAt es j) t - 1)
 
 module _ (es : List Entry) (all : AllHold es) (lv : ℕ → ℕ) (i : ℕ) (hi : i < length es) where
-  times : (j : ℕ) → j < length es → TimesHold (entryAt es j)
-  times j h = all j h .times
-
   periodic : (j : ℕ) → j < length es → 1 ≤ entryAt es j .period
-  periodic j h = omega (arith, times j h)
+  periodic j h = omega (arith, all j h .times)
 
   -- The demand never falls.
   pub demand-up : (c a b : ℕ) → a ≤ b → demandWith c es lv i a ≤ demandWith c es lv i b
@@ -98,14 +95,14 @@ module _ (es : List Entry) (all : AllHold es) (lv : ℕ → ℕ) (i : ℕ) (hi :
             (λ j h.
             omega (
               arith,
-              only-le (moreUrgent lv i j) _ _ (higher-level-up (entryAt es j) (times j h) a b l),
-              only-le (sharesLevel lv i j) _ _ (same-level-up (entryAt es j) (times j h) (entryAt es i .calls) a b l),
+              only-le (moreUrgent lv i j) _ _ (higher-level-up (entryAt es j) (all j h) a b l),
+              only-le (sharesLevel lv i j) _ _ (same-level-up (entryAt es j) (all j h) (entryAt es i .calls) a b l),
             )),
       )
 
   -- It is at least the entry's own run.
   pub demand-some : (b t : ℕ) → 1 ≤ demandWith b es lv i t
-  demand-some b t = omega (arith, demand-interferences b es lv i t, times i hi)
+  demand-some b t = omega (arith, demand-interferences b es lv i t, all i hi .times)
 
   -- The test starts at the demand of the first tick.
   pub initial-first : (b : ℕ) → initialTimeWith b es lv i ≡ demandWith b es lv i 1
@@ -119,7 +116,7 @@ module _ (es : List Entry) (all : AllHold es) (lv : ℕ → ℕ) (i : ℕ) (hi :
       (λ j h. split (lv j) (lv i) j i (entryAt es j .wcet) (λ e. ap lv e)) in
       let shares = sumTo-eq (share es lv i 1) (λ j. urgent j + other j) n
       (λ j h. ap₂ (λ x y. only (moreUrgent lv i j) x + only (sharesLevel lv i j) y)
-      (higher-level-first (entryAt es j) (times j h)) (same-level-first (entryAt es j) (times j h) (entryAt es i .calls))) in
+      (higher-level-first (entryAt es j) (all j h)) (same-level-first (entryAt es j) (all j h) (entryAt es i .calls))) in
       omega (
         arith,
         demand-interferences b es lv i 1,

@@ -9,3 +9,4 @@ pub mod Groups
 pub mod Alike
 pub mod Words
 pub mod Theorems
+pub mod WithoutJitter

@@ -88,6 +88,15 @@ module _ (b : ℕ) (es : List Entry) (all : AllHold es) (level : ℕ → ℕ) (i
         (λ rounds e. absurd (let l = rw e at least in omega (arith, l (h .0) (not-before (h .0) (h .2)) (h .2)))),
   )
 
+  -- So an entry is on time exactly if some time whose demand is at most that time, plus its own J, is at most D.
+  pub on-time-jitter : isOnTime (testWith b es level i) ≡ true
+      ↔ ((t : ℕ) × (t + entryAt es i .jitter ≤ entryAt es i .deadline) × (demandWith b es level i t ≤ t))
+  unfolding limit
+  on-time-jitter = (
+    λ p. let h = on-time-some .0 p in (h .0, omega (arith, all i known .times, all i known .jitter, h .1), h .2),
+    λ h. on-time-some .1 (h .0, omega (arith, h .1), h .2),
+  )
+
   pub late-none : isOnTime (testWith b es level i) ≡ false ↔ NoTime b es level i
   late-none = (
     λ p t h l. false≢true (sym p ∙ on-time-some .1 (t, h, l)),
@@ -128,7 +137,7 @@ module _ (b : ℕ) (es : List Entry) (all : AllHold es) (level : ℕ → ℕ) (i
       (le-trans
       (rounds-bounded w d up (some 1) (λ t. sumTo (later es level i t) (length es)) (later-up es all level i known)
       (later-strict es all level i known b))
-      (omega (arith, later-up es all level i known d (entryAt es i .deadline) (limit-due (entryAt es i) (all i known .times)))))
+      (omega (arith, later-up es all level i known d (entryAt es i .deadline) (limit-due (entryAt es i) (all i known)))))
 
   -- The test's answer is right, and so is every answer that equals it.
   pub timing-right : (o : Completion) → o ≡ testWith b es level i → RightWith b es level i o
@@ -141,11 +150,12 @@ pub alike : (b : ℕ) (es : List Entry) (lv lv′ : ℕ → ℕ) (i : ℕ)
 alike b es lv lv′ i h =
     test-alike b b es es lv lv′ i refl (initial-alike b es lv lv′ i h) (λ t. demand-alike b es lv lv′ i h t)
 
--- The answer of an entry in a group depends only on C and T up to the group's last entry, and on its own limit, blocking and
--- r: any two nodes that agree in these, each with the entry's group from `first` to `last`, give the same.
+-- The answer of an entry in a group depends only on C, T and J up to the group's last entry, and on its own limit, blocking
+-- and r: any two nodes that agree in these, each with the entry's group from `first` to `last`, give the same.
 pub same-group : (b : ℕ) (es es′ : List Entry) (lv lv′ : ℕ → ℕ) (first last i : ℕ) → first ≤ i → i ≤ last
     → last < length es → last < length es′ → IsGroup (length es) first last i lv → IsGroup (length es′) first last i lv′
-    → ((j : ℕ) → j ≤ last → (entryAt es j .wcet ≡ entryAt es′ j .wcet) × (entryAt es j .period ≡ entryAt es′ j .period))
+    → ((j : ℕ) → j ≤ last
+    → (entryAt es j .wcet ≡ entryAt es′ j .wcet) × (entryAt es j .period ≡ entryAt es′ j .period) × (entryAt es j .jitter ≡ entryAt es′ j .jitter))
     → limit (entryAt es i) ≡ limit (entryAt es′ i)
     → entryAt es i .calls ≡ entryAt es′ i .calls
     → testWith b es lv i ≡ testWith b es′ lv′ i
@@ -188,7 +198,7 @@ widen b es all first first′ last i le hf hi known =
     let narrow = demand-in es first last i (groupLevel first last) (named-group first last (length es) i hf hi) hf hi known b t in
     let wide = demand-in es first′ last i (groupLevel first′ last) (named-group first′ last (length es) i (omega arith) hi) (omega arith) hi known b t in
     let less = part-le (sameLevelIn es i t) (higherLevelIn es t) first′ first le
-    (λ j l. same-level-most (entryAt es j) (all j (omega arith) .times) (entryAt es i .calls) t) in
+    (λ j l. same-level-most (entryAt es j) (all j (omega arith)) (entryAt es i .calls) t) in
     omega (
       arith,
       wide,

@@ -6,7 +6,7 @@ use native.Mathlib.Nat.{le-trans}
 use native.Mathlib.Omega.{arith}
 use lib.ListN.{length}
 use Rattle.task_model.specs.declared.Entry.{Entry}
-use Rattle.task_model.specs.Limits.{mostTicks, mostEntries, entryAt, TimesHold, AllHold}
+use Rattle.task_model.specs.Limits.{mostTicks, mostEntries, entryAt, EntryHolds, AllHold}
 use Rattle.node_words.specs.Words.{entryOf, entriesOf}
 use Rattle.node_words.proofs.Entries.{length-entries, entry-of, all-at}
 use Rattle.completion.specs.Demand.{sumTo, higherLevelInterference, sameLevelInterference, demandWith, initialTimeWith}
@@ -29,12 +29,12 @@ wcetOf ws j = entryOf ws j .wcet
 
 -- an entry that code reads is within the limits, and so is its own limit
 module _ (ws : List ℕ) (n : ℕ) (all : AllHold (entriesOf ws n)) (i : ℕ) (h : i < n) (e : Entry) (named : e ≡ entryOf ws i) where
-  pub words-times : TimesHold e
-  words-times = rw named (all-at ws n all i h .times)
+  pub words-hold : EntryHolds e
+  words-hold = rw named (all-at ws n all i h)
 
   pub words-limit : (d : ℕ) → d ≡ limit e → (1 ≤ d) × (d ≤ mostTicks)
   words-limit d p =
-      let t = words-times in
+      let t = words-hold in
       (omega (arith, limit-run e t), omega (arith, limit-most e t))
 
   pub words-due : (d : ℕ) → d ≡ limit e → limit (entryAt (entriesOf ws n) i) ≡ d
@@ -89,7 +89,7 @@ module _ (ws : List ℕ) (n : ℕ) where
     higher-level-small t m h l =
         omega (
           arith,
-          sumTo-most (higherLevelOf ws t) mostInterference m (λ j p. higher-level-most _ (all-at ws n all j (omega arith) .times) t h),
+          sumTo-most (higherLevelOf ws t) mostInterference m (λ j p. higher-level-most _ (all-at ws n all j (omega arith)) t h),
         )
 
     pub same-level-small : (calls t m : ℕ) → t ≤ mostTicks → m ≤ n → sumTo (sameLevelOf ws calls t) m ≤ mostInterferences
@@ -98,7 +98,7 @@ module _ (ws : List ℕ) (n : ℕ) where
           arith,
           sumTo-most (sameLevelOf ws calls t) mostInterference m
               (λ j p.
-              let k = all-at ws n all j (omega arith) .times in
+              let k = all-at ws n all j (omega arith) in
               le-trans (same-level-most _ k calls t) (higher-level-most _ k t h)),
         )
 

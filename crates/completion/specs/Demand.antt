@@ -13,9 +13,10 @@ use Rattle.task_model.specs.Limits.{entryAt}
 unfoldable pub ceilDiv : ℕ → ℕ → ℕ
 ceilDiv a b = (a + (b - 1)) / b
 
--- How often an entry is released in `t` ticks, at most: ⌈ t / T ⌉.
+-- How often an entry is released in `t` ticks, at most: ⌈ (t + J) / T ⌉. A job that starts J late has less time until the
+-- next job.
 unfoldable pub releases : Entry → ℕ → ℕ
-releases e t = ceilDiv t (e .period)
+releases e t = ceilDiv (t + e .jitter) (e .period)
 
 -- f 0 + f 1 + .. + f (n - 1).
 unfoldable pub sumTo : (ℕ → ℕ) → ℕ → ℕ
@@ -35,12 +36,12 @@ moreUrgent level i j = ltb (level j) (level i)
 abbrev pub sharesLevel : (ℕ → ℕ) → ℕ → ℕ → Bool
 sharesLevel level i j = eqb (level j) (level i) && not (eqb j i)
 
--- The interference of an entry on a more urgent level in `t` ticks: C × ⌈ t / T ⌉.
+-- The interference of an entry on a more urgent level in `t` ticks: C × ⌈ (t + J) / T ⌉.
 unfoldable pub higherLevelInterference : Entry → ℕ → ℕ
 higherLevelInterference e t = e .wcet * releases e t
 
 -- The interference of another entry on the same level in `t` ticks, for an entry with `calls` remote calls (r):
--- C × min(⌈ t / T ⌉, r + 1).
+-- C × min(⌈ (t + J) / T ⌉, r + 1).
 unfoldable pub sameLevelInterference : Entry → ℕ → ℕ → ℕ
 sameLevelInterference e calls t = e .wcet * min (releases e t) (calls + 1)
 

@@ -3,5 +3,6 @@ pub mod Demand
 pub mod Test
 pub mod Group
 pub mod Rounds
+pub mod WithoutJitter
 -- Only the theorems use these.
 pub mod Right

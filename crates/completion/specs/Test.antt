@@ -22,9 +22,10 @@ abbrev pub completion : Timing → Completion
 completion (OnTime time rounds) = on-time time rounds
 completion (Late rounds) = late rounds
 
--- The limit of an entry: the last time, counted from its release, by which it may end. This is the deadline D.
+-- The limit of an entry: the last completion time with which it is on time. Its job may start J ticks late, so this is
+-- D - J.
 unfoldable pub limit : Entry → ℕ
-limit e = e .deadline
+limit e = e .deadline - e .jitter
 
 -- While t is at most the limit d, evaluate the demand w at t. If w t equals t, t is the completion time; otherwise w t
 -- becomes the next t. `rounds` counts the evaluations so far, and at most `fuel` more are made.
@@ -61,7 +62,7 @@ abbrev pub roundsIn : Completion → ℕ
 roundsIn (on-time time rounds) = rounds
 roundsIn (late rounds) = rounds
 
--- The bound on rounds: 1 plus the sum of ⌈ D of i / T ⌉ - 1 over all entries but i on its own and more urgent levels.
+-- The bound on rounds: 1 plus the sum of ⌈ (D of i + J) / T ⌉ - 1 over all entries but i on its own and more urgent levels.
 unfoldable pub roundsBound : List Entry → (ℕ → ℕ) → ℕ → ℕ
 roundsBound es level i =
     1 + sumTo (λ j. only (leb (level j) (level i) && not (eqb j i)) (releases (entryAt es j) (entryAt es i .deadline) - 1)) (length es)

@@ -1,7 +1,7 @@
 // The completion time test of an entry in a group of its node.
 ghost use mathlib.Core.Path.{_≡_};
 ghost use Prim.Native.Nat.{_+_, _-_, _≤_, _<_};
-ghost use Rattle.task_model.specs.Limits.{mostTicks, mostEntries, AllHold, TimesHold};
+ghost use Rattle.task_model.specs.Limits.{mostTicks, mostEntries, AllHold, EntryHolds};
 ghost use Rattle.node_words.specs.Words.{entryOf, entriesOf};
 ghost use Rattle.completion.specs.Demand.{releases, sumTo, higherLevelInterference, sameLevelInterference, demandWith, initialTimeWith};
 ghost use Rattle.completion.specs.Group.{groupLevel, InGroup};
@@ -28,28 +28,29 @@ impl Timing {
     }
 }
 
-// The last time, counted from its release, by which an entry may end.
+// The last time, counted from its start, by which an entry may end: an entry that starts J late has J ticks less.
 pub fn limit_of(e: Entry) -> u32
-    requires { ⌜ TimesHold e ⌝ }
+    requires { ⌜ EntryHolds e ⌝ }
     ensures { λ d. ⌜ d ≡ limit e ⌝ }
 {
-    e.deadline
+    e.deadline - e.jitter
 }
 
 // How often an entry is released in `t` ticks, at most. Up to the end of the first period no division is needed.
 fn releases_in(e: Entry, t: u32) -> u32
-    requires { ⌜ TimesHold e ⌝ ∗ ⌜ (1 ≤ t) × (t ≤ mostTicks) ⌝ }
+    requires { ⌜ EntryHolds e ⌝ ∗ ⌜ (1 ≤ t) × (t ≤ mostTicks) ⌝ }
     ensures { λ n. ⌜ n ≡ releases e t ⌝ }
 {
-    if t <= e.period {
+    let late = t + e.jitter;
+    if late <= e.period {
         return 1;
     }
-    (t + (e.period - 1)) / e.period
+    (late + (e.period - 1)) / e.period
 }
 
 // The interference of an entry on a higher level in `t` ticks.
 fn higher_level_interference(e: Entry, t: u32) -> u64
-    requires { ⌜ TimesHold e ⌝ ∗ ⌜ (1 ≤ t) × (t ≤ mostTicks) ⌝ }
+    requires { ⌜ EntryHolds e ⌝ ∗ ⌜ (1 ≤ t) × (t ≤ mostTicks) ⌝ }
     ensures { λ x. ⌜ x ≡ higherLevelInterference e t ⌝ }
 {
     e.wcet as u64 * releases_in(e, t) as u64
@@ -58,10 +59,10 @@ fn higher_level_interference(e: Entry, t: u32) -> u64
 // The interference of another entry on the same level in `t` ticks, for an entry with `calls` remote calls. It is limited
 // to `calls` + 1 jobs. After `calls` periods that limit is reached, and no division is needed.
 fn same_level_interference(e: Entry, calls: u8, t: u32) -> u64
-    requires { ⌜ TimesHold e ⌝ ∗ ⌜ (1 ≤ t) × (t ≤ mostTicks) ⌝ }
+    requires { ⌜ EntryHolds e ⌝ ∗ ⌜ (1 ≤ t) × (t ≤ mostTicks) ⌝ }
     ensures { λ x. ⌜ x ≡ sameLevelInterference e calls t ⌝ }
 {
-    if e.period as u64 * (calls as u64) < t as u64 {
+    if e.period as u64 * (calls as u64) < (t + e.jitter) as u64 {
         return e.wcet as u64 * (calls as u64 + 1);
     }
     higher_level_interference(e, t)

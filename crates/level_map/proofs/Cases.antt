@@ -1,11 +1,11 @@
 -- The cases of docs/SPEC.md: every line of the table holds.
 use mathlib.Core.Path.{refl}
 use native.Mathlib.Omega.{arith}
-use Rattle.task_model.specs.Checks.{kindTest, timesTest, entryCheck, entriesCheck, sizeTest, nodeCheck}
+use Rattle.task_model.specs.Checks.{kindTest, timesTest, jitterTest, entryCheck, entriesBy, sizeTest, nodeCheckBy}
 use Rattle.task_model.proofs.Theorems.{node-accepted}
 use Rattle.completion.specs.Demand.{ceilDiv, releases, sumTo, higherLevelInterference, sameLevelInterference, demandWith, initialTimeWith}
 use Rattle.completion.specs.Test.{limit, iterate, testFrom, testWith}
-use Rattle.level_map.specs.Map.{fromLongest, mapsWith, maps, firstOf, noneLateTo, passTest, theMap}
+use Rattle.level_map.specs.Map.{fromLongest, mapsWith, maps, firstOf, noneLateTo, passTest, mapUnder, theMap}
 use Rattle.level_map.specs.Cases.{All, cases, countTo, answersTo, floorDemand, oneRunDemand, leastFrom}
 
 infixr 60 _▸_
@@ -14,7 +14,7 @@ _▸_ p q = (p, q)
 
 -- line by line, in the table's order
 pub cases-hold : All cases
-unfolding cases countTo nodeCheck sizeTest entriesCheck entryCheck kindTest timesTest answersTo floorDemand oneRunDemand leastFrom theMap passTest noneLateTo firstOf maps mapsWith fromLongest testWith limit testFrom iterate initialTimeWith demandWith sameLevelInterference higherLevelInterference sumTo releases ceilDiv
+unfolding cases countTo nodeCheckBy sizeTest entriesBy entryCheck kindTest timesTest jitterTest answersTo floorDemand oneRunDemand leastFrom mapUnder passTest noneLateTo firstOf maps mapsWith fromLongest testWith limit testFrom iterate initialTimeWith demandWith sameLevelInterference higherLevelInterference sumTo releases ceilDiv
 cases-hold =
     -- P, Q, R
     (node-accepted 0 _ .0 refl, refl)

@@ -60,7 +60,7 @@ module _ (es : List Entry) where
       let up : i ≤ l = omega (arith, group-end s i h) in
       let fits : l < length es = omega (arith, group-end s i h, group-fits s i h) in
       same-group _ es es (levelOf a) (groupLevel f l) f l i lo up fits fits
-      (level-group s i h) (named-group f l (length es) i lo up) (λ j k. (refl, refl)) refl refl
+      (level-group s i h) (named-group f l (length es) i lo up) (λ j k. (refl, refl, refl)) refl refl
 
   -- No entry is late exactly if each is on time in its group, to whose blocking nothing is added.
   on-time-same : {hi : ℕ} {a : List ℕ} → Assignment (length es) hi a → (i : ℕ) → i < length es

@@ -15,3 +15,5 @@ pub mod Theorems
 pub mod Loop
 pub mod Answers
 pub mod Cases
+pub mod JitterCases
+pub mod WithoutJitter

@@ -16,8 +16,8 @@ use Rattle.refusals.specs.Refusals.{Numbered, at}
 use Rattle.refusals.specs.Answers.{gives, refuses, left}
 use Rattle.completion.specs.Test.{completionTest, isOnTime}
 use Rattle.level_map.specs.Assignments.{levelOf, Assignment, NoneLate, Passing, levelsUsed}
-use Rattle.level_map.specs.Map.{IsMap, Chosen, maps, mapsWith, firstOf, noneLateTo, passTest, theMap}
-use Rattle.level_map.specs.Answer.{mapOf, heldCheck, heldAnswer, Mapping, NodeBestMapOrNone}
+use Rattle.level_map.specs.Map.{IsMap, Chosen, maps, mapsWith, firstOf, noneLateTo, passTest, mapUnder, theMap}
+use Rattle.level_map.specs.Answer.{mapOf, levelsUnder, heldCheckUnder, heldAnswer, heldAnswerUnder, Mapping, NodeBestMapOrNone}
 use Rattle.level_map.specs.Groups.{added, onTimeIn}
 use Rattle.level_map.specs.Cuts.{levelsOfCuts, CutsOf}
 use Rattle.level_map.proofs.Tests.{by-test}
@@ -27,25 +27,25 @@ use Rattle.level_map.proofs.Choice.{first-left}
 use Rattle.level_map.proofs.Exact.{GroupTest, wider, exact-cases, exact-best, exact-none, exact-chosen}
 use Rattle.level_map.proofs.Grouping.{grouped, loses-end}
 
-late-to : (es : List Entry) (a : List ℕ) (n : ℕ) → noneLateTo es a n ≡ true
+late-to : (es : List Entry) (a : List ℕ) (n : ℕ) → noneLateTo completionTest es a n ≡ true
     → (i : ℕ) → i < n → isOnTime (completionTest es (levelOf a) i) ≡ true
 unfolding noneLateTo
 late-to es a zero p i h = absurd (omega arith)
 late-to es a (suc n) p i h =
-    by-test (noneLateTo es a n)
+    by-test (noneLateTo completionTest es a n)
     (λ q. by-cases (decLt i n)
     (λ y. late-to es a n q i y)
     (λ z. let e : i ≡ n = omega arith in rw e (rw (q, noneLateTo) at p)))
     (λ q. absurd (false≢true (rw (q, noneLateTo) at p)))
 
 late-of : (es : List Entry) (a : List ℕ) (n : ℕ) → ((i : ℕ) → i < n → isOnTime (completionTest es (levelOf a) i) ≡ true)
-    → noneLateTo es a n ≡ true
+    → noneLateTo completionTest es a n ≡ true
 unfolding noneLateTo
 late-of es a zero f = refl
 late-of es a (suc n) f = rw (late-of es a n (λ i h. f i (omega arith)), noneLateTo) (f n (omega arith))
 
 -- The test of a map answers true exactly if no entry is late.
-pub pass-none-late : (es : List Entry) (a : List ℕ) → passTest es a ≡ true ↔ NoneLate es a
+pub pass-none-late : (es : List Entry) (a : List ℕ) → passTest completionTest es a ≡ true ↔ NoneLate es a
 unfolding passTest
 pass-none-late es a = (late-to es a (length es), late-of es a (length es))
 
@@ -61,13 +61,13 @@ nodeTest es hold n e =
       shrink = λ i a k k′ lo up h fits t. loses-end es hold i a k k′ lo up h (omega arith) t;
       Passes = NoneLate es;
       grouped = rw (← e) (grouped es);
-      test = passTest es;
+      test = passTest completionTest es;
       tested = pass-none-late es;
     }
 
 -- The map of n entries is the first of the maps, in order of preference, that passes.
-pub map-first : (es : List Entry) (n : ℕ) → length es ≡ n → (most : ℕ) → theMap es most ≡ firstOf (passTest es) (maps most n)
-unfolding theMap
+pub map-first : (es : List Entry) (n : ℕ) → length es ≡ n → (most : ℕ) → theMap es most ≡ firstOf (passTest completionTest es) (maps most n)
+unfolding mapUnder
 map-first es n e most = rw e
 
 not-both : {c : ℕ} {r : Numbered} → gives c ≡ refuses r → ⊥
@@ -79,25 +79,25 @@ module _ (es : List Entry) (hold : AllHold es) (most : ℕ) where
       × Best (NoneLate es) most (length es) (levelsOfCuts s (length es)))
       ⊎ ((greedy (asked es) most (length es) ≡ none) × (theMap es most ≡ none)
       × ((a : List ℕ) → Assignment (length es) most a → NoneLate es a → ⊥))
-  unfolding theMap
+  unfolding mapUnder
   map-cases =
       exact-cases (nodeTest es hold (length es) refl) most
 
   -- The map is best: the choice, with the fewest levels of all passing assignments.
   pub map-best : (m : List ℕ) → theMap es most ≡ some m → Best (NoneLate es) most (length es) m
-  unfolding theMap
+  unfolding mapUnder
   map-best =
       exact-best (nodeTest es hold (length es) refl) most
 
   -- A list of levels is the map exactly if it is the choice of 'The map'. So there is one choice at most.
   pub map-chosen : (m : List ℕ) → theMap es most ≡ some m ↔ Chosen (NoneLate es) most (length es) m
-  unfolding theMap
+  unfolding mapUnder
   map-chosen =
       exact-chosen (nodeTest es hold (length es) refl) most
 
   -- There is no map exactly if no assignment lets every entry end by its deadline.
   pub map-none : theMap es most ≡ none ↔ ((a : List ℕ) → Passing es most a → ⊥)
-  unfolding theMap
+  unfolding mapUnder
   map-none =
       let e = exact-none (nodeTest es hold (length es) refl) most in
       ((λ p a x. e .0 p a (x .assignment) (x .inTime)), λ f. e .1 (λ a s t. f a (record { assignment = s; inTime = t })))
@@ -160,16 +160,16 @@ module _ (es : List Entry) (hold : AllHold es) (most fewer : ℕ) (h : fewer ≤
 -- What a node at hand is answered: 10, or by its map.
 module _ (n : Node) (room : ℕ) where
   pub held-short : room < length (n .entries) → heldAnswer n room ≡ refuses (at 10 0 0)
-  unfolding heldAnswer heldCheck
+  unfolding heldAnswerUnder heldCheckUnder
   held-short h = rw (lt-leb (length (n .entries)) room h)
 
   pub held-map : length (n .entries) ≤ room → (m : List ℕ) → theMap (n .entries) (n .levels) ≡ some m
       → (heldAnswer n room ≡ gives (levelsUsed m)) × (mapOf n ≡ m)
-  unfolding heldAnswer heldCheck mapOf
+  unfolding heldAnswerUnder heldCheckUnder levelsUnder
   held-map h m p = ((rw (le-leb (length (n .entries)) room h, p)), (rw p))
 
   pub held-none : length (n .entries) ≤ room → theMap (n .entries) (n .levels) ≡ none → heldAnswer n room ≡ refuses (at 11 0 0)
-  unfolding heldAnswer heldCheck
+  unfolding heldAnswerUnder heldCheckUnder
   held-none h p = rw (le-leb (length (n .entries)) room h, p)
 
 -- Promise 3 of docs/SPEC.md holds of the answer, and of what is read from the buffer's start.
@@ -193,14 +193,14 @@ best-map-or-none n hold buffer fits =
     (record { refusal = ((λ p a x. r .2 a (x .assignment) (x .inTime)), λ f. refl); given = inl refl }))
     (map-cases (n .entries) hold (n .levels))
 
-first-empty : (most : ℕ) → firstOf (passTest []) (maps most 0) ≡ some []
+first-empty : (most : ℕ) → firstOf (passTest completionTest []) (maps most 0) ≡ some []
 unfolding maps mapsWith firstOf passTest noneLateTo
 first-empty zero = refl
-first-empty (suc most) = first-left (passTest []) (maps most 0) (mapsWith (suc most) 0) [] (first-empty most)
+first-empty (suc most) = first-left (passTest completionTest []) (maps most 0) (mapsWith (suc most) 0) [] (first-empty most)
 
 -- An empty node gets the empty map, with 0 levels.
 pub map-empty : (most : ℕ) → theMap [] most ≡ some []
-unfolding theMap
+unfolding mapUnder
 map-empty most = first-empty most
 
 pub answer-empty : (most room : ℕ) → heldAnswer (record { levels = most; entries = [] }) room ≡ gives 0

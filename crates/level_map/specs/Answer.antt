@@ -15,7 +15,8 @@ use Rattle.task_model.specs.Limits.{Node}
 use Rattle.level_map.specs.declared.MappedNode.{MappedNode}
 use Rattle.level_map.specs.declared.MappedNode.the-variants.{Levels, Refused}
 use Rattle.level_map.specs.Assignments.{NoneLate, Passing, levelsUsed}
-use Rattle.level_map.specs.Map.{Chosen, theMap}
+use Rattle.completion.specs.Test.{completionTest}
+use Rattle.level_map.specs.Map.{Chosen, EntryTest, mapUnder}
 
 -- What the code's answer says: the count of the map's levels, or the refusal's number, row and entry.
 abbrev pub answer : MappedNode → Answer ℕ
@@ -32,20 +33,30 @@ abbrev pub levelsIn : Option (List ℕ) → List ℕ
 levelsIn none = []
 levelsIn (some m) = m
 
--- The levels of a node's map.
-unfoldable pub mapOf : Node → List ℕ
-mapOf n = levelsIn (theMap (n .entries) (n .levels))
+-- The levels of a node's map under a test.
+unfoldable pub levelsUnder : EntryTest → Node → List ℕ
+levelsUnder test n = levelsIn (mapUnder test (n .entries) (n .levels))
 
 -- The checks for mapping a node into a buffer of `room` bytes: 10 if there are fewer bytes than entries, then 11 if no map
--- passes.
-unfoldable pub heldCheck : Node → ℕ → Outcome
-heldCheck n room =
+-- passes under the test.
+unfoldable pub heldCheckUnder : EntryTest → Node → ℕ → Outcome
+heldCheckUnder test n room =
     mustHold (leb (length (n .entries)) room) (at 10 0 0)
-    andThen mustHold (isSome (theMap (n .entries) (n .levels))) (at 11 0 0)
+    andThen mustHold (isSome (mapUnder test (n .entries) (n .levels))) (at 11 0 0)
 
 -- The answer for mapping a node: the refusal, or the count of the map's levels.
-unfoldable pub heldAnswer : Node → ℕ → Answer ℕ
-heldAnswer n room = giving (heldCheck n room) (levelsUsed (mapOf n))
+unfoldable pub heldAnswerUnder : EntryTest → Node → ℕ → Answer ℕ
+heldAnswerUnder test n room = giving (heldCheckUnder test n room) (levelsUsed (levelsUnder test n))
+
+-- The same under the completion time test.
+abbrev pub mapOf : Node → List ℕ
+mapOf n = levelsUnder completionTest n
+
+abbrev pub heldCheck : Node → ℕ → Outcome
+heldCheck n room = heldCheckUnder completionTest n room
+
+abbrev pub heldAnswer : Node → ℕ → Answer ℕ
+heldAnswer n room = heldAnswerUnder completionTest n room
 
 -- Promise 3 for a map m that is given with a count. Under m every entry ends by its deadline. m is the choice that
 -- docs/SPEC.md, 'The map', describes. It uses `count` different levels, and no passing assignment uses fewer.

@@ -7,15 +7,21 @@ use mathlib.Core.List.{List, [], _∷_, _++_, map}
 use lib.ListN.{length}
 use lib.Dec.{leb}
 use Rattle.task_model.specs.declared.Entry.{Entry}
+use Rattle.refusals.specs.Refusals.{Numbered, refused}
 use Rattle.task_model.specs.Limits.{entryAt, NodeHolds}
+use Rattle.task_model.specs.Checks.{nodeCheck}
 use Rattle.completion.specs.Demand.{sumTo, only, moreUrgent, sharesLevel, higherLevelInterference, demand, initialTime}
 use Rattle.completion.specs.Test.{Completion, on-time, late, testFrom, completionTest}
 use Rattle.level_map.specs.Assignments.{levelOf, levelsUsed}
 use Rattle.level_map.specs.Map.{theMap}
 
--- A task with its number, C, T and D, r calls and blocking B.
+-- A task with its number, C, T and D, r calls, blocking B and jitter J.
+abbrev pub entryWith : ℕ → ℕ → ℕ → ℕ → ℕ → ℕ → ℕ → Entry
+entryWith n c t d r b j = record { number = n; kind = 1; calls = r; wcet = c; period = t; deadline = d; blocking = b; jitter = j }
+
+-- A task with J 0.
 abbrev pub entry : ℕ → ℕ → ℕ → ℕ → ℕ → ℕ → Entry
-entry n c t d r b = record { number = n; kind = 1; calls = r; wcet = c; period = t; deadline = d; blocking = b }
+entry n c t d r b = entryWith n c t d r b 0
 
 -- A task with r and B 0.
 abbrev pub task : ℕ → ℕ → ℕ → ℕ → Entry
@@ -99,6 +105,8 @@ leastFrom w (suc n) t = elim (leb (w t) t) [ true ↦ some t | false ↦ leastFr
 pub data Claim : Type 0 where
   -- with this count of levels, it is a node within the limits, and its entries are numbered 1, 2, 3 and so on
   a-node : (es : List Entry) (levels : ℕ) → Claim
+  -- with this count of levels, the check of the node refuses it
+  turned-back : (es : List Entry) (levels : ℕ) → Numbered → Claim
   -- with this count of levels, its map is m, which uses `used` levels
   maps-to : (es : List Entry) (levels : ℕ) (m : List ℕ) (used : ℕ) → Claim
   -- with this count of levels, it has no map
@@ -122,6 +130,7 @@ pub data Claim : Type 0 where
 abbrev pub Holds : Claim → Type 0
 Holds (a-node es levels) =
     NodeHolds (record { levels = levels; entries = es }) × (numbers es ≡ countTo (length es))
+Holds (turned-back es levels r) = nodeCheck 0 (record { levels = levels; entries = es }) ≡ refused r
 Holds (maps-to es levels m used) = (theMap es levels ≡ some m) × (levelsUsed m ≡ used)
 Holds (no-map es levels) = theMap es levels ≡ none
 Holds (answered es a cs) = answers es a ≡ cs

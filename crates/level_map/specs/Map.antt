@@ -7,7 +7,7 @@ use mathlib.Core.Option.{Option, none, some}
 use mathlib.Core.List.{List, [], _∷_, _++_, map}
 use lib.ListN.{length, replicate}
 use Rattle.task_model.specs.declared.Entry.{Entry}
-use Rattle.completion.specs.Test.{completionTest, isOnTime}
+use Rattle.completion.specs.Test.{Completion, completionTest, isOnTime}
 use Rattle.level_map.specs.Assignments.{levelOf, sizeOf, levelsUsed}
 
 -- A map of n entries: one level per entry. Along the list, levels begin at 1, never fall, and have no gap.
@@ -55,18 +55,26 @@ unfoldable pub firstOf : (List ℕ → Bool) → List (List ℕ) → Option (Lis
 firstOf passes [] = none
 firstOf passes (m ∷ ms) = elim (passes m) [ true ↦ some m | false ↦ firstOf passes ms ]
 
--- No entry before position n is late.
-unfoldable pub noneLateTo : List Entry → List ℕ → ℕ → Bool
-noneLateTo es a zero = true
-noneLateTo es a (suc n) = elim (noneLateTo es a n) [
-  | true ↦ isOnTime (completionTest es (levelOf a) n)
+-- A test of entries: what it answers for the entry at a position, among entries with these levels.
+abbrev pub EntryTest : Type 0
+EntryTest = List Entry → (ℕ → ℕ) → ℕ → Completion
+
+-- No entry before position n is late under a test.
+unfoldable pub noneLateTo : EntryTest → List Entry → List ℕ → ℕ → Bool
+noneLateTo test es a zero = true
+noneLateTo test es a (suc n) = elim (noneLateTo test es a n) [
+  | true ↦ isOnTime (test es (levelOf a) n)
   | false ↦ false
 ]
 
 -- A map passes if no entry is late.
-unfoldable pub passTest : List Entry → List ℕ → Bool
-passTest es a = noneLateTo es a (length es)
+unfoldable pub passTest : EntryTest → List Entry → List ℕ → Bool
+passTest test es a = noneLateTo test es a (length es)
 
--- The map of a node, or none if no map passes.
-unfoldable pub theMap : List Entry → ℕ → Option (List ℕ)
-theMap es most = firstOf (passTest es) (maps most (length es))
+-- The map of a node under a test, or none if no map passes.
+unfoldable pub mapUnder : EntryTest → List Entry → ℕ → Option (List ℕ)
+mapUnder test es most = firstOf (passTest test es) (maps most (length es))
+
+-- The map of a node: that under the completion time test.
+abbrev pub theMap : List Entry → ℕ → Option (List ℕ)
+theMap es most = mapUnder completionTest es most

@@ -61,7 +61,7 @@ time-group es n e a h i first last f l =
     (omega (arith, l .inside)) (omega (arith, l .inside))
     (named-group first last (length es) i (f .within) (l .within))
     (rw e (own-group n a h i first last f l))
-    (λ j p. (refl, refl)) refl refl
+    (λ j p. (refl, refl, refl)) refl refl
 
 -- one entry more on either side
 pub more-before : (a : List ℕ) (i first : ℕ) → 0 < first → ((j : ℕ) → first ≤ j → j ≤ i → levelOf a j ≡ levelOf a i)

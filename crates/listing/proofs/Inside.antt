@@ -17,7 +17,7 @@ use Rattle.plan_file.specs.Find.{rowIn, nodeOfRow}
 use Rattle.level_map.specs.Assignments.{levelsUsed}
 use Rattle.level_map.specs.Map.{theMap}
 use Rattle.listing.specs.Lines.{planLine, nodeLine}
-use Rattle.listing.specs.Listing.{entryText, entriesText, nodeText, nodesText, planText, listing}
+use Rattle.listing.specs.Listing.{entryText, entriesText, entriesTextUnder, nodeText, nodesText, nodesTextUnder, planText, planTextUnder, listing}
 use Rattle.listing.specs.Timed.{StandsIn}
 use Rattle.listing.proofs.Texts.{node-mapped, listing-accepted}
 
@@ -55,11 +55,11 @@ module _ (each : ℕ → List ℕ) (upTo : ℕ → List ℕ) (more : (n : ℕ) �
       (λ z. let e : k ≡ n = omega arith in stands-last (upTo n) (each n) t (rw e at s)))
 
 entries-suc : (es : List Entry) (m : List ℕ) (n : ℕ) → entriesText es m (suc n) ≡ entriesText es m n ++ entryText es m n
-unfolding entriesText
+unfolding entriesTextUnder
 entries-suc es m n = refl
 
 nodes-suc : (p : Plan) (n : ℕ) → nodesText p (suc n) ≡ nodesText p n ++ nodeText (rowIn (p .rows) n .number) (nodeOfRow p n)
-unfolding nodesText
+unfolding nodesTextUnder
 nodes-suc p n = refl
 
 -- The text of an entry stands in that of its node,
@@ -77,7 +77,7 @@ pub entry-in-listing : (f : List ℕ) → fileCheck f ≡ accepted → (k : ℕ)
     → theMap (nodeOfRow (planIn f) k .entries) (nodeOfRow (planIn f) k .levels) ≡ some m
     → (i : ℕ) → i < length (nodeOfRow (planIn f) k .entries)
     → StandsIn (listing f) (entryText (nodeOfRow (planIn f) k .entries) m i)
-unfolding planText
+unfolding planTextUnder
 entry-in-listing f a k h m p i l =
     let plan = planIn f in
     let line = entryText (nodeOfRow plan k .entries) m i in

@@ -6,3 +6,4 @@ pub mod Cases
 pub mod Long
 pub mod Inside
 pub mod Theorems
+pub mod WithoutJitter

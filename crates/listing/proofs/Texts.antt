@@ -23,60 +23,60 @@ use Rattle.level_map.specs.Map.{theMap}
 use Rattle.listing.specs.declared.Listed.{Listed}
 use Rattle.listing.specs.declared.Listed.the-variants.{Text, Refused}
 use Rattle.listing.specs.Lines.{planLine, nodeLine, noMapLine, entryLine, refusedLine}
-use Rattle.listing.specs.Listing.{entryText, entriesText, nodeText, nodesText, planText, listing, textAnswer, listAnswer, listedGives}
+use Rattle.listing.specs.Listing.{entryText, entryTextUnder, entriesText, entriesTextUnder, nodeText, nodeTextUnder, nodesText, nodesTextUnder, planText, planTextUnder, listing, listingUnder, textAnswer, listAnswer, listedGives}
 
 module _ (es : List Entry) (m : List ℕ) where
   pub entry-on-time : (i time rounds : ℕ) → completionTest es (levelOf m) i ≡ on-time time rounds
       → entryText es m i ≡ entryLine (entryAt es i .number) (levelOf m i) time rounds
-  unfolding entryText
-  entry-on-time i time rounds p = rw (p, entryText)
+  unfolding entryTextUnder
+  entry-on-time i time rounds p = rw (p, entryTextUnder)
 
   pub entry-late : (i rounds : ℕ) → completionTest es (levelOf m) i ≡ late rounds → entryText es m i ≡ []
-  unfolding entryText
-  entry-late i rounds p = rw (p, entryText)
+  unfolding entryTextUnder
+  entry-late i rounds p = rw (p, entryTextUnder)
 
   pub entries-none : entriesText es m 0 ≡ []
-  unfolding entriesText
+  unfolding entriesTextUnder
   entries-none = refl
 
   pub entries-more : (n : ℕ) → entriesText es m (n + 1) ≡ entriesText es m n ++ entryText es m n
-  unfolding entriesText
-  entries-more n = rw (add-one n, entriesText)
+  unfolding entriesTextUnder
+  entries-more n = rw (add-one n, entriesTextUnder)
 
 module _ (number : ℕ) (n : Node) where
   pub node-mapped : (m : List ℕ) → theMap (n .entries) (n .levels) ≡ some m
       → nodeText number n ≡ nodeLine number (levelsUsed m) (n .levels) ++ entriesText (n .entries) m (length (n .entries))
-  unfolding nodeText
-  node-mapped m p = rw (p, nodeText)
+  unfolding nodeTextUnder
+  node-mapped m p = rw (p, nodeTextUnder)
 
   pub node-no-map : theMap (n .entries) (n .levels) ≡ none → nodeText number n ≡ noMapLine number
-  unfolding nodeText
-  node-no-map p = rw (p, nodeText)
+  unfolding nodeTextUnder
+  node-no-map p = rw (p, nodeTextUnder)
 
 module _ (p : Plan) where
   pub nodes-none : nodesText p 0 ≡ []
-  unfolding nodesText
+  unfolding nodesTextUnder
   nodes-none = refl
 
   pub nodes-more : (n : ℕ) → nodesText p (n + 1) ≡ nodesText p n ++ nodeText (rowIn (p .rows) n .number) (nodeOfRow p n)
-  unfolding nodesText
-  nodes-more n = rw (add-one n, nodesText)
+  unfolding nodesTextUnder
+  nodes-more n = rw (add-one n, nodesTextUnder)
 
 module _ (f : List ℕ) where
   pub listing-refused : (r : Numbered) → fileCheck f ≡ refused r → listing f ≡ refusedLine r
-  unfolding listing
-  listing-refused r p = rw (p, listing)
+  unfolding listingUnder
+  listing-refused r p = rw (p, listingUnder)
 
   pub listing-accepted : fileCheck f ≡ accepted → listing f ≡ planText (planIn f)
-  unfolding listing
-  listing-accepted p = rw (p, listing)
+  unfolding listingUnder
+  listing-accepted p = rw (p, listingUnder)
 
 -- an accepted file has few nodes; its listing is its first line and the lines of its nodes
 pub few-nodes : (f : List ℕ) → fileCheck f ≡ accepted → nodeCount f ≤ mostNodes
 few-nodes f a = file-holds f a .header .counted .few
 
 pub listing-lines : (f : List ℕ) (n : ℕ) → fileCheck f ≡ accepted → n ≡ nodeCount f → planLine n ++ nodesText (planIn f) n ≡ listing f
-unfolding planText
+unfolding planTextUnder
 listing-lines f n a e =
     ap (λ m. planLine m ++ nodesText (planIn f) m) (e ∙ sym (length-rows f 0 (nodeCount f))) ∙ sym (listing-accepted f a)
 

@@ -6,14 +6,15 @@ use native.Mathlib.Nat.{zero-add}
 use native.Mathlib.Omega.{arith}
 use native.Mathlib.Numerals.{add-one}
 use lib.ListN.{length}
-use Rattle.refusals.specs.Refusals.{Numbered, at, accepted, refused}
+use Rattle.refusals.specs.Refusals.{Numbered, Outcome, accepted, refused}
 use Rattle.task_model.specs.Limits.{entryAt, EntryHolds, AllHold}
-use Rattle.task_model.specs.Checks.{entryCheck, entriesCheck}
+use Rattle.task_model.specs.declared.Entry.{Entry}
+use Rattle.task_model.specs.Checks.{entriesBy}
 use Rattle.node_words.specs.Words.{entryOf, entriesFrom, entriesOf}
 use Rattle.task_model.proofs.Laws.{entries-next, entries-stop}
 
--- the entries from position `p` on, of `n`, which begin with entry `first`
-module _ (ws : List ℕ) (row first p n : ℕ) where
+-- the entries from position `p` on, of `n`, which begin with entry `first`, checked one by one
+module _ (check : ℕ → Entry → Outcome) (ws : List ℕ) (first p n : ℕ) where
   entries-first : p < n → entriesFrom ws (first + p) (n - p) ≡ entryOf ws (first + p) ∷ entriesFrom ws (first + (p + 1)) (n - (p + 1))
   unfolding entriesFrom
   entries-first h =
@@ -21,16 +22,16 @@ module _ (ws : List ℕ) (row first p n : ℕ) where
       let e2 : first + (p + 1) ≡ suc (first + p) = omega arith in
       rw (e, e2, entriesFrom)
 
-  pub from-next : p < n → entryCheck row p (entryOf ws (first + p)) ≡ accepted
-      → entriesCheck row p (entriesFrom ws (first + p) (n - p)) ≡ entriesCheck row (p + 1) (entriesFrom ws (first + (p + 1)) (n - (p + 1)))
-  from-next h q = rw (entries-first h) (entries-next row p (entryOf ws (first + p)) _ q ∙ rw (← add-one p))
+  pub from-next : p < n → check p (entryOf ws (first + p)) ≡ accepted
+      → entriesBy check p (entriesFrom ws (first + p) (n - p)) ≡ entriesBy check (p + 1) (entriesFrom ws (first + (p + 1)) (n - (p + 1)))
+  from-next h q = rw (entries-first h) (entries-next check p (entryOf ws (first + p)) _ q ∙ rw (← add-one p))
 
-  pub from-stop : p < n → (r : Numbered) → entryCheck row p (entryOf ws (first + p)) ≡ refused r
-      → entriesCheck row p (entriesFrom ws (first + p) (n - p)) ≡ refused r
-  from-stop h r q = rw (entries-first h) (entries-stop row p (entryOf ws (first + p)) _ r q)
+  pub from-stop : p < n → (r : Numbered) → check p (entryOf ws (first + p)) ≡ refused r
+      → entriesBy check p (entriesFrom ws (first + p) (n - p)) ≡ refused r
+  from-stop h r q = rw (entries-first h) (entries-stop check p (entryOf ws (first + p)) _ r q)
 
-  pub from-end : n ≤ p → entriesCheck row p (entriesFrom ws (first + p) (n - p)) ≡ accepted
-  unfolding entriesCheck entriesFrom
+  pub from-end : n ≤ p → entriesBy check p (entriesFrom ws (first + p) (n - p)) ≡ accepted
+  unfolding entriesBy entriesFrom
   from-end h = let e : n - p ≡ 0 = omega arith in rw (e, entriesFrom)
 
 pub length-entries : (ws : List ℕ) (j n : ℕ) → length (entriesFrom ws j n) ≡ n

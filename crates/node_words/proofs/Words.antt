@@ -19,7 +19,7 @@ pub entry-drop : (ws : List ℕ) (k : ℕ) → entryFrom ws k ≡ entryFrom (dro
 unfolding entryFrom
 entry-drop ws k =
     let e : k + 0 ≡ k = omega arith in
-    rw (getD-drop k ws 0 0, getD-drop k ws (0 + 1) 0, getD-drop k ws (0 + 2) 0, getD-drop k ws (0 + 3) 0, getD-drop k ws (0 + 4) 0, e)
+    rw (getD-drop k ws 0 0, getD-drop k ws (0 + 1) 0, getD-drop k ws (0 + 2) 0, getD-drop k ws (0 + 3) 0, getD-drop k ws (0 + 4) 0, getD-drop k ws (0 + 5) 0, e)
 
 -- what is written of an entry is read as that entry
 parts : (n k c : ℕ) → n < 65536 → k < 256 → c < 256
@@ -51,7 +51,8 @@ write-entry (a ∷ []) h l = absurd (omega arith)
 write-entry (a ∷ b ∷ []) h l = absurd (omega arith)
 write-entry (a ∷ b ∷ c ∷ []) h l = absurd (omega arith)
 write-entry (a ∷ b ∷ c ∷ d ∷ []) h l = absurd (omega arith)
-write-entry (a ∷ b ∷ c ∷ d ∷ e ∷ ws) h l = first _ _ _ (head-word a (h 0))
+write-entry (a ∷ b ∷ c ∷ d ∷ e ∷ []) h l = absurd (omega arith)
+write-entry (a ∷ b ∷ c ∷ d ∷ e ∷ f ∷ ws) h l = first _ _ _ (head-word a (h 0))
 
 -- an entry goes by its own words alone
 pub entry-front : (ws rest : List ℕ) → entrySize ≤ length ws → entryFrom (ws ++ rest) 0 ≡ entryFrom ws 0
@@ -61,7 +62,8 @@ entry-front (a ∷ []) rest l = absurd (omega arith)
 entry-front (a ∷ b ∷ []) rest l = absurd (omega arith)
 entry-front (a ∷ b ∷ c ∷ []) rest l = absurd (omega arith)
 entry-front (a ∷ b ∷ c ∷ d ∷ []) rest l = absurd (omega arith)
-entry-front (a ∷ b ∷ c ∷ d ∷ e ∷ ws) rest l = refl
+entry-front (a ∷ b ∷ c ∷ d ∷ e ∷ []) rest l = absurd (omega arith)
+entry-front (a ∷ b ∷ c ∷ d ∷ e ∷ f ∷ ws) rest l = refl
 
 -- the words of an entry whose fields have their widths have 32 bits
 entry-words-fit : (e : Entry) (rest : List ℕ) → EntryFits e → WordsFit rest → WordsFit (entryWords e ++ rest)
@@ -71,7 +73,8 @@ entry-words-fit e rest h r (suc zero) = h .wcet
 entry-words-fit e rest h r (suc (suc zero)) = h .period
 entry-words-fit e rest h r (suc (suc (suc zero))) = h .deadline
 entry-words-fit e rest h r (suc (suc (suc (suc zero)))) = h .blocking
-entry-words-fit e rest h r (suc (suc (suc (suc (suc i))))) = r i
+entry-words-fit e rest h r (suc (suc (suc (suc (suc zero))))) = h .jitter
+entry-words-fit e rest h r (suc (suc (suc (suc (suc (suc i)))))) = r i
 
 -- the fields of an entry that is read from words of 32 bits have their widths
 entry-fits : (ws : List ℕ) (k : ℕ) → WordsFit ws → EntryFits (entryFrom ws k)
@@ -85,6 +88,7 @@ entry-fits ws k h =
       period = h _;
       deadline = h _;
       blocking = h _;
+      jitter = h _;
     }
 
 -- of lists of entries
@@ -192,13 +196,14 @@ entries-fit ws h j zero = tt
 entries-fit ws h j (suc n) = (entry-fits ws (j * entrySize) h, entries-fit ws h (suc j) n)
 
 -- an entry's words, stored one by one
-pub stored-five : (d : List ℕ) (k : ℕ) (e : Entry)
-    → set (set (set (set (set d k (e .number + e .kind * 65536 + e .calls * 16777216)) (k + 1) (e .wcet)) (k + 2) (e .period)) (k + 3) (e .deadline)) (k + 4) (e .blocking)
+pub stored-all : (d : List ℕ) (k : ℕ) (e : Entry)
+    → set (set (set (set (set (set d k (e .number + e .kind * 65536 + e .calls * 16777216)) (k + 1) (e .wcet)) (k + 2) (e .period)) (k + 3) (e .deadline)) (k + 4) (e .blocking)) (k + 5) (e .jitter)
     ≡ sets d k (entryWords e)
 unfolding entryWords
-stored-five d k e =
+stored-all d k e =
     let e1 : k + 1 ≡ suc k = omega arith in
     let e2 : k + 2 ≡ suc (suc k) = omega arith in
     let e3 : k + 3 ≡ suc (suc (suc k)) = omega arith in
     let e4 : k + 4 ≡ suc (suc (suc (suc k))) = omega arith in
-    rw (e1, e2, e3, e4)
+    let e5 : k + 5 ≡ suc (suc (suc (suc (suc k)))) = omega arith in
+    rw (e1, e2, e3, e4, e5)

@@ -1,5 +1,6 @@
--- Entries in memory: five words of 32 bits per entry, with the fields in the order and the widths of a plan file. The first
--- word has the number in its low 16 bits, then the kind and the calls in 8 bits each. The other words are C, T, D and B.
+-- Entries in memory: six words of 32 bits per entry, with the fields in the order and the widths of a plan file's second
+-- edition. The first word has the number in its low 16 bits, then the kind and the calls in 8 bits each. The other words are
+-- C, T, D, B and J.
 use Prim.Native.Nat.{ℕ, zero, suc, _+_, _*_, _/_, _%_, _<_}
 use mathlib.Core.List.{List, [], _∷_, _++_}
 use lib.ListN.{getD}
@@ -8,7 +9,7 @@ use Rattle.task_model.specs.Limits.{mostEntries, Node}
 
 -- How many words an entry has.
 abbrev pub entrySize : ℕ
-entrySize = 5
+entrySize = 6
 
 -- How many words a node has, with room for all its entries.
 abbrev pub nodeSize : ℕ
@@ -17,7 +18,7 @@ nodeSize = mostEntries * entrySize
 -- The words of an entry.
 unfoldable pub entryWords : Entry → List ℕ
 entryWords e =
-    (e .number + e .kind * 65536 + e .calls * 16777216) ∷ e .wcet ∷ e .period ∷ e .deadline ∷ e .blocking ∷ []
+    (e .number + e .kind * 65536 + e .calls * 16777216) ∷ e .wcet ∷ e .period ∷ e .deadline ∷ e .blocking ∷ e .jitter ∷ []
 
 -- The entry in the words from word `k` on.
 unfoldable pub entryFrom : List ℕ → ℕ → Entry
@@ -30,6 +31,7 @@ entryFrom ws k =
       period = getD ws (k + 2) 0;
       deadline = getD ws (k + 3) 0;
       blocking = getD ws (k + 4) 0;
+      jitter = getD ws (k + 5) 0;
     }
 
 -- The words of entries, one after the other.
@@ -54,7 +56,7 @@ entriesOf ws n = entriesFrom ws 0 n
 abbrev pub nodeOf : List ℕ → ℕ → ℕ → Node
 nodeOf ws n levels = record { levels = levels; entries = entriesOf ws n }
 
--- An entry fits its words. The widths of its fields in bits: number 16, kind and r 8 each, C, T, D and B 32 each.
+-- An entry fits its words. The widths of its fields in bits: number 16, kind and r 8 each, C, T, D, B and J 32 each.
 pub record EntryFits (e : Entry) : Type 0 where
   pub number : e .number < 65536
   pub kind : e .kind < 256
@@ -63,6 +65,7 @@ pub record EntryFits (e : Entry) : Type 0 where
   pub period : e .period < 4294967296
   pub deadline : e .deadline < 4294967296
   pub blocking : e .blocking < 4294967296
+  pub jitter : e .jitter < 4294967296
 
 -- Every entry of a list fits.
 abbrev pub EntriesFit : List Entry → Type 0

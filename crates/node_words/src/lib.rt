@@ -18,7 +18,7 @@ ghost use Rattle.task_model.specs.Checks.{entriesCheck, nodeCheck};
 ghost use Rattle.node_words.specs.Words.{entrySize, nodeSize, entryWords, entryFrom, entryOf, entriesFrom, nodeOf};
 
 // Sizes in words of 32 bits: of an entry, and of a node with room for all its entries (specs/Words.antt).
-pub const ENTRY_WORDS: usize = 5;
+pub const ENTRY_WORDS: usize = 6;
 
 pub const NODE_WORDS: usize = MOST_ENTRIES * ENTRY_WORDS;
 
@@ -26,9 +26,16 @@ pub type EntryWords = [u32; ENTRY_WORDS];
 
 pub type NodeWords = [u32; NODE_WORDS];
 
-// The entry that five words hold: number, kind and calls in the first, then C, T, D and B.
-pub fn entry_with(head: u32, wcet: u32, period: u32, deadline: u32, blocking: u32) -> Entry
-    ensures { λ e. ⌜ e ≡ entryFrom (head ∷ wcet ∷ period ∷ deadline ∷ blocking ∷ []) 0 ⌝ }
+// The entry that six words hold: number, kind and calls in the first, then C, T, D, B and J.
+pub fn entry_with(
+    head: u32,
+    wcet: u32,
+    period: u32,
+    deadline: u32,
+    blocking: u32,
+    jitter: u32,
+) -> Entry
+    ensures { λ e. ⌜ e ≡ entryFrom (head ∷ wcet ∷ period ∷ deadline ∷ blocking ∷ jitter ∷ []) 0 ⌝ }
 {
     Entry {
         number: (head % 65536) as u16,
@@ -38,10 +45,11 @@ pub fn entry_with(head: u32, wcet: u32, period: u32, deadline: u32, blocking: u3
         period,
         deadline,
         blocking,
+        jitter,
     }
 }
 
-// The entry in the five words of a slice from word `k` on.
+// The entry in the words of a slice from word `k` on.
 pub fn entry_of(words: &[u32], k: usize) -> Entry
     requires { ⌜ k + entrySize ≤ length (now words) ⌝ }
     ensures { λ e. ⌜ e ≡ entryFrom (now (words .entry)) k ⌝ }
@@ -52,6 +60,7 @@ pub fn entry_of(words: &[u32], k: usize) -> Entry
         words[k + 2],
         words[k + 3],
         words[k + 4],
+        words[k + 5],
     )
 }
 
@@ -73,9 +82,10 @@ pub fn store_entry(words: &mut [u32], k: usize, e: Entry)
     words[k + 2] = e.period;
     words[k + 3] = e.deadline;
     words[k + 4] = e.blocking;
+    words[k + 5] = e.jitter;
 }
 
-// Checks `count` entries, from entry `first` of the words on. Refuses the first that is not within the limits (7, 8).
+// Checks `count` entries, from entry `first` of the words on. Refuses the first that is not within the limits (7, 8, 14).
 pub fn check_entries(row: usize, words: &[u32], first: usize, count: usize) -> Checked
     requires { ⌜ (first + count) * entrySize ≤ length (now words) ⌝ }
     ensures { λ a. ⌜ outcome a ≡ entriesCheck row 0 (entriesFrom (now (words .entry)) first count) ⌝ }
@@ -92,7 +102,7 @@ pub fn check_entries(row: usize, words: &[u32], first: usize, count: usize) -> C
     Checked::Accepted
 }
 
-// Checks a node: its counts of levels and entries (4), then each entry (7, 8).
+// Checks a node: its counts of levels and entries (4), then each entry (7, 8, 14).
 pub fn check_node(row: usize, words: &NodeWords, count: usize, levels: u8) -> Checked
     ensures { λ a. ⌜ outcome a ≡ nodeCheck row (nodeOf (now (words .entry)) count levels) ⌝ }
 {

@@ -12,7 +12,7 @@ use Rattle.node_words.proofs.Entries.{length-entries, all-at}
 use Rattle.completion.specs.Demand.{sumTo, demandWith, initialTimeWith}
 use Rattle.completion.specs.Group.{groupLevel}
 use Rattle.completion.specs.Test.{limit, testWith, isOnTime}
-use Rattle.on_time.specs.Utilisation.{fullUtilisation, recurringUtilisation, recurringWcet}
+use Rattle.on_time.specs.Utilisation.{fullUtilisation, recurringUtilisation, recurringWcet, recurringJitter}
 use Rattle.completion.proofs.Sums.{sumTo-up, sumTo-more}
 use Rattle.completion.proofs.Words.{in-words, wcetOf, words-initial}
 use Rattle.completion.proofs.Theorems.{not-before, on-time-some, late-none}
@@ -23,6 +23,9 @@ utilisationOf d ws j = recurringUtilisation d (entryOf ws j)
 
 abbrev pub runOf : ℕ → List ℕ → ℕ → ℕ
 runOf d ws j = recurringWcet d (entryOf ws j)
+
+abbrev pub jitterOf : ℕ → List ℕ → ℕ → ℕ
+jitterOf d ws j = recurringJitter d (entryOf ws j)
 
 -- a quotient that is rounded up is the least whose product is enough
 pub ceil-least : (x f t : ℕ) → 1 ≤ f → x ≤ f * t → (x + (f - 1)) / f ≤ t
@@ -52,7 +55,8 @@ module _ (ws : List ℕ) (n : ℕ) (all : AllHold (entriesOf ws n)) (first last 
   -- no time at which the demand is met is before the bound by the utilisation
   pub not-earlier : (s x : ℕ) → s ≡ initialTimeWith b (entriesOf ws n) (groupLevel first last) i
       → ((t : ℕ) → s ≤ t
-      → fullUtilisation * (s - sumTo (runOf d ws) first) ≤ (fullUtilisation - sumTo (utilisationOf d ws) first) * t
+      → fullUtilisation * (s - sumTo (runOf d ws) first) + sumTo (jitterOf d ws) first
+      ≤ (fullUtilisation - sumTo (utilisationOf d ws) first) * t
       → x ≤ t)
       → (t : ℕ) → demandWith b (entriesOf ws n) (groupLevel first last) i t ≤ t → x ≤ t
   not-earlier s x p h t w =
@@ -62,6 +66,7 @@ module _ (ws : List ℕ) (n : ℕ) (all : AllHold (entriesOf ws n)) (first last 
         p,
         sym (in-words ws n (recurringUtilisation d) first (omega arith)),
         sym (in-words ws n (recurringWcet d) first (omega arith)),
+        sym (in-words ws n (recurringJitter d) first (omega arith)),
       )
       (fits-by-utilisation (entriesOf ws n) all first last i hf hi known b d t w))
 

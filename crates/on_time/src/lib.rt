@@ -7,14 +7,14 @@ use node_words::NodeWords;
 use node_words::entry_at;
 use task_model::Entry;
 ghost use mathlib.Core.Path.{_≡_};
-ghost use Prim.Native.Nat.{ℕ, _+_, _-_, _*_, _≤_, _<_};
-ghost use Rattle.task_model.specs.Limits.{mostTicks, mostEntries, AllHold, TimesHold};
+ghost use Prim.Native.Nat.{ℕ, _+_, _-_, _*_, _≤_, _<_, min};
+ghost use Rattle.task_model.specs.Limits.{mostTicks, mostEntries, AllHold, EntryHolds};
 ghost use Rattle.node_words.specs.Words.{entryOf, entriesOf};
 ghost use Rattle.completion.specs.Demand.{sumTo, demandWith};
 ghost use Rattle.completion.specs.Group.{groupLevel, InGroup};
 ghost use Rattle.completion.specs.Test.{testWith, isOnTime};
 ghost use Rattle.on_time.specs.Deciding.{isMet};
-ghost use Rattle.on_time.specs.Utilisation.{fullUtilisation, recurringUtilisation, recurringWcet};
+ghost use Rattle.on_time.specs.Utilisation.{fullUtilisation, recurringUtilisation, recurringWcet, recurringJitter};
 ghost use Rattle.on_time.specs.StartBound.{startBound};
 
 // The verdict without a completion time.
@@ -26,44 +26,70 @@ pub enum Deadline {
 // A utilisation of 1, in units of 2^-34. With a finer unit the numbers of `completion_bound` would not fit in 64 bits.
 const FULL_UTILISATION: u64 = 17179869184;
 
-// Sums over the entries with periods shorter than a limit, which are released again before it: C / T and C of each.
+// Sums over the entries that are released again before a limit: C / T, C, and J times C / T of each. The last sum can be too
+// large for 64 bits; it is cut at the limit times the full utilisation, which already means that the limit is missed.
 struct Recurring {
     utilisation: u64,
     runs: u64,
+    jitter: u64,
 }
 
 // What one entry adds to the sums.
 fn recurring_part(e: Entry, limit: u32) -> Recurring
-    requires { ⌜ TimesHold e ⌝ }
-    ensures { λ r. ⌜ (r .utilisation ≡ recurringUtilisation limit e) × (r .runs ≡ recurringWcet limit e) ⌝ }
+    requires { ⌜ EntryHolds e ⌝ ∗ ⌜ limit ≤ mostTicks ⌝ }
+    ensures { λ r.
+        ⌜ (r .utilisation ≡ recurringUtilisation limit e) × (r .runs ≡ recurringWcet limit e)
+        × (r .jitter ≡ recurringJitter limit e) ⌝ }
 {
-    if limit <= e.period {
+    if limit + e.jitter <= e.period {
         return Recurring {
             utilisation: 0,
             runs: 0,
+            jitter: 0,
         };
     }
+    let utilisation = FULL_UTILISATION * e.wcet as u64 / e.period as u64;
     Recurring {
-        utilisation: FULL_UTILISATION * e.wcet as u64 / e.period as u64,
+        utilisation,
         runs: e.wcet as u64,
+        jitter: utilisation * e.jitter as u64,
     }
+}
+
+// A sum that is cut at `most`.
+fn cut_sum(sum: u64, part: u64, most: u64) -> u64
+    requires { ⌜ sum ≤ most ⌝ }
+    ensures { λ x. ⌜ x ≡ min (sum + part) most ⌝ }
+{
+    if most - sum < part {
+        return most;
+    }
+    sum + part
 }
 
 // The sums over the entries before position `end`.
 fn recurring_sum(words: &NodeWords, end: usize, limit: u32) -> Recurring
-    requires { ⌜ AllHold (entriesOf (now words) end) ⌝ ∗ ⌜ end ≤ mostEntries ⌝ }
+    requires { ⌜ AllHold (entriesOf (now words) end) ⌝ ∗ ⌜ end ≤ mostEntries ⌝ ∗ ⌜ limit ≤ mostTicks ⌝ }
     ensures { λ r.
         ⌜ (r .utilisation ≡ sumTo (λ j. recurringUtilisation limit (entryOf (now (words .entry)) j)) end)
-        × (r .runs ≡ sumTo (λ j. recurringWcet limit (entryOf (now (words .entry)) j)) end) ⌝ }
+        × (r .runs ≡ sumTo (λ j. recurringWcet limit (entryOf (now (words .entry)) j)) end)
+        × (r .jitter ≡ min (sumTo (λ j. recurringJitter limit (entryOf (now (words .entry)) j)) end) (fullUtilisation * limit)) ⌝ }
 {
+    let most = FULL_UTILISATION * limit as u64;
     let mut utilisation = 0;
     let mut runs = 0;
+    let mut jitter = 0;
     for j in 0..end {
         let r = recurring_part(entry_at(words, j), limit);
         utilisation += r.utilisation;
         runs += r.runs;
+        jitter = cut_sum(jitter, r.jitter, most);
     }
-    Recurring { utilisation, runs }
+    Recurring {
+        utilisation,
+        runs,
+        jitter,
+    }
 }
 
 // What a utilisation leaves of the processor.
@@ -77,14 +103,15 @@ fn spare_utilisation(utilisation: u64) -> u64
 }
 
 // A lower bound on the completion time of an entry: its initial time, or later if the entries on higher levels, those
-// before `first`, use much of the processor. The work that is released once must fit into what they leave. If they leave
-// nothing, the demand is never met, and any time past the limit is a lower bound.
+// before `first`, use much of the processor. The work that is released once, and what they run for their jitter, must fit
+// into what they leave. If that is not so up to the limit, any time past the limit is a lower bound.
 fn completion_bound(words: &NodeWords, first: usize, limit: u32, initial: u64) -> u64
     requires { ⌜ AllHold (entriesOf (now words) first) ⌝ ∗ ⌜ first ≤ mostEntries ⌝
         ∗ ⌜ (sumTo (λ j. entryOf (now words) j .wcet) first < initial) × (initial ≤ limit) × (limit ≤ mostTicks) ⌝ }
     ensures { λ x.
         ⌜ (initial ≤ x) × ((t : ℕ) → initial ≤ t
         → fullUtilisation * (initial - sumTo (λ j. recurringWcet limit (entryOf (now (words .entry)) j)) first)
+        + sumTo (λ j. recurringJitter limit (entryOf (now (words .entry)) j)) first
         ≤ (fullUtilisation - sumTo (λ j. recurringUtilisation limit (entryOf (now (words .entry)) j)) first) * t
         → x ≤ t) ⌝ }
 {
@@ -93,7 +120,11 @@ fn completion_bound(words: &NodeWords, first: usize, limit: u32, initial: u64) -
     if spare == 0 {
         return limit as u64 + 1;
     }
-    let by_utilisation = (FULL_UTILISATION * (initial - r.runs) + (spare - 1)) / spare;
+    let once = FULL_UTILISATION * (initial - r.runs);
+    if FULL_UTILISATION * limit as u64 - once < r.jitter {
+        return limit as u64 + 1;
+    }
+    let by_utilisation = (once + r.jitter + (spare - 1)) / spare;
     if by_utilisation < initial {
         return initial;
     }

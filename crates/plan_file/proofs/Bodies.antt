@@ -1,52 +1,88 @@
--- Laws of the entries of a file, and of checking them entry by entry and node by node.
-use Prim.Native.Nat.{ℕ, suc, _+_, _<_}
+-- Laws of checking entries one by one and node by node, by any check of one entry.
+use Prim.Native.Nat.{ℕ, zero, suc, _+_, _-_, _≤_, _<_}
 use mathlib.Core.Path.{_≡_, _∙_, refl}
+use mathlib.Core.Logic.{_↔_, ⊎-elim}
 use mathlib.Core.List.{List, [], _∷_}
 use native.Mathlib.Omega.{arith}
 use native.Mathlib.Numerals.{add-one}
 use lib.ListN.{length, take, drop, length-take, length-drop}
 use lib.Seq.{getD-take, getD-drop, drop-drop}
+use lib.Dec.{ltb}
+use borrow.Author.Tests.{ltb-true, ltb-false}
 use Rattle.task_model.specs.declared.Entry.{Entry}
 use Rattle.refusals.specs.Refusals.{Outcome, accepted, refused, _andThen_}
-use Rattle.task_model.specs.Checks.{entryCheck, entriesCheck}
-use Rattle.task_model.specs.Limits.{noEntry, AllHold}
+use Rattle.task_model.specs.Checks.{entriesBy}
+use Rattle.task_model.specs.Limits.{noEntry, entryAt}
+use Rattle.task_model.proofs.Tests.{true-or-false}
 use Rattle.task_model.proofs.Laws.{entries-next, entries-stop}
-use Rattle.task_model.proofs.Theorems.{entries-accepted}
+use Rattle.task_model.proofs.Theorems.{each-accepted}
 use Rattle.plan_file.specs.declared.Row.{Row}
-use Rattle.plan_file.specs.Decoding.{entriesAt}
-use Rattle.plan_file.specs.Check.{nodesCheck}
+use Rattle.plan_file.specs.Check.{nodesBy}
 use Rattle.plan_file.specs.Find.{rowIn}
 use Rattle.plan_file.specs.Plan.{entryCount}
 use Rattle.byte_words.proofs.Runs.{AtHand}
-use Rattle.refusals.proofs.Outcomes.{then-accepted}
+use Rattle.refusals.proofs.Outcomes.{both-accepted, then-accepted}
 
 -- the entries of one body from position `j` on
-pub body-here : {es : List Entry} {j : ℕ} {e : Entry} → AtHand es j e → (row : ℕ) (o : Outcome) → entryCheck row j e ≡ o
-    → entriesCheck row j (drop j es) ≡ o andThen entriesCheck row (j + 1) (drop (j + 1) es)
-body-here {j} {e} h row accepted p = rw (h .here, add-one j) (entries-next row j e _ p)
-body-here {j} {e} h row (refused r) p = rw (h .here) (entries-stop row j e _ r p)
+module _ (check : ℕ → Entry → Outcome) where
+  pub body-here : {es : List Entry} {j : ℕ} {e : Entry} → AtHand es j e → (o : Outcome) → check j e ≡ o
+      → entriesBy check j (drop j es) ≡ o andThen entriesBy check (j + 1) (drop (j + 1) es)
+  body-here {j} {e} h accepted p = rw (h .here, add-one j) (entries-next check j e _ p)
+  body-here {j} {e} h (refused r) p = rw (h .here) (entries-stop check j e _ r p)
 
-pub body-end : (row j : ℕ) (es : List Entry) → es ≡ [] → entriesCheck row j es ≡ accepted
-unfolding entriesCheck
-body-end row j es e = rw e
+  pub body-end : (j : ℕ) (es : List Entry) → es ≡ [] → entriesBy check j es ≡ accepted
+  unfolding entriesBy
+  body-end j es e = rw e
 
--- rows are accepted if the entries of each are within the limits
-pub nodes-accepted : (k : ℕ) (rs : List Row) (es : List Entry)
-    → ((i : ℕ) → i < length rs → AllHold (take (rowIn rs i .count) (drop (entryCount (take i rs)) es)))
-    → nodesCheck k rs es ≡ accepted
-unfolding nodesCheck entryCount
-nodes-accepted k [] es each = refl
-nodes-accepted k (r ∷ rs) es each =
-    then-accepted _ _ (entries-accepted k 0 _ .1 (each 0 (omega arith)))
-    ∙ nodes-accepted (suc k) rs (drop (r .count) es)
-    (λ i h. rw (drop-drop (entryCount (take i rs)) (r .count) es) (each (suc i) (omega arith)))
+-- every entry of a list is as P says
+abbrev pub Each : (Entry → Type 0) → List Entry → Type 0
+Each P es = (j : ℕ) → j < length es → P (entryAt es j)
 
--- so the entries of a file are, whatever rows they are divided into, if they are accepted as one body
-pub whole-accepted : (f : List ℕ) (k n m : ℕ) (rs : List Row) → entriesCheck 0 0 (entriesAt f k n) ≡ accepted → n ≡ m
-    → nodesCheck 0 rs (entriesAt f k m) ≡ accepted
-whole-accepted f k n m rs a e =
-    let es = entriesAt f k m in
-    nodes-accepted 0 rs es
-    (λ i h. let c = rowIn rs i .count in let d = entryCount (take i rs) in λ j l.
+-- an entry of a part of a list is an entry of the list
+pub each-part : (P : Entry → Type 0) (es : List Entry) → Each P es → (c d : ℕ) → Each P (take c (drop d es))
+each-part P es h c d j l =
     rw (getD-take c (drop d es) j noEntry (omega (arith, length-take c (drop d es))), getD-drop)
-    (entries-accepted 0 0 es .0 (rw e at a) (d + j) (omega (arith, length-take c (drop d es), length-drop d es))))
+    (h (d + j) (omega (arith, length-take c (drop d es), length-drop d es)))
+
+-- node by node, where the check of one entry accepts exactly what P says
+module _ (check : ℕ → ℕ → Entry → Outcome) (P : Entry → Type 0) (one : (row p : ℕ) (e : Entry) → check row p e ≡ accepted ↔ P e) where
+  pub nodes-accepted : (k : ℕ) (rs : List Row) (es : List Entry)
+      → ((i : ℕ) → i < length rs → Each P (take (rowIn rs i .count) (drop (entryCount (take i rs)) es)))
+      → nodesBy check k rs es ≡ accepted
+  unfolding nodesBy entryCount
+  nodes-accepted k [] es each = refl
+  nodes-accepted k (r ∷ rs) es each =
+      then-accepted _ _ (each-accepted (check k) P (one k) 0 _ .1 (each 0 (omega arith)))
+      ∙ nodes-accepted (suc k) rs (drop (r .count) es)
+      (λ i h. rw (drop-drop (entryCount (take i rs)) (r .count) es) (each (suc i) (omega arith)))
+
+  -- entries that are accepted as one body are accepted in whatever rows they are divided into
+  pub whole-accepted : (es : List Entry) (rs : List Row) → entriesBy (check 0) 0 es ≡ accepted → nodesBy check 0 rs es ≡ accepted
+  whole-accepted es rs a = nodes-accepted 0 rs es
+      (λ i h. each-part P es (each-accepted (check 0) P (one 0) 0 es .0 a) (rowIn rs i .count) (entryCount (take i rs)))
+
+  -- the entries of each accepted row are as P says
+  pub nodes-each : (k : ℕ) (rs : List Row) (es : List Entry) → nodesBy check k rs es ≡ accepted → (i : ℕ) → i < length rs
+      → Each P (take (rowIn rs i .count) (drop (entryCount (take i rs)) es))
+  unfolding nodesBy entryCount
+  nodes-each k [] es a i h = absurd (omega arith)
+  nodes-each k (r ∷ rs) es a zero h = each-accepted (check k) P (one k) 0 _ .0 (both-accepted _ _ a .0)
+  nodes-each k (r ∷ rs) es a (suc i) h =
+      rw (← drop-drop (entryCount (take i rs)) (r .count) es)
+      (nodes-each (suc k) rs (drop (r .count) es) (both-accepted (entriesBy (check k) 0 (take (r .count) es)) _ a .1) i (omega arith))
+
+  -- and so is every entry, where the rows count them all
+  pub nodes-all : (k : ℕ) (rs : List Row) (es : List Entry) → nodesBy check k rs es ≡ accepted → length es ≤ entryCount rs → Each P es
+  unfolding nodesBy entryCount
+  nodes-all k [] es a l j h = absurd (omega arith)
+  nodes-all k (r ∷ rs) es a l j h =
+      let c = r .count in
+      let q = both-accepted (entriesBy (check k) 0 (take c es)) _ a in
+      ⊎-elim
+      (λ t. rw (getD-take c es j noEntry (ltb-true j c t)) at
+      (each-accepted (check k) P (one k) 0 (take c es) .0 (q .0) j (omega (arith, ltb-true j c t, length-take c es))))
+      (λ t.
+      let e : c + (j - c) ≡ j = omega (arith, ltb-false j c t) in
+      rw (getD-drop c es (j - c) noEntry, e) at
+      (nodes-all (suc k) rs (drop c es) (q .1) (omega (arith, length-drop c es)) (j - c) (omega (arith, ltb-false j c t, length-drop c es))))
+      (true-or-false (ltb j c))

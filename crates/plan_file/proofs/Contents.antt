@@ -7,6 +7,7 @@ use native.Mathlib.Numerals.{add-one}
 use lib.ListN.{length, getD, drop, length-map, List·getD-map, drop-of-length-le}
 use Rattle.node_words.specs.Words.{entryOf, entriesFrom}
 use Rattle.plan_file.specs.Encoding.{rowLength, headerLength, entryLength}
+use Rattle.plan_file.specs.declared.Edition.{Edition}
 use Rattle.plan_file.specs.declared.Row.{Row}
 use Rattle.plan_file.specs.Plan.{rowWord, rowOf}
 use Rattle.byte_words.specs.Bytes.{wordAt}
@@ -22,9 +23,9 @@ rows-run f = record { none = λ i. refl; more = λ i n. rw (add-one i) }
 pub row-words-run : (f : List ℕ) → Run 1 (λ i. rowWord (rowAt f i)) (λ i n. map rowWord (rowsFrom f i n))
 row-words-run f = record { none = λ i. rw (rows-run f .none i); more = λ i n. rw (rows-run f .more i n) }
 
-pub entries-run : (f : List ℕ) → Run entryLength (entryIn f) (entriesAt f)
+pub entries-run : (ed : Edition) (f : List ℕ) → Run (entryLength ed) (entryIn ed f) (entriesAt ed f)
 unfolding entriesAt
-entries-run f = record { none = λ k. refl; more = λ k n. refl }
+entries-run ed f = record { none = λ k. refl; more = λ k n. refl }
 
 pub words-entries-run : (ws : List ℕ) → Run 1 (entryOf ws) (entriesFrom ws)
 unfolding entriesFrom
@@ -36,8 +37,8 @@ length-rows f = run-length (rows-run f)
 pub length-row-words : (f : List ℕ) (n : ℕ) → length (map rowWord (rowsFrom f 0 n)) ≡ n
 length-row-words f = run-length (row-words-run f) 0
 
-pub length-entries-at : (f : List ℕ) (k n : ℕ) → length (entriesAt f k n) ≡ n
-length-entries-at f = run-length (entries-run f)
+pub length-entries-at : (ed : Edition) (f : List ℕ) (k n : ℕ) → length (entriesAt ed f k n) ≡ n
+length-entries-at ed f = run-length (entries-run ed f)
 
 -- row `i` of a file
 module _ (f : List ℕ) (n i : ℕ) where

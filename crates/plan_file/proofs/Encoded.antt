@@ -4,16 +4,19 @@ use mathlib.Core.Path.{_≡_, _∙_, refl, sym, ap}
 use mathlib.Core.List.{List, [], _∷_, _++_}
 use native.Mathlib.Nat.{zero-add}
 use native.Mathlib.Omega.{arith}
-use lib.ListN.{length, take, drop}
-use lib.Seq.{drop-cons, drop-drop, take-add, take-all}
+use lib.ListN.{length, getD, take, drop, length-append}
+use lib.Seq.{drop-cons, drop-drop, take-add, take-at, take-all}
 use Rattle.refusals.specs.Refusals.{accepted}
 use Rattle.node_words.specs.Words.{entrySize}
+use Rattle.plan_file.specs.declared.Edition.{Edition}
+use Rattle.plan_file.specs.declared.Edition.the-variants.{First, Second}
 use Rattle.plan_file.specs.Plan.{entryCount}
-use Rattle.plan_file.specs.Encoding.{rowLength, headerLength, entryLength, headerBytes, rowBytes, bodiesStart, contentsBytes, bodiesBytes, encoding}
+use Rattle.plan_file.specs.Encoding.{openingBytes, rowLength, headerLength, entryLength, headerBytes, rowBytes, entryBytes, bodiesStart, contentsBytes, bodiesBytes, encoding}
 use Rattle.byte_words.specs.Bytes.{low, Bytes, wordAt, wordsFrom, bytesOf}
-use Rattle.plan_file.specs.Decoding.{nodeCount, rowAt, offsetAt, rowsFrom, rowsIn, entriesAt, planIn}
+use Rattle.plan_file.specs.Decoding.{editionOf, nodeCount, rowAt, offsetAt, rowsFrom, rowsIn, entryIn, entriesAt, planIn}
 use Rattle.plan_file.specs.Check.{contentsCheck, fileCheck}
-use Rattle.plan_file.proofs.Words.{row-bytes, bodies-bytes, entries-in-words}
+use Rattle.plan_file.proofs.Tests.{Opens, Counted}
+use Rattle.plan_file.proofs.Words.{row-bytes, entry-bytes}
 use Rattle.byte_words.proofs.Words.{length-words}
 use Rattle.plan_file.proofs.Contents.{length-rows}
 use Rattle.plan_file.proofs.File.{FileHolds, file-holds}
@@ -68,17 +71,18 @@ module _ (f : List ℕ) (b : Bytes f) where
       ∙ rw (← e, word-part (headerLength + i * rowLength) (omega arith), word-part (headerLength + i * rowLength + 4) (omega arith))
       (part-add f (headerLength + i * rowLength) 4 4)
 
-  pub contents-part : (i n least required : ℕ) → contentsCheck f i least required (rowsFrom f i n) ≡ accepted
-      → headerLength + (i + n) * rowLength ≤ length f → contentsBytes required (rowsFrom f i n) ≡ part f (headerLength + i * rowLength) (n * rowLength)
+  pub contents-part : (size i n least required : ℕ) → contentsCheck size f i least required (rowsFrom f i n) ≡ accepted
+      → headerLength + (i + n) * rowLength ≤ length f
+      → contentsBytes size required (rowsFrom f i n) ≡ part f (headerLength + i * rowLength) (n * rowLength)
   unfolding rowsFrom contentsBytes
-  contents-part i zero least required a h = refl
-  contents-part i (suc n) least required a h =
-      let p = row-placed f i least required (rowAt f i) (rowsFrom f (suc i) n) a in
+  contents-part size i zero least required a h = refl
+  contents-part size i (suc n) least required a h =
+      let p = row-placed size f i least required (rowAt f i) (rowsFrom f (suc i) n) a in
       let e : headerLength + suc i * rowLength ≡ headerLength + i * rowLength + rowLength = omega arith in
       let e2 : suc n * rowLength ≡ rowLength + n * rowLength = omega arith in
       rw (
         row-part i required (p .placed) (omega arith),
-        contents-part (suc i) n _ _ (p .rest) (omega arith),
+        contents-part size (suc i) n _ _ (p .rest) (omega arith),
         e,
         e2,
       )
@@ -91,48 +95,70 @@ module _ (f : List ℕ) (b : Bytes f) where
       let e : suc n * 4 ≡ 4 + n * 4 = omega arith in
       rw (word-part k (omega arith), words-part (k + 4) n (omega arith), e) (part-add f k 4 (n * 4))
 
-  pub bodies-part : (k n : ℕ) → k + n * entryLength ≤ length f → bodiesBytes (entriesAt f k n) ≡ part f k (n * entryLength)
-  bodies-part k n h =
-      let l = length-words f k (n * entrySize) in
-      let e : n * entrySize * 4 ≡ n * entryLength = omega arith in
-      ap bodiesBytes (entries-in-words f k n)
-      ∙ bodies-bytes n _ (omega (arith, l))
-      ∙ ap bytesOf (take-all (n * entrySize) _ (omega (arith, l)))
-      ∙ words-part k (n * entrySize) (omega arith)
-      ∙ ap (part f k) e
+  entry-part : (ed : Edition) (k : ℕ) → k + entryLength ed ≤ length f → entryBytes ed (entryIn ed f k) ≡ part f k (entryLength ed)
+  entry-part First k h =
+      let l = length-words f k 5 in
+      entry-bytes First (wordsFrom f k 5 ++ (0 ∷ [])) (omega (arith, l, length-append (wordsFrom f k 5) (0 ∷ [])))
+      ∙ ap bytesOf (take-at (wordsFrom f k 5) (0 ∷ []) 5 l)
+      ∙ words-part k 5 h
+  entry-part Second k h =
+      let l = length-words f k entrySize in
+      entry-bytes Second (wordsFrom f k entrySize) (omega (arith, l))
+      ∙ ap bytesOf (take-all entrySize (wordsFrom f k entrySize) (omega (arith, l)))
+      ∙ words-part k entrySize h
+
+  pub bodies-part : (ed : Edition) (k n : ℕ) → k + n * entryLength ed ≤ length f
+      → bodiesBytes ed (entriesAt ed f k n) ≡ part f k (n * entryLength ed)
+  unfolding bodiesBytes entriesAt
+  bodies-part ed k zero h = let e : 0 * entryLength ed ≡ 0 = omega arith in rw e
+  bodies-part ed k (suc n) h =
+      let e : suc n * entryLength ed ≡ entryLength ed + n * entryLength ed = omega arith in
+      rw (entry-part ed k (omega arith), bodies-part ed (k + entryLength ed) n (omega arith), e)
+      (part-add f k (entryLength ed) (n * entryLength ed))
+
+  -- an opening stands at the start of a file that opens with it
+  opening-part : (ed : Edition) → Opens ed f → openingBytes ed ≡ getD f 0 0 ∷ getD f 1 0 ∷ getD f 2 0 ∷ getD f 3 0 ∷ []
+  opening-part First h = rw (h .first, h .second, h .third, h .fourth)
+  opening-part Second h = rw (h .first, h .second, h .third, h .fourth)
+
+  header-part : (ed : Edition) → Opens ed f → Counted f → headerLength ≤ length f → headerBytes ed (nodeCount f) ≡ part f 0 headerLength
+  unfolding headerBytes low
+  header-part ed o c l =
+      let n : nodeCount f % 256 ≡ nodeCount f = omega (arith, c .few) in
+      rw (
+        opening-part ed o,
+        drop-cons f 0 0 (omega arith),
+        drop-cons f 1 0 (omega arith),
+        drop-cons f 2 0 (omega arith),
+        drop-cons f 3 0 (omega arith),
+        drop-cons f 4 0 (omega arith),
+        drop-cons f 5 0 (omega arith),
+        drop-cons f 6 0 (omega arith),
+        drop-cons f 7 0 (omega arith),
+      )
+      (rw (n, c .zero5, c .zero6, c .zero7))
 
   module _ (a : fileCheck f ≡ accepted) where
     held : FileHolds f
     held = file-holds f a
 
-    header-part : headerBytes (nodeCount f) ≡ part f 0 headerLength
-    unfolding headerBytes low
-    header-part =
-        let h = held .header in
-        let n : nodeCount f % 256 ≡ nodeCount f = omega (arith, h .counted .few) in
-        let l = h .long in
-        rw (
-          drop-cons f 0 0 (omega arith),
-          drop-cons f 1 0 (omega arith),
-          drop-cons f 2 0 (omega arith),
-          drop-cons f 3 0 (omega arith),
-          drop-cons f 4 0 (omega arith),
-          drop-cons f 5 0 (omega arith),
-          drop-cons f 6 0 (omega arith),
-          drop-cons f 7 0 (omega arith),
-        )
-        (rw (n, h .opens .first, h .opens .second, h .opens .third, h .opens .fourth, h .counted .zero5, h .counted .zero6, h .counted .zero7))
-
-    pub same-bytes : encoding (planIn f) ≡ f
+    pub same-bytes : encoding (editionOf f) (planIn f) ≡ f
     unfolding encoding
     same-bytes =
+        let ed = editionOf f in
         let n = nodeCount f in
+        let m = entryCount (rowsIn f) * entryLength ed in
         let s = held .ends in
         let l : headerLength + (0 + n) * rowLength ≤ length f = omega (arith, held .header .contents) in
-        let t : bodiesStart n + entryCount (rowsIn f) * entryLength ≤ length f = omega arith in
-        let e : headerLength + n * rowLength + entryCount (rowsIn f) * entryLength ≡ length f = omega arith in
-        rw (length-rows f 0 n, header-part, contents-part 0 n 0 (bodiesStart n) (held .contents) l, bodies-part (bodiesStart n) (entryCount (rowsIn f)) t)
+        let t : bodiesStart n + m ≤ length f = omega arith in
+        let e : headerLength + n * rowLength + m ≡ length f = omega arith in
+        rw (
+          length-rows f 0 n,
+          header-part ed (held .header .opens) (held .header .counted) (held .header .long),
+          contents-part (entryLength ed) 0 n 0 (bodiesStart n) (held .contents) l,
+          bodies-part ed (bodiesStart n) (entryCount (rowsIn f)) t,
+        )
         (rw (part-add f 0 headerLength (n * rowLength))
-        (ap (λ k. part f 0 (headerLength + n * rowLength) ++ part f k (entryCount (rowsIn f) * entryLength)) (sym (zero-add (headerLength + n * rowLength)))
-        ∙ part-add f 0 (headerLength + n * rowLength) (entryCount (rowsIn f) * entryLength)
+        (ap (λ k. part f 0 (headerLength + n * rowLength) ++ part f k m) (sym (zero-add (headerLength + n * rowLength)))
+        ∙ part-add f 0 (headerLength + n * rowLength) m
         ∙ rw e (take-all (length f) f (omega arith))))

@@ -6,14 +6,14 @@ use native.Mathlib.Omega.{arith}
 use lib.ListN.{length}
 use lib.Seq.{take-all}
 use Rattle.node_words.specs.Words.{entrySize, wordsOf, entriesOf, WordsFit}
-use Rattle.node_words.proofs.Words.{write-entries, entries-fit}
-use Rattle.plan_file.specs.Plan.{rowWord, rowOf, RowFits, RowsFit, PlanFits}
-use Rattle.plan_file.specs.Encoding.{headerLength, rowLength}
+use Rattle.node_words.proofs.Words.{write-entries}
+use Rattle.plan_file.specs.Plan.{entryCount, rowWord, rowOf, RowFits, RowsFit, PlanFits}
+use Rattle.plan_file.specs.Encoding.{headerLength, rowLength, bodiesStart}
 use Rattle.byte_words.specs.Bytes.{Bytes, wordAt}
-use Rattle.plan_file.specs.Decoding.{nodeCount, rowsFrom, rowsIn, planIn}
-use Rattle.plan_file.proofs.Words.{row-word, entries-in-words}
+use Rattle.plan_file.specs.Decoding.{editionOf, nodeCount, rowsFrom, rowsIn, planIn}
+use Rattle.plan_file.proofs.Words.{row-word}
 use Rattle.byte_words.proofs.Words.{word-below}
-use Rattle.plan_file.proofs.Memory.{words-below}
+use Rattle.plan_file.proofs.Memory.{entries-at-fit}
 
 row-fits : (w : ℕ) → RowFits (rowOf w)
 unfolding rowOf
@@ -42,5 +42,5 @@ pub plan-fits : (f : List ℕ) → Bytes f → PlanFits (planIn f)
 plan-fits f b =
     record {
       rows = rw (← rows-words f 0 (nodeCount f) b) (words-fit-rows (map rowWord (rowsIn f)));
-      entries = rw (entries-in-words f _ _) (entries-fit _ (words-below f b _ _) 0 _);
+      entries = entries-at-fit (editionOf f) f b (bodiesStart (nodeCount f)) (entryCount (rowsIn f));
     }

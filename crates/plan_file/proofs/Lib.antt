@@ -30,4 +30,6 @@ pub mod Theorems
 pub mod RoundTrips
 -- What functions promise beside their answer.
 pub mod Ensured
+-- A file without a release jitter is checked as before there was one.
+pub mod FirstEdition
 pub mod Examples

@@ -1,33 +1,31 @@
--- The writer's checks accept a plan exactly if it is within the limits. A file that is longer than any plan's is not
--- accepted.
+-- The writer's checks accept a plan exactly if it is within the limits and its edition has a place for every entry. A file
+-- that is longer than any plan's is not accepted.
 use Prim.Native.Nat.{ℕ, zero, suc, _+_, _*_, _/_, _≤_, _<_}
 use mathlib.Core.Path.{_≡_, _∙_, refl}
 use mathlib.Core.List.{List, [], _∷_}
 use native.Mathlib.Omega.{arith}
 use lib.ListN.{length, take, drop, length-drop}
-use lib.Seq.{drop-drop, length-take-le}
+use lib.Seq.{length-take-le}
 use borrow.Author.Tests.{eq-eqb, ne-eqb}
 use Rattle.node_words.specs.Words.{entrySize}
-use Rattle.task_model.specs.declared.Entry.{Entry}
 use Rattle.refusals.specs.Refusals.{at, accepted, refused, mustHold}
-use Rattle.task_model.specs.Limits.{AllHold}
-use Rattle.task_model.specs.Checks.{entriesCheck}
 use Rattle.refusals.proofs.Outcomes.{both-accepted, then-accepted, mustHold-accepts, mustHold-refuses}
 use Rattle.node_words.proofs.Entries.{length-entries}
-use Rattle.task_model.proofs.Theorems.{entries-accepted}
+use Rattle.plan_file.specs.declared.Edition.{Edition}
 use Rattle.plan_file.specs.declared.Row.{Row}
 use Rattle.plan_file.specs.Plan.{mostNodes, Plan, entryCount, planOf}
-use Rattle.plan_file.specs.Check.{rowTest, rowsCheck, contentsCheck, layoutCheck, nodesCheck, planCheck, wordsCheck}
+use Rattle.plan_file.specs.Check.{rowTest, rowsCheck, contentsCheck, layoutCheck, writtenCheck, planCheck, wordsCheck}
 use Rattle.plan_file.specs.Encoding.{entryLength, bodiesStart}
 use Rattle.plan_file.specs.Decoding.{rowsFrom}
 use Rattle.plan_file.specs.Find.{rowIn, nodeOfRow}
-use Rattle.plan_file.specs.Limits.{PlanHolds}
+use Rattle.plan_file.specs.Limits.{PlanHolds, EditionFits, EditionHolds}
 use Rattle.plan_file.proofs.Tests.{RowHolds, row-true}
-use Rattle.plan_file.proofs.WriterChecks.{writer-holds, writer-nodes, count-true}
+use Rattle.plan_file.proofs.WriterChecks.{writer-holds, writer-nodes, count-true, written-accepted, written-fits}
 use Rattle.plan_file.proofs.Finding.{rows-each, not-below}
-use Rattle.plan_file.proofs.Bodies.{nodes-accepted}
+use Rattle.plan_file.proofs.Bodies.{each-part, nodes-accepted, nodes-each}
 use Rattle.plan_file.proofs.Contents.{length-rows}
 use Rattle.plan_file.proofs.Nodes.{count-split, contents-rows}
+use Rattle.plan_file.proofs.Encoding.{entry-short}
 use Rattle.plan_file.proofs.Decoded.{few-entries}
 
 -- rows that are accepted have numbers that rise
@@ -63,17 +61,7 @@ rows-accepted k least (r ∷ rs) first each rise =
     (λ i h. each (suc i) (omega arith))
     (λ i h. rise (suc i) (omega arith))
 
--- the entries of each accepted row are all within the limits
-nodes-each : (k : ℕ) (rs : List Row) (es : List Entry) → nodesCheck k rs es ≡ accepted → (i : ℕ) → i < length rs
-    → AllHold (take (rowIn rs i .count) (drop (entryCount (take i rs)) es))
-unfolding nodesCheck entryCount
-nodes-each k [] es a i h = absurd (omega arith)
-nodes-each k (r ∷ rs) es a zero h = entries-accepted k 0 _ .0 (both-accepted _ _ a .0)
-nodes-each k (r ∷ rs) es a (suc i) h =
-    rw (← drop-drop (entryCount (take i rs)) (r .count) es)
-    (nodes-each (suc k) rs (drop (r .count) es) (both-accepted (entriesCheck k 0 (take (r .count) es)) _ a .1) i (omega arith))
-
-module _ (p : Plan) where
+module _ (ed : Edition) (p : Plan) where
   -- a node has as many entries as its row counts, where the counts add up
   length-node : entryCount (p .rows) ≡ length (p .entries) → (i : ℕ) → i < length (p .rows)
       → length (nodeOfRow p i .entries) ≡ rowIn (p .rows) i .count
@@ -82,30 +70,32 @@ module _ (p : Plan) where
       length-take-le (rowIn (p .rows) i .count) (drop (entryCount (take i (p .rows))) (p .entries))
       (omega (arith, count-split (p .rows) i h, length-drop (entryCount (take i (p .rows))) (p .entries)))
 
-  pub plan-holds : planCheck p ≡ accepted → PlanHolds p
+  pub plan-holds : planCheck ed p ≡ accepted → PlanHolds p × EditionHolds ed p
   unfolding nodeOfRow
   plan-holds a =
-      let h = writer-holds (p .rows) (p .entries) (length (p .entries) * entrySize) a in
-      let e : entryCount (p .rows) ≡ length (p .entries) = omega (arith, h .counts) in
-      record {
-        some = h .some;
-        few = h .few;
-        rising = rows-rise 0 0 (p .rows) (h .rowsHold);
-        nodes =
-            λ i l.
-            let r = rows-each 0 0 (p .rows) (h .rowsHold) i l in
-            record {
-              someLevels = r .someLevels;
-              fewLevels = r .fewLevels;
-              fewEntries = omega (arith, length-node e i l, r .fewEntries);
-              each = nodes-each 0 (p .rows) (p .entries) (h .nodes) i l;
-            };
-        counts = e;
-      }
+      let h = writer-holds ed (p .rows) (p .entries) (length (p .entries) * entrySize) a in
+      let e : entryCount (p .rows) ≡ length (p .entries) = omega (arith, h .counts) in (
+        record {
+          some = h .some;
+          few = h .few;
+          rising = rows-rise 0 0 (p .rows) (h .rowsHold);
+          nodes =
+              λ i l.
+              let r = rows-each 0 0 (p .rows) (h .rowsHold) i l in
+              record {
+                someLevels = r .someLevels;
+                fewLevels = r .fewLevels;
+                fewEntries = omega (arith, length-node e i l, r .fewEntries);
+                each = λ j k. nodes-each (writtenCheck ed) _ (written-accepted ed) 0 (p .rows) (p .entries) (h .nodes) i l j k .0;
+              };
+          counts = e;
+        },
+        written-fits ed 0 (p .rows) (p .entries) (h .nodes) (omega arith),
+      )
 
-  pub holds-accepted : PlanHolds p → planCheck p ≡ accepted
+  pub holds-accepted : PlanHolds p → EditionHolds ed p → planCheck ed p ≡ accepted
   unfolding nodeOfRow
-  holds-accepted h =
+  holds-accepted h fits =
       let rows =
       rows-accepted 0 0 (p .rows) (λ l. omega arith)
       (λ i l.
@@ -117,23 +107,28 @@ module _ (p : Plan) where
         fewEntries = omega (arith, length-node (h .counts) i l, n .fewEntries);
       })
       (h .rising) in
-      writer-nodes (p .rows) (p .entries) (length (p .entries) * entrySize) (count-true (length (p .rows)) (h .some) (h .few))
+      writer-nodes ed (p .rows) (p .entries) (length (p .entries) * entrySize) (count-true (length (p .rows)) (h .some) (h .few))
       (then-accepted _ _ rows ∙ mustHold-accepts _ _ (eq-eqb (length (p .entries) * entrySize) (entryCount (p .rows) * entrySize) (omega (arith, h .counts))))
-      ∙ nodes-accepted 0 (p .rows) (p .entries) (λ i l. h .nodes i l .each)
+      ∙ nodes-accepted (writtenCheck ed) _ (written-accepted ed) 0 (p .rows) (p .entries)
+      (λ i l j k. (
+        h .nodes i l .each j k,
+        each-part (EditionFits ed) (p .entries) fits (rowIn (p .rows) i .count) (entryCount (take i (p .rows))) j k,
+      ))
 
 -- words that are accepted hold a plan that is
-pub words-plan : (rs ws : List ℕ) → wordsCheck rs ws ≡ accepted → planCheck (planOf rs ws) ≡ accepted
-words-plan rs ws a =
-    let n : length ws / entrySize * entrySize ≡ length ws = omega (arith, writer-holds _ _ _ a .counts) in
+pub words-plan : (ed : Edition) (rs ws : List ℕ) → wordsCheck ed rs ws ≡ accepted → planCheck ed (planOf rs ws) ≡ accepted
+words-plan ed rs ws a =
+    let n : length ws / entrySize * entrySize ≡ length ws = omega (arith, writer-holds _ _ _ _ a .counts) in
     rw (length-entries ws 0 (length ws / entrySize), n) a
 
 -- accepted rows end too early for a file that is longer than any plan's
-pub long-layout : (f : List ℕ) → 41224 < length f → (n : ℕ) → n ≤ mostNodes
-    → contentsCheck f 0 0 (bodiesStart n) (rowsFrom f 0 n) ≡ accepted
-    → layoutCheck f 0 0 (bodiesStart n) (rowsFrom f 0 n) ≡ refused (at 6 0 0)
+pub long-layout : (ed : Edition) (f : List ℕ) → 49416 < length f → (n : ℕ) → n ≤ mostNodes
+    → contentsCheck (entryLength ed) f 0 0 (bodiesStart n) (rowsFrom f 0 n) ≡ accepted
+    → layoutCheck (entryLength ed) f 0 0 (bodiesStart n) (rowsFrom f 0 n) ≡ refused (at 6 0 0)
 unfolding layoutCheck
-long-layout f l n few a =
+long-layout ed f l n few a =
     let rs = rowsFrom f 0 n in
-    let k = few-entries 0 0 rs (contents-rows f 0 0 (bodiesStart n) rs a) in
+    let k = few-entries 0 0 rs (contents-rows (entryLength ed) f 0 0 (bodiesStart n) rs a) in
     then-accepted _ _ a
-    ∙ mustHold-refuses _ _ (ne-eqb (length f) (bodiesStart n + entryCount rs * entryLength) (λ e. omega (arith, length-rows f 0 n)))
+    ∙ mustHold-refuses _ _
+    (ne-eqb (length f) (bodiesStart n + entryCount rs * entryLength ed) (λ e. omega (arith, length-rows f 0 n, entry-short ed (entryCount rs))))

@@ -1,15 +1,18 @@
 -- What the reader and the finder answer, check by check.
 use Prim.Native.Nat.{ℕ, _*_, _≤_, _<_}
-use mathlib.Core.Path.{_≡_}
-use mathlib.Core.List.{List}
+use mathlib.Core.Path.{_≡_, _∙_}
+use mathlib.Core.List.{List, _++_}
 use native.Mathlib.Omega.{arith}
-use lib.ListN.{length}
+use lib.ListN.{length, drop}
 use borrow.Author.Tests.{le-leb, lt-leb, lt-ltb, le-ltb}
-use Rattle.node_words.specs.Words.{entrySize}
+use Rattle.node_words.specs.Words.{entrySize, wordsOf}
+use Rattle.byte_words.specs.Buffers.{over}
+use Rattle.byte_words.proofs.Buffers.{over-start}
 use Rattle.refusals.specs.Refusals.{Numbered, at, accepted, refused}
+use Rattle.plan_file.specs.declared.Edition.{Edition}
 use Rattle.plan_file.specs.Plan.{entryCount}
 use Rattle.plan_file.specs.Encoding.{bodiesStart}
-use Rattle.plan_file.specs.Decoding.{nodeCount, rowAt, offsetAt, rowsIn, entriesIn}
+use Rattle.plan_file.specs.Decoding.{editionOf, nodeCount, rowAt, offsetAt, rowsIn, entriesAt, entriesIn}
 use Rattle.plan_file.specs.Check.{fileCheck}
 use Rattle.plan_file.specs.Find.{rowOfNumber, findCheck}
 use Rattle.plan_file.specs.Answers.{readAnswer, findAnswer}
@@ -33,22 +36,30 @@ module _ (f : List ℕ) (rows words : ℕ) where
         rw (
           a,
           le-leb (length (rowsIn f)) rows (omega (arith, length-rows f 0 (nodeCount f))),
-          lt-leb (length (entriesIn f) * entrySize) words (omega (arith, length-entries-at f (bodiesStart (nodeCount f)) (entryCount (rowsIn f)))),
+          lt-leb (length (entriesIn f) * entrySize) words (omega (arith, length-entries-at (editionOf f) f (bodiesStart (nodeCount f)) (entryCount (rowsIn f)))),
         )
 
-    pub read-filled : (nodes count : ℕ) → nodes ≡ nodeCount f → count ≡ entryCount (rowsIn f) → nodes ≤ rows → count * entrySize ≤ words
-        → readAnswer f rows words ≡ gives (record { rows = nodes; entries = count })
+    pub read-filled : (ed : Edition) (nodes count : ℕ) → ed ≡ editionOf f → nodes ≡ nodeCount f → count ≡ entryCount (rowsIn f)
+        → nodes ≤ rows → count * entrySize ≤ words
+        → readAnswer f rows words ≡ gives (record { edition = ed; rows = nodes; entries = count })
     unfolding readAnswer
-    read-filled nodes count en ec h l =
+    read-filled ed nodes count ee en ec h l =
         rw (
           a,
+          ee,
           length-rows f 0 (nodeCount f),
-          length-entries-at f (bodiesStart (nodeCount f)) (entryCount (rowsIn f)),
+          length-entries-at (editionOf f) f (bodiesStart (nodeCount f)) (entryCount (rowsIn f)),
           ← ec,
           ← en,
           le-leb nodes rows h,
           le-leb (count * entrySize) words l,
         )
+
+-- the entries that are copied to a buffer's start are the file's
+pub entries-left : (f : List ℕ) (ed : Edition) (k n : ℕ) → ed ≡ editionOf f → k ≡ bodiesStart (nodeCount f) → n ≡ entryCount (rowsIn f)
+    → (old new : List ℕ) → new ≡ over old 0 (wordsOf (entriesAt ed f k n))
+    → new ≡ wordsOf (entriesIn f) ++ drop (length (wordsOf (entriesIn f))) old
+entries-left f ed k n ee ek en old new e = (rw (ee, ek, en) at e) ∙ over-start old _
 
 module _ (f : List ℕ) (number : ℕ) where
   pub find-refused : (r : Numbered) → fileCheck f ≡ refused r → findAnswer f number ≡ refuses r
@@ -71,5 +82,5 @@ module _ (f : List ℕ) (number : ℕ) where
           length-rows f 0 (nodeCount f),
           lt-ltb i (nodeCount f) h,
           node-at f a i h,
-          length-entries-at f (offsetAt f i) (rowAt f i .count),
+          length-entries-at (editionOf f) f (offsetAt f i) (rowAt f i .count),
         )

@@ -1,31 +1,38 @@
 -- What the tests of a file's header and of a row say about their numbers.
 use Prim.Native.Nat.{ℕ, _≤_}
-use mathlib.Core.Path.{_≡_}
-use mathlib.Core.Bool.{true, false, _&&_}
+use mathlib.Core.Path.{_≡_, _∙_, sym}
+use mathlib.Core.Logic.{⊎-elim}
+use mathlib.Core.Bool.{true, false, _&&_, true≢false}
 use mathlib.Core.List.{List}
+use native.Mathlib.Omega.{arith}
 use lib.ListN.{getD}
 use lib.Dec.{leb, eqb}
-use borrow.Author.Tests.{leb-true, le-leb, eqb-true}
+use borrow.Author.Tests.{leb-true, le-leb, eqb-true, eq-eqb}
 use Rattle.plan_file.specs.Plan.{mostNodes}
 use Rattle.task_model.specs.Checks.{sizeTest}
-use Rattle.task_model.proofs.Tests.{and-true, decided}
+use Rattle.task_model.proofs.Tests.{and-true, true-or-false, decided}
 use Rattle.task_model.proofs.Laws.{sizes-true, sizes-hold}
+use Rattle.plan_file.specs.declared.Edition.{Edition}
+use Rattle.plan_file.specs.declared.Edition.the-variants.{First, Second}
 use Rattle.plan_file.specs.declared.Row.{Row}
-use Rattle.plan_file.specs.Check.{openingTest, countTest, zerosTest, rowTest}
+use Rattle.plan_file.specs.Encoding.{openingBytes}
+use Rattle.plan_file.specs.Decoding.{openingTest, editionOf}
+use Rattle.plan_file.specs.Check.{opensTest, countTest, zerosTest, rowTest}
 
 -- 2
-module _ (f : List ℕ) where
+module _ (ed : Edition) (f : List ℕ) where
   pub record Opens : Type 0 where
-    pub first : getD f 0 0 ≡ 0x4C
-    pub second : getD f 1 0 ≡ 0x4D
-    pub third : getD f 2 0 ≡ 0x50
-    pub fourth : getD f 3 0 ≡ 0x31
+    pub first : getD f 0 0 ≡ getD (openingBytes ed) 0 0
+    pub second : getD f 1 0 ≡ getD (openingBytes ed) 1 0
+    pub third : getD f 2 0 ≡ getD (openingBytes ed) 2 0
+    pub fourth : getD f 3 0 ≡ getD (openingBytes ed) 3 0
 
-  pub opens-true : Opens → openingTest f ≡ true
+  pub opens-true : Opens → openingTest ed f ≡ true
   unfolding openingTest
-  opens-true h = rw (h .first, h .second, h .third, h .fourth)
+  opens-true h =
+      rw (eq-eqb _ _ (h .first), eq-eqb _ _ (h .second), eq-eqb _ _ (h .third), eq-eqb _ _ (h .fourth))
 
-  pub opens-hold : openingTest f ≡ true → Opens
+  pub opens-hold : openingTest ed f ≡ true → Opens
   unfolding openingTest
   opens-hold p =
       let p1 = and-true _ _ p in
@@ -38,10 +45,48 @@ module _ (f : List ℕ) where
         fourth = eqb-true _ _ (p1 .1);
       }
 
+  pub opens-false : (Opens → ⊥) → openingTest ed f ≡ false
+  opens-false n = decided (openingTest ed f) opens-hold n
+
   -- the last byte decides, once the others are right
-  pub opens-rest : getD f 0 0 ≡ 0x4C → getD f 1 0 ≡ 0x4D → getD f 2 0 ≡ 0x50 → eqb (getD f 3 0) 0x31 ≡ openingTest f
+  pub opens-rest : getD f 0 0 ≡ getD (openingBytes ed) 0 0 → getD f 1 0 ≡ getD (openingBytes ed) 1 0
+      → getD f 2 0 ≡ getD (openingBytes ed) 2 0 → eqb (getD f 3 0) (getD (openingBytes ed) 3 0) ≡ openingTest ed f
   unfolding openingTest
-  opens-rest h1 h2 h3 = rw (h1, h2, h3)
+  opens-rest h1 h2 h3 = rw (eq-eqb _ _ h1, eq-eqb _ _ h2, eq-eqb _ _ h3)
+
+-- the edition, and the test of both openings
+module _ (f : List ℕ) where
+  pub edition-second : openingTest Second f ≡ true → editionOf f ≡ Second
+  unfolding editionOf
+  edition-second p = rw (p, editionOf)
+
+  pub edition-first : openingTest Second f ≡ false → editionOf f ≡ First
+  unfolding editionOf
+  edition-first p = rw (p, editionOf)
+
+  pub opens-first : openingTest First f ≡ true → opensTest f ≡ true
+  opens-first p = rw p
+
+  pub opens-else : openingTest First f ≡ false → opensTest f ≡ openingTest Second f
+  opens-else p = rw p
+
+  -- a file opens with the bytes of its edition, where it opens with those of one
+  pub opens-edition : opensTest f ≡ true → openingTest (editionOf f) f ≡ true
+  opens-edition p =
+      ⊎-elim
+      (λ q. rw (edition-second q) q)
+      (λ q. rw (edition-first q) (⊎-elim (λ s. s) (λ s. absurd (true≢false (sym (sym (opens-else s ∙ q) ∙ p)))) (true-or-false (openingTest First f))))
+      (true-or-false (openingTest Second f))
+
+  pub opens-known : (ed : Edition) → Opens ed f → opensTest f ≡ true
+  opens-known First h = opens-first (opens-true First f h)
+  opens-known Second h =
+      ⊎-elim opens-first (λ q. opens-else q ∙ opens-true Second f h) (true-or-false (openingTest First f))
+
+  -- and with no others
+  pub edition-opens : (ed : Edition) → Opens ed f → editionOf f ≡ ed
+  edition-opens Second h = edition-second (opens-true Second f h)
+  edition-opens First h = edition-first (opens-false Second f (λ g. omega (arith, h .fourth, g .fourth)))
 
 -- 4
 module _ (least : ℕ) (r : Row) where

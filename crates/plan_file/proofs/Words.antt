@@ -7,12 +7,14 @@ use lib.ListN.{length, take, drop, length-drop}
 use lib.Seq.{take-add, drop-at}
 use Rattle.node_words.specs.Words.{entrySize, entryFrom, entriesFrom, entriesOf}
 use Rattle.node_words.proofs.Words.{entries-cons, entry-front}
+use Rattle.plan_file.specs.declared.Edition.{Edition}
+use Rattle.plan_file.specs.declared.Edition.the-variants.{First, Second}
 use Rattle.plan_file.specs.Plan.{rowWord, rowOf}
-use Rattle.plan_file.specs.Encoding.{entryLength, rowBytes, entryBytes, bodiesBytes}
+use Rattle.plan_file.specs.Encoding.{entryLength, rowBytes, fieldBytes, entryBytes, bodiesBytes}
 use Rattle.byte_words.specs.Bytes.{low, wordAt, wordsFrom, bytesOf}
 use Rattle.byte_words.proofs.Words.{head-bytes, words-run, length-words, bytes-append}
 use Rattle.byte_words.proofs.Runs.{run-split}
-use Rattle.plan_file.specs.Decoding.{entriesAt}
+use Rattle.plan_file.specs.Decoding.{entryWordsAt, entriesAt}
 
 pub row-bytes : (offset w : ℕ) → rowBytes offset (rowOf w) ≡ low 4 w ++ low 4 offset
 unfolding rowBytes rowOf
@@ -23,48 +25,66 @@ pub row-word : (w : ℕ) → w < 4294967296 → rowWord (rowOf w) ≡ w
 unfolding rowWord rowOf
 row-word w h = omega arith
 
--- the bytes of an entry are those of its words, and so are those of all entries
-entry-bytes : (ws : List ℕ) → entrySize ≤ length ws → entryBytes (entryFrom ws 0) ≡ bytesOf (take entrySize ws)
-unfolding entryBytes entryFrom bytesOf
-entry-bytes [] l = absurd (omega arith)
-entry-bytes (a ∷ []) l = absurd (omega arith)
-entry-bytes (a ∷ b ∷ []) l = absurd (omega arith)
-entry-bytes (a ∷ b ∷ c ∷ []) l = absurd (omega arith)
-entry-bytes (a ∷ b ∷ c ∷ d ∷ []) l = absurd (omega arith)
-entry-bytes (a ∷ b ∷ c ∷ d ∷ e ∷ ws) l = rw (head-bytes a) (simp (append-assoc, append-nil))
+-- how many words of an entry a file has
+abbrev pub heldWords : Edition → ℕ
+heldWords First = 5
+heldWords Second = entrySize
 
+-- the bytes of an entry are those of the words that the edition holds
+pub entry-bytes : (ed : Edition) (ws : List ℕ) → entrySize ≤ length ws → entryBytes ed (entryFrom ws 0) ≡ bytesOf (take (heldWords ed) ws)
+unfolding entryBytes fieldBytes entryFrom bytesOf
+entry-bytes ed [] l = absurd (omega arith)
+entry-bytes ed (a ∷ []) l = absurd (omega arith)
+entry-bytes ed (a ∷ b ∷ []) l = absurd (omega arith)
+entry-bytes ed (a ∷ b ∷ c ∷ []) l = absurd (omega arith)
+entry-bytes ed (a ∷ b ∷ c ∷ d ∷ []) l = absurd (omega arith)
+entry-bytes ed (a ∷ b ∷ c ∷ d ∷ e ∷ []) l = absurd (omega arith)
+entry-bytes First (a ∷ b ∷ c ∷ d ∷ e ∷ g ∷ ws) l = rw (head-bytes a) (simp (append-assoc, append-nil))
+entry-bytes Second (a ∷ b ∷ c ∷ d ∷ e ∷ g ∷ ws) l = rw (head-bytes a) (simp (append-assoc, append-nil))
+
+-- in the second edition the bytes of entries are those of all their words
 bodies-cons : (ws : List ℕ) (n : ℕ) → entrySize ≤ length ws
-    → bodiesBytes (entriesOf (drop entrySize ws) n) ≡ bytesOf (take (n * entrySize) (drop entrySize ws))
-    → bodiesBytes (entriesOf ws (suc n)) ≡ bytesOf (take (suc n * entrySize) ws)
+    → bodiesBytes Second (entriesOf (drop entrySize ws) n) ≡ bytesOf (take (n * entrySize) (drop entrySize ws))
+    → bodiesBytes Second (entriesOf ws (suc n)) ≡ bytesOf (take (suc n * entrySize) ws)
 unfolding bodiesBytes
 bodies-cons ws n l p =
     let e : suc n * entrySize ≡ entrySize + n * entrySize = omega arith in
-    rw (entries-cons ws n, e, take-add entrySize (n * entrySize) ws, bytes-append) (rw (entry-bytes ws l, p))
+    rw (entries-cons ws n, e, take-add entrySize (n * entrySize) ws, bytes-append) (rw (entry-bytes Second ws l, p))
 
-pub bodies-bytes : (n : ℕ) (ws : List ℕ) → n * entrySize ≤ length ws → bodiesBytes (entriesOf ws n) ≡ bytesOf (take (n * entrySize) ws)
+pub bodies-bytes : (n : ℕ) (ws : List ℕ) → n * entrySize ≤ length ws → bodiesBytes Second (entriesOf ws n) ≡ bytesOf (take (n * entrySize) ws)
 unfolding bodiesBytes entriesFrom bytesOf
 bodies-bytes zero ws l = refl
 bodies-bytes (suc n) ws l =
     bodies-cons ws n (omega arith) (bodies-bytes n (drop entrySize ws) (omega (arith, length-drop entrySize ws)))
 
-pub words-five : (f : List ℕ) (k : ℕ)
-    → wordAt f k ∷ wordAt f (k + 4) ∷ wordAt f (k + 8) ∷ wordAt f (k + 12) ∷ wordAt f (k + 16) ∷ [] ≡ wordsFrom f k entrySize
+pub words-first : (f : List ℕ) (k : ℕ)
+    → wordAt f k ∷ wordAt f (k + 4) ∷ wordAt f (k + 8) ∷ wordAt f (k + 12) ∷ wordAt f (k + 16) ∷ 0 ∷ [] ≡ entryWordsAt First f k
 unfolding wordsFrom
-words-five f k =
+words-first f k =
     let e8 : k + 4 + 4 ≡ k + 8 = omega arith in
     let e12 : k + 8 + 4 ≡ k + 12 = omega arith in
     let e16 : k + 12 + 4 ≡ k + 16 = omega arith in
     rw (e8, e12, e16)
 
--- the entries that lie in a file are those that its words hold
-pub entries-in-words : (f : List ℕ) (k n : ℕ) → entriesAt f k n ≡ entriesOf (wordsFrom f k (n * entrySize)) n
+pub words-second : (f : List ℕ) (k : ℕ)
+    → wordAt f k ∷ wordAt f (k + 4) ∷ wordAt f (k + 8) ∷ wordAt f (k + 12) ∷ wordAt f (k + 16) ∷ wordAt f (k + 20) ∷ [] ≡ entryWordsAt Second f k
+unfolding wordsFrom
+words-second f k =
+    let e8 : k + 4 + 4 ≡ k + 8 = omega arith in
+    let e12 : k + 8 + 4 ≡ k + 12 = omega arith in
+    let e16 : k + 12 + 4 ≡ k + 16 = omega arith in
+    let e20 : k + 16 + 4 ≡ k + 20 = omega arith in
+    rw (e8, e12, e16, e20)
+
+-- the entries that lie in a file of the second edition are those that its words hold
+pub entries-in-words : (f : List ℕ) (k n : ℕ) → entriesAt Second f k n ≡ entriesOf (wordsFrom f k (n * entrySize)) n
 unfolding entriesAt entriesFrom
 entries-in-words f k zero = refl
 entries-in-words f k (suc n) =
     let e : suc n * entrySize ≡ entrySize + n * entrySize = omega arith in
     let ws = wordsFrom f k entrySize in
-    let rest = wordsFrom f (k + entryLength) (n * entrySize) in
+    let rest = wordsFrom f (k + entryLength Second) (n * entrySize) in
     let l = length-words f k entrySize in
     sym
     (rw (e, run-split (words-run f) k entrySize (n * entrySize)) (entries-cons (ws ++ rest) n
-    ∙ rw (entry-front ws rest (omega (arith, l)), drop-at ws rest entrySize l, entries-in-words f (k + entryLength) n)))
+    ∙ rw (entry-front ws rest (omega (arith, l)), drop-at ws rest entrySize l, entries-in-words f (k + entryLength Second) n)))

@@ -9,6 +9,7 @@ use Rattle.refusals.specs.Refusals.{at, numbered, _andThen_, mustHold}
 use Rattle.refusals.specs.Answers.{Answer, gives, refuses, giving, left}
 use Rattle.task_model.specs.Limits.{Node}
 use Rattle.node_words.specs.Words.{entrySize, wordsOf, nodeOf}
+use Rattle.plan_file.specs.declared.Edition.{Edition}
 use Rattle.plan_file.specs.declared.Row.{Row}
 use Rattle.plan_file.specs.declared.ReadPlan.{ReadPlan}
 use Rattle.plan_file.specs.declared.ReadPlan.the-variants as read
@@ -18,39 +19,40 @@ use Rattle.plan_file.specs.declared.FoundNode.{FoundNode}
 use Rattle.plan_file.specs.declared.FoundNode.the-variants as found
 use Rattle.plan_file.specs.Plan.{Plan, rowWord, planOf}
 use Rattle.plan_file.specs.Encoding.{encoding}
-use Rattle.plan_file.specs.Decoding.{rowAt, planIn}
+use Rattle.plan_file.specs.Decoding.{editionOf, rowAt, planIn}
 use Rattle.plan_file.specs.Check.{fileCheck, wordsCheck}
 use Rattle.plan_file.specs.Find.{nodeOfRow, findCheck, nodeFound}
 
--- How many rows and entries the reader fills.
-pub record Sizes : Type 0 where
+-- What the reader gives: the file's edition, and how many rows and entries it fills.
+pub record Filled : Type 0 where
+  pub edition : Edition
   pub rows : ℕ
   pub entries : ℕ
 
--- The buffers are long enough: one word per row, and five per entry.
+-- The buffers are long enough: one word per row, and six per entry.
 abbrev pub roomTest : Plan → ℕ → ℕ → Bool
 roomTest p rowRoom wordRoom = leb (length (p .rows)) rowRoom && leb (length (p .entries) * entrySize) wordRoom
 
--- The reader's answer: the file's checks, then 10 if a lent buffer is too short. It gives how many rows and entries it
--- filled.
-unfoldable pub readAnswer : List ℕ → ℕ → ℕ → Answer Sizes
+-- The reader's answer: the file's checks, then 10 if a lent buffer is too short.
+unfoldable pub readAnswer : List ℕ → ℕ → ℕ → Answer Filled
 readAnswer f rowRoom wordRoom =
     giving
     (fileCheck f andThen mustHold (roomTest (planIn f) rowRoom wordRoom) (at 10 0 0))
-    (record { rows = length (planIn f .rows); entries = length (planIn f .entries) })
+    (record { edition = editionOf f; rows = length (planIn f .rows); entries = length (planIn f .entries) })
 
 -- What the code's answer says.
-abbrev pub readGives : ReadPlan → Answer Sizes
-readGives (read.Filled rows entries) = gives (record { rows = rows; entries = entries })
+abbrev pub readGives : ReadPlan → Answer Filled
+readGives (read.Filled edition rows entries) = gives (record { edition = edition; rows = rows; entries = entries })
 readGives (read.Refused r) = refuses (numbered r)
 
--- The writer's answer: its checks, then 10 if the lent buffer is too short for the file. It gives the file's length.
-unfoldable pub writeAnswer : List ℕ → List ℕ → ℕ → Answer ℕ
-writeAnswer rows words room =
+-- The writer's answer for an edition: its checks, then 10 if the lent buffer is too short for the file. It gives the file's
+-- length.
+unfoldable pub writeAnswer : Edition → List ℕ → List ℕ → ℕ → Answer ℕ
+writeAnswer ed rows words room =
     giving
-    (wordsCheck rows words
-    andThen mustHold (leb (length (encoding (planOf rows words))) room) (at 10 0 0))
-    (length (encoding (planOf rows words)))
+    (wordsCheck ed rows words
+    andThen mustHold (leb (length (encoding ed (planOf rows words))) room) (at 10 0 0))
+    (length (encoding ed (planOf rows words)))
 
 -- What the code's answer says.
 abbrev pub writeGives : Written → Answer ℕ
@@ -59,16 +61,16 @@ writeGives (written.Refused r) = refuses (numbered r)
 
 -- A call of the reader on a file and two lent buffers: its answer, and the buffers as it leaves them. One gets the words of
 -- the rows, the other the words of the entries.
-pub record ReadCall (f rows words : List ℕ) (a : Answer Sizes) (rowsLeft wordsLeft : List ℕ) : Type 0 where
+pub record ReadCall (f rows words : List ℕ) (a : Answer Filled) (rowsLeft wordsLeft : List ℕ) : Type 0 where
   pub answer : a ≡ readAnswer f (length rows) (length words)
   pub rowsThere : rowsLeft ≡ left a (map rowWord (planIn f .rows)) rows
   pub wordsThere : wordsLeft ≡ left a (wordsOf (planIn f .entries)) words
 
--- A call of the writer on a plan in memory and a lent buffer: its answer, and the buffer as it leaves it, with the plan's
--- file.
-pub record WriteCall (rows words file : List ℕ) (a : Answer ℕ) (fileLeft : List ℕ) : Type 0 where
-  pub answer : a ≡ writeAnswer rows words (length file)
-  pub fileThere : fileLeft ≡ left a (encoding (planOf rows words)) file
+-- A call of the writer on an edition, a plan in memory and a lent buffer: its answer, and the buffer as it leaves it, with
+-- the plan's file.
+pub record WriteCall (ed : Edition) (rows words file : List ℕ) (a : Answer ℕ) (fileLeft : List ℕ) : Type 0 where
+  pub answer : a ≡ writeAnswer ed rows words (length file)
+  pub fileThere : fileLeft ≡ left a (encoding ed (planOf rows words)) file
 
 -- The finder gives a node's count of levels and its count of entries.
 pub record Shape : Type 0 where

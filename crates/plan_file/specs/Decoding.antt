@@ -1,13 +1,33 @@
--- The plan that an accepted file holds.
+-- The edition of an accepted file, and the plan that it holds.
 use Prim.Native.Nat.{ℕ, zero, suc, _+_, _*_}
-use mathlib.Core.List.{List, [], _∷_}
+use mathlib.Core.Bool.{Bool, true, false, _&&_}
+use mathlib.Core.List.{List, [], _∷_, _++_}
 use lib.ListN.{getD}
+use lib.Dec.{eqb}
 use Rattle.task_model.specs.declared.Entry.{Entry}
 use Rattle.node_words.specs.Words.{entrySize, entryFrom}
 use Rattle.byte_words.specs.Bytes.{wordAt, wordsFrom}
+use Rattle.plan_file.specs.declared.Edition.{Edition}
+use Rattle.plan_file.specs.declared.Edition.the-variants.{First, Second}
 use Rattle.plan_file.specs.declared.Row.{Row}
 use Rattle.plan_file.specs.Plan.{Plan, entryCount, rowOf}
-use Rattle.plan_file.specs.Encoding.{headerLength, rowLength, entryLength, bodiesStart}
+use Rattle.plan_file.specs.Encoding.{openingBytes, headerLength, rowLength, entryLength, bodiesStart}
+
+-- Byte `i` of a file equals byte `i` of an edition's opening.
+abbrev pub opensAt : Edition → List ℕ → ℕ → Bool
+opensAt ed f i = eqb (getD f i 0) (getD (openingBytes ed) i 0)
+
+-- The file begins with the four opening bytes of an edition.
+unfoldable pub openingTest : Edition → List ℕ → Bool
+openingTest ed f = opensAt ed f 0 && opensAt ed f 1 && opensAt ed f 2 && opensAt ed f 3
+
+-- The edition of a file: the second if it opens so, else the first. (A file that opens as neither is refused as 2.)
+unfoldable pub editionOf : List ℕ → Edition
+editionOf f =
+    elim (openingTest Second f) [
+      | true ↦ Second
+      | false ↦ First
+    ]
 
 -- The node count, in the byte after the opening ones.
 abbrev pub nodeCount : List ℕ → ℕ
@@ -31,19 +51,24 @@ rowsFrom f i (suc n) = rowAt f i ∷ rowsFrom f (suc i) n
 abbrev pub rowsIn : List ℕ → List Row
 rowsIn f = rowsFrom f 0 (nodeCount f)
 
--- The entry from byte `k` on: its five words, read as an entry in memory. (The theorem `entry-fields` gives each field by
--- its bytes.)
-abbrev pub entryIn : List ℕ → ℕ → Entry
-entryIn f k = entryFrom (wordsFrom f k entrySize) 0
+-- The words in memory of the entry from byte `k` on. In the first edition a file has the first five of them, and J is 0; in
+-- the second it has all six.
+abbrev pub entryWordsAt : Edition → List ℕ → ℕ → List ℕ
+entryWordsAt First f k = wordsFrom f k 5 ++ (0 ∷ [])
+entryWordsAt Second f k = wordsFrom f k entrySize
+
+-- The entry from byte `k` on. (The theorem `entry-fields` gives each field by its bytes.)
+abbrev pub entryIn : Edition → List ℕ → ℕ → Entry
+entryIn ed f k = entryFrom (entryWordsAt ed f k) 0
 
 -- The entries from byte `k` on, `n` of them.
-unfoldable pub entriesAt : List ℕ → ℕ → ℕ → List Entry
-entriesAt f k zero = []
-entriesAt f k (suc n) = entryIn f k ∷ entriesAt f (k + entryLength) n
+unfoldable pub entriesAt : Edition → List ℕ → ℕ → ℕ → List Entry
+entriesAt ed f k zero = []
+entriesAt ed f k (suc n) = entryIn ed f k ∷ entriesAt ed f (k + entryLength ed) n
 
--- The entries of a file: they follow the contents, and there are as many as the rows count.
+-- The entries of a file, in its edition: they follow the contents, and there are as many as the rows count.
 abbrev pub entriesIn : List ℕ → List Entry
-entriesIn f = entriesAt f (bodiesStart (nodeCount f)) (entryCount (rowsIn f))
+entriesIn f = entriesAt (editionOf f) f (bodiesStart (nodeCount f)) (entryCount (rowsIn f))
 
 -- The plan in a file.
 abbrev pub planIn : List ℕ → Plan

@@ -3,6 +3,7 @@ pub mod Plan
 pub mod Encoding
 pub mod Decoding
 pub mod Check
+pub mod FirstEdition
 pub mod Find
 pub mod Limits
 pub mod Answers

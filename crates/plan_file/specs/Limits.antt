@@ -3,8 +3,11 @@ use Prim.Native.Nat.{ℕ, suc, _%_, _≤_, _<_}
 use mathlib.Core.Path.{_≡_}
 use mathlib.Core.List.{List}
 use lib.ListN.{length}
-use Rattle.task_model.specs.Limits.{NodeHolds}
+use Rattle.task_model.specs.declared.Entry.{Entry}
+use Rattle.task_model.specs.Limits.{entryAt, NodeHolds}
 use Rattle.node_words.specs.Words.{entrySize}
+use Rattle.plan_file.specs.declared.Edition.{Edition}
+use Rattle.plan_file.specs.declared.Edition.the-variants.{First, Second}
 use Rattle.plan_file.specs.Plan.{mostNodes, Plan, PlanFits, entryCount, planOf}
 use Rattle.plan_file.specs.Encoding.{encoding}
 use Rattle.plan_file.specs.Find.{rowIn, nodeOfRow}
@@ -18,10 +21,21 @@ pub record PlanHolds (p : Plan) : Type 0 where
   pub nodes : (i : ℕ) → i < length (p .rows) → NodeHolds (nodeOfRow p i)
   pub counts : entryCount (p .rows) ≡ length (p .entries)
 
--- A list of bytes is the file of some plan that is within the limits and whose fields fit the file's widths.
-abbrev pub IsPlanFile : List ℕ → Type 0
-IsPlanFile f = (p : Plan) × PlanFits p × PlanHolds p × (encoding p ≡ f)
+-- An edition has a place for all that an entry has: the first has none for J, which must be 0.
+abbrev pub EditionFits : Edition → Entry → Type 0
+EditionFits First e = e .jitter ≡ 0
+EditionFits Second e = Unit
 
--- The words of rows and the words of entries hold a plan within the limits, with no part of an entry left over.
-abbrev pub IsPlanInMemory : List ℕ → List ℕ → Type 0
-IsPlanInMemory rs ws = PlanHolds (planOf rs ws) × (length ws % entrySize ≡ 0)
+-- And for every entry of a plan.
+abbrev pub EditionHolds : Edition → Plan → Type 0
+EditionHolds ed p = (j : ℕ) → j < length (p .entries) → EditionFits ed (entryAt (p .entries) j)
+
+-- A list of bytes is the file, in some edition, of some plan that is within the limits and whose fields fit the file's
+-- widths.
+abbrev pub IsPlanFile : List ℕ → Type 0
+IsPlanFile f = (ed : Edition) × (p : Plan) × PlanFits p × PlanHolds p × EditionHolds ed p × (encoding ed p ≡ f)
+
+-- The words of rows and the words of entries hold a plan within the limits, and of the edition, with no part of an entry
+-- left over.
+abbrev pub IsPlanInMemory : Edition → List ℕ → List ℕ → Type 0
+IsPlanInMemory ed rs ws = PlanHolds (planOf rs ws) × EditionHolds ed (planOf rs ws) × (length ws % entrySize ≡ 0)

@@ -1,20 +1,28 @@
 // The checks of a file and of a plan in memory, part by part.
-use super::ENTRY_BYTES;
+use super::Edition;
+use super::FIRST_ENTRY_BYTES;
 use super::HEADER_BYTES;
 use super::MOST_NODES;
-use super::OPENING_BYTES;
 use super::ROW_BYTES;
 use super::Row;
+use super::SECOND_ENTRY_BYTES;
+use super::editions::entries_in;
+use super::editions::entry_bytes;
+use super::editions::opens;
 use super::node_count;
-use super::read::entry_in;
+use super::read::first_entry;
 use super::read::row_of;
+use super::read::second_entry;
 use super::row_at;
 use byte_words::word_at;
 use node_words::ENTRY_WORDS;
+use node_words::check_entries;
+use node_words::entry_of;
 use refusals::Checked;
 use refusals::Refusal;
 use task_model::MOST_ENTRIES;
 use task_model::MOST_LEVELS;
+use task_model::check_entry;
 ghost use mathlib.Core.Path.{_≡_};
 ghost use mathlib.Core.List.{map};
 ghost use lib.ListN.{length};
@@ -22,12 +30,12 @@ ghost use mathlib.Core.Bool.{_&&_};
 ghost use lib.Dec.{eqb};
 ghost use Prim.Native.Nat.{_+_, _*_, _≤_};
 ghost use Rattle.refusals.specs.Refusals.{outcome, at, _andThen_, mustHold};
-ghost use Rattle.task_model.specs.Checks.{entriesCheck};
+ghost use Rattle.task_model.specs.Checks.{entryCheck, entriesBy, entriesCheck};
 ghost use Rattle.node_words.specs.Words.{entrySize, entriesFrom};
 ghost use Rattle.plan_file.specs.Plan.{mostNodes, entryCount, rowOf};
 ghost use Rattle.plan_file.specs.Encoding.{headerLength, entryLength, bodiesStart};
 ghost use Rattle.plan_file.specs.Decoding.{nodeCount, offsetAt, rowsFrom, entriesAt};
-ghost use Rattle.plan_file.specs.Check.{openingTest, zerosTest, countTest, rowTest, rowsCheck, layoutCheck, nodesCheck, headerCheck};
+ghost use Rattle.plan_file.specs.Check.{zerosTest, countTest, rowTest, rowsCheck, opensTest, layoutCheck, nodesBy, headerCheck, writtenCheck};
 
 // Whether a row's number is at least `least`, and its levels and entry count are within the limits.
 fn row_holds(least: u32, r: Row) -> bool
@@ -45,21 +53,15 @@ fn row_holds(least: u32, r: Row) -> bool
     r.count as usize <= MOST_ENTRIES
 }
 
-// Whether the file begins with the four opening bytes.
-fn opens(file: &[u8]) -> bool
+// Whether the file begins with the opening bytes of one of the editions.
+fn opens_known(file: &[u8]) -> bool
     requires { ⌜ headerLength ≤ length (now file) ⌝ }
-    ensures { λ a. ⌜ a ≡ openingTest (now (file .entry)) ⌝ }
+    ensures { λ a. ⌜ a ≡ opensTest (now (file .entry)) ⌝ }
 {
-    if file[0] != OPENING_BYTES[0] {
-        return false;
+    if opens(Edition::First, file) {
+        return true;
     }
-    if file[1] != OPENING_BYTES[1] {
-        return false;
-    }
-    if file[2] != OPENING_BYTES[2] {
-        return false;
-    }
-    file[3] == OPENING_BYTES[3]
+    opens(Edition::Second, file)
 }
 
 // Whether there are 1 to 32 nodes, and the three bytes after their count are zero.
@@ -90,7 +92,7 @@ pub(crate) fn check_header(file: &[u8]) -> Checked
     if file.len() < HEADER_BYTES {
         return Checked::Refused(Refusal::ShortFile);
     }
-    if !opens(file) {
+    if !opens_known(file) {
         return Checked::Refused(Refusal::OpeningBytes);
     }
     if !counted(file) {
@@ -111,10 +113,14 @@ fn placed_at(file: &[u8], row: usize, required: usize) -> bool
 }
 
 // Checks each row (4) and its offset (5), then that the file ends with the last body (6).
-pub(crate) fn check_layout(file: &[u8], nodes: usize) -> Checked
+pub(crate) fn check_layout(edition: Edition, file: &[u8], nodes: usize) -> Checked
     requires { ⌜ (nodes ≤ mostNodes) × (bodiesStart nodes ≤ length (now file)) ⌝ }
-    ensures { λ a. ⌜ outcome a ≡ layoutCheck (now (file .entry)) 0 0 (bodiesStart nodes) (rowsFrom (now (file .entry)) 0 nodes) ⌝ }
+    ensures { λ a.
+        ⌜ outcome a ≡
+        layoutCheck (entryLength edition) (now (file .entry)) 0 0 (bodiesStart nodes)
+        (rowsFrom (now (file .entry)) 0 nodes) ⌝ }
 {
+    let size = entry_bytes(edition);
     let mut least: u32 = 0;
     let mut required: usize = HEADER_BYTES + nodes * ROW_BYTES;
     let mut row: usize = 0;
@@ -129,7 +135,7 @@ pub(crate) fn check_layout(file: &[u8], nodes: usize) -> Checked
             return Checked::Refused(Refusal::Offset { row });
         }
         least = r.number as u32 + 1;
-        required += r.count as usize * ENTRY_BYTES;
+        required += r.count as usize * size;
         row += 1;
     }
     if file.len() != required {
@@ -138,43 +144,74 @@ pub(crate) fn check_layout(file: &[u8], nodes: usize) -> Checked
     Checked::Accepted
 }
 
-// Checks the entries of one body (7 and 8).
-fn check_body(file: &[u8], row: usize, start: usize, count: usize) -> Checked
-    requires { ⌜ start + count * entryLength ≤ length (now file) ⌝ }
-    ensures { λ a. ⌜ outcome a ≡ entriesCheck row 0 (entriesAt (now (file .entry)) start count) ⌝ }
+// Checks the entries of one body of the first edition (7 and 8; J is 0).
+fn check_first_body(file: &[u8], row: usize, start: usize, count: usize) -> Checked
+    requires { ⌜ start + count * entryLength Edition.First ≤ length (now file) ⌝ }
+    ensures { λ a. ⌜ outcome a ≡ entriesCheck row 0 (entriesAt Edition.First (now (file .entry)) start count) ⌝ }
 {
     let mut k = start;
     let mut position: usize = 0;
     while position < count {
-        let e = entry_in(file, k);
-        let found = task_model::check_entry(row, position, e);
+        let e = first_entry(file, k);
+        let found = check_entry(row, position, e);
         let Checked::Accepted = found else {
             return found;
         };
-        k += ENTRY_BYTES;
+        k += FIRST_ENTRY_BYTES;
         position += 1;
     }
     Checked::Accepted
 }
 
+// Checks the entries of one body of the second edition (7, 8 and 14).
+fn check_second_body(file: &[u8], row: usize, start: usize, count: usize) -> Checked
+    requires { ⌜ start + count * entryLength Edition.Second ≤ length (now file) ⌝ }
+    ensures { λ a. ⌜ outcome a ≡ entriesCheck row 0 (entriesAt Edition.Second (now (file .entry)) start count) ⌝ }
+{
+    let mut k = start;
+    let mut position: usize = 0;
+    while position < count {
+        let e = second_entry(file, k);
+        let found = check_entry(row, position, e);
+        let Checked::Accepted = found else {
+            return found;
+        };
+        k += SECOND_ENTRY_BYTES;
+        position += 1;
+    }
+    Checked::Accepted
+}
+
+// Checks the entries of one body. The loops are one for each edition, so that none tests the edition at every entry.
+fn check_body(edition: Edition, file: &[u8], row: usize, start: usize, count: usize) -> Checked
+    requires { ⌜ start + count * entryLength edition ≤ length (now file) ⌝ }
+    ensures { λ a. ⌜ outcome a ≡ entriesCheck row 0 (entriesAt edition (now (file .entry)) start count) ⌝ }
+{
+    match edition {
+        Edition::First => check_first_body(file, row, start, count),
+        Edition::Second => check_second_body(file, row, start, count),
+    }
+}
+
 // Checks the entries of every body, row by row.
-fn check_by_row(file: &[u8], nodes: usize) -> Checked
-    requires { ⌜ bodiesStart nodes + entryCount (rowsFrom (now file) 0 nodes) * entryLength ≤ length (now file) ⌝ }
+fn check_by_row(edition: Edition, file: &[u8], nodes: usize) -> Checked
+    requires { ⌜ bodiesStart nodes + entryCount (rowsFrom (now file) 0 nodes) * entryLength edition ≤ length (now file) ⌝ }
     ensures { λ a.
         ⌜ outcome a ≡
-        nodesCheck 0 (rowsFrom (now (file .entry)) 0 nodes)
-        (entriesAt (now (file .entry)) (bodiesStart nodes) (entryCount (rowsFrom (now (file .entry)) 0 nodes))) ⌝ }
+        nodesBy entryCheck 0 (rowsFrom (now (file .entry)) 0 nodes)
+        (entriesAt edition (now (file .entry)) (bodiesStart nodes) (entryCount (rowsFrom (now (file .entry)) 0 nodes))) ⌝ }
 {
+    let size = entry_bytes(edition);
     let mut start: usize = HEADER_BYTES + nodes * ROW_BYTES;
     let mut row: usize = 0;
     while row < nodes {
         let r = row_at(file, row);
         let count = r.count as usize;
-        let found = check_body(file, row, start, count);
+        let found = check_body(edition, file, row, start, count);
         let Checked::Accepted = found else {
             return found;
         };
-        start += count * ENTRY_BYTES;
+        start += count * size;
         row += 1;
     }
     Checked::Accepted
@@ -182,19 +219,20 @@ fn check_by_row(file: &[u8], nodes: usize) -> Checked
 
 // Checks the entries of every body. It first checks them all as one body, because a single loop is the quickest way through
 // an accepted file. Only if that fails, it goes row by row to find the place of the refusal.
-pub(crate) fn check_bodies(file: &[u8], nodes: usize) -> Checked
-    requires { ⌜ length (now file) ≡ bodiesStart nodes + entryCount (rowsFrom (now file) 0 nodes) * entryLength ⌝ }
+pub(crate) fn check_bodies(edition: Edition, file: &[u8], nodes: usize) -> Checked
+    requires { ⌜ length (now file) ≡ bodiesStart nodes + entryCount (rowsFrom (now file) 0 nodes) * entryLength edition ⌝ }
     ensures { λ a.
         ⌜ outcome a ≡
-        nodesCheck 0 (rowsFrom (now (file .entry)) 0 nodes)
-        (entriesAt (now (file .entry)) (bodiesStart nodes) (entryCount (rowsFrom (now (file .entry)) 0 nodes))) ⌝ }
+        nodesBy entryCheck 0 (rowsFrom (now (file .entry)) 0 nodes)
+        (entriesAt edition (now (file .entry)) (bodiesStart nodes) (entryCount (rowsFrom (now (file .entry)) 0 nodes))) ⌝ }
 {
     let start = HEADER_BYTES + nodes * ROW_BYTES;
-    let whole = check_body(file, 0, start, (file.len() - start) / ENTRY_BYTES);
+    let count = entries_in(edition, file.len() - start);
+    let whole = check_body(edition, file, 0, start, count);
     if let Checked::Accepted = whole {
         return whole;
     }
-    check_by_row(file, nodes)
+    check_by_row(edition, file, nodes)
 }
 
 // Checks each row (4), then that `words` is the number of words of all entries that the rows count (6).
@@ -223,12 +261,44 @@ pub(crate) fn check_rows(rows: &[u32], words: usize) -> Checked
     Checked::Accepted
 }
 
+// Checks entries that are to be written in the first edition: as check_entries does, and that each J is 0 (14).
+fn check_first_entries(row: usize, words: &[u32], first: usize, count: usize) -> Checked
+    requires { ⌜ (first + count) * entrySize ≤ length (now words) ⌝ }
+    ensures { λ a.
+        ⌜ outcome a ≡ entriesBy (writtenCheck Edition.First row) 0 (entriesFrom (now (words .entry)) first count) ⌝ }
+{
+    let mut position: usize = 0;
+    while position < count {
+        let e = entry_of(words, (first + position) * ENTRY_WORDS);
+        let found = check_entry(row, position, e);
+        let Checked::Accepted = found else {
+            return found;
+        };
+        if 0 < e.jitter {
+            return Checked::Refused(Refusal::Jitter { row, position });
+        }
+        position += 1;
+    }
+    Checked::Accepted
+}
+
+// Checks `count` entries that are to be written, from entry `first` of the words on.
+fn check_written(edition: Edition, row: usize, words: &[u32], first: usize, count: usize) -> Checked
+    requires { ⌜ (first + count) * entrySize ≤ length (now words) ⌝ }
+    ensures { λ a. ⌜ outcome a ≡ entriesBy (writtenCheck edition row) 0 (entriesFrom (now (words .entry)) first count) ⌝ }
+{
+    match edition {
+        Edition::First => check_first_entries(row, words, first, count),
+        Edition::Second => check_entries(row, words, first, count),
+    }
+}
+
 // Checks the entries of every row.
-pub(crate) fn check_nodes(rows: &[u32], words: &[u32]) -> Checked
+pub(crate) fn check_nodes(edition: Edition, rows: &[u32], words: &[u32]) -> Checked
     requires { ⌜ entryCount (map rowOf (now rows)) * entrySize ≤ length (now words) ⌝ }
     ensures { λ a.
         ⌜ outcome a ≡
-        nodesCheck 0 (map rowOf (now (rows .entry)))
+        nodesBy (writtenCheck edition) 0 (map rowOf (now (rows .entry)))
         (entriesFrom (now (words .entry)) 0 (entryCount (map rowOf (now (rows .entry))))) ⌝ }
 {
     let mut first: usize = 0;
@@ -236,7 +306,7 @@ pub(crate) fn check_nodes(rows: &[u32], words: &[u32]) -> Checked
     while row < rows.len() {
         let r = row_of(rows[row]);
         let count = r.count as usize;
-        let found = node_words::check_entries(row, words, first, count);
+        let found = check_written(edition, row, words, first, count);
         let Checked::Accepted = found else {
             return found;
         };

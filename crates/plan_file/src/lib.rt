@@ -1,13 +1,13 @@
 // Plan files: checking, reading, writing, and finding a node.
 //
 // In memory a plan is words of 32 bits (specs/Plan.antt). A row is one word: the first four bytes of the row in the file.
-// An entry is five words: its 20 bytes in the file. Both are low byte first, so fields have the same widths as in the file.
+// An entry is six words: its 24 bytes in a file of the second edition; or its 20 bytes in a file of the first, and J 0. Both
+// are low byte first, so fields have the same widths as in the file.
 mod checks;
+mod editions;
 mod read;
 mod store;
 
-use byte_words::copy_words;
-use byte_words::put_words;
 use byte_words::wide;
 use byte_words::word_at;
 use checks::check_bodies;
@@ -15,13 +15,18 @@ use checks::check_header;
 use checks::check_layout;
 use checks::check_nodes;
 use checks::check_rows;
+use editions::entries_in;
+use editions::entry_bytes;
+use editions::opens;
 use node_words::ENTRY_WORDS;
 use node_words::NodeWords;
+use read::copy_entries;
 use read::copy_rows;
 use read::row_of;
 use refusals::Checked;
 use refusals::Refusal;
 use store::put_contents;
+use store::put_entries;
 use store::put_header;
 ghost use mathlib.Core.Path.{_≡_};
 ghost use mathlib.Core.Logic.{_↔_};
@@ -30,7 +35,7 @@ ghost use Prim.Native.Nat.{_+_, _≤_, _<_};
 ghost use Rattle.refusals.specs.Refusals.{outcome, accepted};
 ghost use Rattle.node_words.specs.Words.{wordsOf};
 ghost use Rattle.plan_file.specs.Encoding.{headerLength, bodiesStart};
-ghost use Rattle.plan_file.specs.Decoding.{nodeCount, rowAt, rowsFrom};
+ghost use Rattle.plan_file.specs.Decoding.{editionOf, nodeCount, rowAt, rowsFrom};
 ghost use Rattle.plan_file.specs.Check.{fileCheck, wordsCheck};
 ghost use Rattle.plan_file.specs.Limits.{IsPlanFile, IsPlanInMemory};
 ghost use Rattle.plan_file.specs.Find.{rowOfNumber, nodeFound};
@@ -38,15 +43,25 @@ ghost use Rattle.plan_file.specs.Answers.{Loaded, Holding, readGives, Re
 ghost use Rattle.plan_file.specs.RoundTrips.{WrittenAgain, ReadAgain};
 ghost use Rattle.refusals.specs.Answers.{left};
 
-// The four bytes that a plan file opens with.
-const OPENING_BYTES: [u8; 4] = *b"LMP1";
+// The editions of a plan file. In the second, an entry has its J.
+pub enum Edition {
+    First,
+    Second,
+}
 
-// Sizes in bytes: of the header before the contents, of a row of the contents, and of an entry.
+// The four bytes that a plan file opens with, in each edition.
+const FIRST_OPENING: [u8; 4] = *b"LMP1";
+
+const SECOND_OPENING: [u8; 4] = *b"LMP2";
+
+// Sizes in bytes: of the header before the contents, of a row of the contents, and of an entry in each edition.
 const HEADER_BYTES: usize = 8;
 
 const ROW_BYTES: usize = 8;
 
-const ENTRY_BYTES: usize = 20;
+const FIRST_ENTRY_BYTES: usize = 20;
+
+const SECOND_ENTRY_BYTES: usize = 24;
 
 // The most nodes of a plan.
 const MOST_NODES: u8 = 32;
@@ -58,9 +73,13 @@ pub struct Row {
     pub count: u8,
 }
 
-// How many rows and entries were filled, or why none were.
+// The file's edition and how many rows and entries were filled, or why none were.
 pub enum ReadPlan {
-    Filled { rows: usize, entries: usize },
+    Filled {
+        edition: Edition,
+        rows: usize,
+        entries: usize,
+    },
     Refused(Refusal),
 }
 
@@ -82,6 +101,17 @@ pub fn row_at(file: &[u8], row: usize) -> Row
     ensures { λ r. ⌜ r ≡ rowAt (now (file .entry)) row ⌝ }
 {
     row_of(word_at(file, HEADER_BYTES + row * ROW_BYTES))
+}
+
+// The edition of a file, by its opening bytes.
+pub fn edition_of(file: &[u8]) -> Edition
+    requires { ⌜ headerLength ≤ length (now file) ⌝ }
+    ensures { λ e. ⌜ e ≡ editionOf (now (file .entry)) ⌝ }
+{
+    if opens(Edition::Second, file) {
+        return Edition::Second;
+    }
+    Edition::First
 }
 
 // The node count, in the byte after the opening ones.
@@ -117,19 +147,20 @@ pub fn check_file(file: &[u8]) -> Checked
     let Checked::Accepted = header else {
         return header;
     };
+    let edition = edition_of(file);
     let nodes = node_count(file);
-    let layout = check_layout(file, nodes);
+    let layout = check_layout(edition, file, nodes);
     let Checked::Accepted = layout else {
         return layout;
     };
-    check_bodies(file, nodes)
+    check_bodies(edition, file, nodes)
 }
 
-// Checks rows and entries for the writer. The first check that is met gives the refusal. Accepts exactly the words of plans
-// within the limits.
-pub fn check_plan(rows: &[u32], entries: &[u32]) -> Checked
-    ensures { λ a. ⌜ outcome a ≡ wordsCheck (now (rows .entry)) (now (entries .entry)) ⌝ }
-    ensures { λ a. ⌜ (outcome a ≡ accepted) ↔ IsPlanInMemory (now (rows .entry)) (now (entries .entry)) ⌝ }
+// Checks rows and entries that are to be written in an edition. The first check that is met gives the refusal. Accepts
+// exactly the words of plans within the limits, and in the first edition only those with every J zero.
+pub fn check_plan(edition: Edition, rows: &[u32], entries: &[u32]) -> Checked
+    ensures { λ a. ⌜ outcome a ≡ wordsCheck edition (now (rows .entry)) (now (entries .entry)) ⌝ }
+    ensures { λ a. ⌜ (outcome a ≡ accepted) ↔ IsPlanInMemory edition (now (rows .entry)) (now (entries .entry)) ⌝ }
 {
     if rows.len() < 1 {
         return Checked::Refused(Refusal::NodeCount);
@@ -141,34 +172,36 @@ pub fn check_plan(rows: &[u32], entries: &[u32]) -> Checked
     let Checked::Accepted = counted else {
         return counted;
     };
-    check_nodes(rows, entries)
+    check_nodes(edition, rows, entries)
 }
 
-// Writes a plan as a file from the buffer's start. Refuses as check_plan does, then a buffer that is too short (10). From
-// the written file, read_plan reads the same words.
-pub fn write_plan(rows: &[u32], entries: &[u32], file: &mut [u8]) -> Written
+// Writes a plan as a file of an edition, from the buffer's start. Refuses as check_plan does, then a buffer that is too
+// short (10). From the written file, read_plan reads the same edition and the same words.
+pub fn write_plan(edition: Edition, rows: &[u32], entries: &[u32], file: &mut [u8]) -> Written
     ensures { λ a.
-        ⌜ WriteCall (now (rows .entry)) (now (entries .entry)) (now (file .entry)) (writeGives a) (now (file .exit)) ⌝ }
+        ⌜ WriteCall edition (now (rows .entry)) (now (entries .entry)) (now (file .entry)) (writeGives a)
+        (now (file .exit)) ⌝ }
     ensures { λ a.
-        ⌜ ReadAgain (now (rows .entry)) (now (entries .entry)) (writeGives a) (now (file .exit)) ⌝ }
+        ⌜ ReadAgain edition (now (rows .entry)) (now (entries .entry)) (writeGives a) (now (file .exit)) ⌝ }
 {
-    let checked = check_plan(rows, entries);
+    let checked = check_plan(edition, rows, entries);
     if let Checked::Refused(r) = checked {
         return Written::Refused(r);
     }
     let start = HEADER_BYTES + rows.len() * ROW_BYTES;
-    let length = start + entries.len() * 4;
+    let count = entries.len() / ENTRY_WORDS;
+    let length = start + count * entry_bytes(edition);
     if file.len() < length {
         return Written::Refused(Refusal::ShortBuffer);
     }
-    put_header(file, rows.len());
-    put_contents(file, rows);
-    put_words(file, start, entries, entries.len());
+    put_header(edition, file, rows.len());
+    put_contents(edition, file, rows);
+    put_entries(edition, file, start, entries, count);
     Written::Length(length)
 }
 
-// Reads a file's plan into buffers: one word per row, and five per entry. Refuses as check_file does, then a buffer that is
-// too short (10). From the filled words, write_plan writes the same bytes.
+// Reads a file's plan into buffers: one word per row, and six per entry. Refuses as check_file does, then a buffer that is
+// too short (10). From the filled words, write_plan writes the same bytes in the edition that this gives.
 pub fn read_plan(file: &[u8], rows: &mut [u32], entries: &mut [u32]) -> ReadPlan
     ensures { λ a.
         ⌜ ReadCall (now (file .entry)) (now (rows .entry)) (now (entries .entry)) (readGives a)
@@ -180,20 +213,22 @@ pub fn read_plan(file: &[u8], rows: &mut [u32], entries: &mut [u32]) -> ReadPlan
     if let Checked::Refused(r) = checked {
         return ReadPlan::Refused(r);
     }
+    let edition = edition_of(file);
     let nodes = node_count(file);
     let start = HEADER_BYTES + nodes * ROW_BYTES;
-    let words = (file.len() - start) / 4;
+    let count = entries_in(edition, file.len() - start);
     if rows.len() < nodes {
         return ReadPlan::Refused(Refusal::ShortBuffer);
     }
-    if entries.len() < words {
+    if entries.len() < count * ENTRY_WORDS {
         return ReadPlan::Refused(Refusal::ShortBuffer);
     }
     copy_rows(file, rows, nodes);
-    copy_words(file, start, entries, words);
+    copy_entries(edition, file, start, entries, count);
     ReadPlan::Filled {
+        edition,
         rows: nodes,
-        entries: words / ENTRY_WORDS,
+        entries: count,
     }
 }
 
@@ -205,7 +240,7 @@ pub fn load_node(file: &[u8], row: usize, words: &mut NodeWords) -> Row
 {
     let r = row_at(file, row);
     let start = word_at(file, HEADER_BYTES + row * ROW_BYTES + 4) as usize;
-    copy_words(file, start, words, r.count as usize * ENTRY_WORDS);
+    copy_entries(edition_of(file), file, start, words, r.count as usize);
     r
 }
 

@@ -1,9 +1,14 @@
 // Reads words, rows and entries out of a file.
+use super::Edition;
+use super::FIRST_ENTRY_BYTES;
 use super::HEADER_BYTES;
 use super::ROW_BYTES;
 use super::Row;
+use byte_words::copy_words;
 use byte_words::word_at;
+use node_words::ENTRY_WORDS;
 use node_words::entry_with;
+use node_words::store_entry;
 use task_model::Entry;
 ghost use mathlib.Core.Path.{_≡_};
 ghost use mathlib.Core.List.{map};
@@ -11,7 +16,8 @@ ghost use lib.ListN.{length};
 ghost use Prim.Native.Nat.{_+_, _*_, _≤_, _<_};
 ghost use Rattle.plan_file.specs.Plan.{rowWord, rowOf};
 ghost use Rattle.plan_file.specs.Encoding.{entryLength, bodiesStart};
-ghost use Rattle.plan_file.specs.Decoding.{rowsFrom, entryIn};
+ghost use Rattle.plan_file.specs.Decoding.{rowsFrom, entryIn, entriesAt};
+ghost use Rattle.node_words.specs.Words.{entrySize, wordsOf};
 ghost use Rattle.byte_words.specs.Buffers.{over};
 
 // The row that a word holds.
@@ -25,10 +31,10 @@ pub(crate) fn row_of(word: u32) -> Row
     }
 }
 
-// The entry in a file from byte `k` on.
-pub(crate) fn entry_in(file: &[u8], k: usize) -> Entry
-    requires { ⌜ k + entryLength ≤ length (now file) ⌝ }
-    ensures { λ e. ⌜ e ≡ entryIn (now (file .entry)) k ⌝ }
+// The entry in a file of the first edition from byte `k` on.
+pub(crate) fn first_entry(file: &[u8], k: usize) -> Entry
+    requires { ⌜ k + entryLength Edition.First ≤ length (now file) ⌝ }
+    ensures { λ e. ⌜ e ≡ entryIn Edition.First (now (file .entry)) k ⌝ }
 {
     entry_with(
         word_at(file, k),
@@ -36,6 +42,22 @@ pub(crate) fn entry_in(file: &[u8], k: usize) -> Entry
         word_at(file, k + 8),
         word_at(file, k + 12),
         word_at(file, k + 16),
+        0,
+    )
+}
+
+// The entry in a file of the second edition from byte `k` on.
+pub(crate) fn second_entry(file: &[u8], k: usize) -> Entry
+    requires { ⌜ k + entryLength Edition.Second ≤ length (now file) ⌝ }
+    ensures { λ e. ⌜ e ≡ entryIn Edition.Second (now (file .entry)) k ⌝ }
+{
+    entry_with(
+        word_at(file, k),
+        word_at(file, k + 4),
+        word_at(file, k + 8),
+        word_at(file, k + 12),
+        word_at(file, k + 16),
+        word_at(file, k + 20),
     )
 }
 
@@ -48,5 +70,32 @@ pub(crate) fn copy_rows(file: &[u8], rows: &mut [u32], nodes: usize)
     while row < nodes {
         rows[row] = word_at(file, HEADER_BYTES + row * ROW_BYTES);
         row += 1;
+    }
+}
+
+// Copies entries of the first edition, from byte `k` of a file on, to the start of `words`.
+fn copy_first(file: &[u8], k: usize, words: &mut [u32], count: usize)
+    requires { ⌜ (k + count * entryLength Edition.First ≤ length (now file)) × (count * entrySize ≤ length (now words)) ⌝ }
+    ensures { λ _.
+        ⌜ now (words .exit) ≡
+        over (now (words .entry)) 0 (wordsOf (entriesAt Edition.First (now (file .entry)) k count)) ⌝ }
+{
+    let mut i: usize = 0;
+    while i < count {
+        let e = first_entry(file, k + i * FIRST_ENTRY_BYTES);
+        store_entry(words, i * ENTRY_WORDS, e);
+        i += 1;
+    }
+}
+
+// Copies the words of `count` entries, from byte `k` of a file on, to the start of `words`.
+pub(crate) fn copy_entries(edition: Edition, file: &[u8], k: usize, words: &mut [u32], count: usize)
+    requires { ⌜ (k + count * entryLength edition ≤ length (now file)) × (count * entrySize ≤ length (now words)) ⌝ }
+    ensures { λ _.
+        ⌜ now (words .exit) ≡ over (now (words .entry)) 0 (wordsOf (entriesAt edition (now (file .entry)) k count)) ⌝ }
+{
+    match edition {
+        Edition::First => copy_first(file, k, words, count),
+        Edition::Second => copy_words(file, k, words, count * ENTRY_WORDS),
     }
 }

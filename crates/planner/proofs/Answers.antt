@@ -9,7 +9,7 @@ use Rattle.task_model.specs.Limits.{Node}
 use Rattle.refusals.proofs.Outcomes.{giving-refuses, giving-gives, not-both}
 use Rattle.plan_file.specs.Answers.{Shape, findAnswer}
 use Rattle.plan_file.specs.Find.{findCheck, nodeFound}
-use Rattle.level_map.specs.Answer.{mapOf, heldAnswer, NodeBestMapOrNone}
+use Rattle.level_map.specs.Answer.{mapOf, heldAnswer, heldAnswerUnder, NodeBestMapOrNone}
 use Rattle.level_map.proofs.Answers.{Right}
 use Rattle.planner.specs.Mapping.{fileAnswer}
 
@@ -19,7 +19,7 @@ module _ (f : List ℕ) (number : ℕ) where
   file-refused r p room = rw p
 
   pub file-found : findCheck f number ≡ accepted → (room : ℕ) → fileAnswer f number room ≡ heldAnswer (nodeFound f number) room
-  unfolding fileAnswer heldAnswer
+  unfolding fileAnswer heldAnswerUnder
   file-found p room = rw p
 
   -- what the finder's answer says of its check

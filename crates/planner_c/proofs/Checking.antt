@@ -8,9 +8,9 @@ use Rattle.refusals.proofs.Refusals.{number-some}
 use Rattle.refusals.proofs.Outcomes.{not-both}
 use Rattle.planner_c.specs.Returned.{Returned, given, checked}
 
--- 0 is returned, with 0 and 0, exactly if the check accepts
+-- 0 is returned, with zeros, exactly if the check accepts
 pub zero-exactly : {A : Type 0} (d : Checked) (r : Returned) → r ≡ checked (outcome d) → (outcome d ≡ accepted ↔ A)
-    → r ≡ given 0 0 ↔ A
+    → r ≡ given 0 0 0 ↔ A
 zero-exactly Accepted r p h = (λ e. h .0 refl, λ a. p)
 zero-exactly (Refused q) r p h = (
   λ e. absurd (number-some q (ap (λ (x : Returned). x .number) (sym p ∙ e))),

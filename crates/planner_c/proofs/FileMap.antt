@@ -13,7 +13,11 @@ use Rattle.task_model.specs.Checks.{nodeCheck}
 use Rattle.node_words.proofs.Entries.{length-entries, entry-of}
 use Rattle.task_model.proofs.Theorems.{node-accepted}
 use Rattle.plan_file.specs.Plan.{Plan, entryCount, PlanFits}
+use Rattle.task_model.specs.WithoutJitter.{Punctual}
+use Rattle.plan_file.specs.declared.Edition.{Edition}
+use Rattle.plan_file.specs.declared.Edition.the-variants.{First, Second}
 use Rattle.plan_file.specs.Encoding.{encoding}
+use Rattle.plan_file.specs.Limits.{EditionHolds}
 use Rattle.plan_file.specs.Decoding.{planIn, nodeCount}
 use Rattle.plan_file.specs.Check.{fileCheck, planCheck}
 use Rattle.plan_file.specs.Find.{rowIn, nodeOfRow, findCheck, nodeFound}
@@ -41,8 +45,9 @@ module _ (f : List ℕ) (a : fileCheck f ≡ accepted) (i number : ℕ) (has : i
   row-holds : NodeHolds (nodeOfRow (planIn f) i)
   row-holds = nodes-hold f a i (omega (arith, length-rows f 0 (nodeCount f)))
 
--- a node within the limits, with numbers of 16 bits, is a plan of one row that the writer accepts
-module _ (n : Node) (k : Kept n) (number : ℕ) (short : number < 65536) where
+-- a node within the limits, with numbers of 16 bits, is a plan of one row that the writer accepts in an edition that has a
+-- place for all that its entries have
+module _ (ed : Edition) (n : Node) (k : Kept n) (number : ℕ) (short : number < 65536) (placed : EditionHolds ed (oneRow number n)) where
   one-fits : PlanFits (oneRow number n)
   one-fits =
       record {
@@ -69,26 +74,28 @@ module _ (n : Node) (k : Kept n) (number : ℕ) (short : number < 65536) where
   unfolding entryCount
   counted = omega arith
 
-  one-accepted : planCheck (oneRow number n) ≡ accepted
+  one-accepted : planCheck ed (oneRow number n) ≡ accepted
   one-accepted =
-      plan-limits (oneRow number n) .1
-      (record {
-        some = omega arith;
-        few = omega arith;
-        rising = λ i h. absurd (omega arith);
-        nodes = each-holds;
-        counts = counted;
-      })
+      plan-limits ed (oneRow number n) .1 (
+        record {
+          some = omega arith;
+          few = omega arith;
+          rising = λ i h. absurd (omega arith);
+          nodes = each-holds;
+          counts = counted;
+        },
+        placed,
+      )
 
   -- its file, whose only row has the node
   abbrev file : List ℕ
-  file = encoding (oneRow number n)
+  file = encoding ed (oneRow number n)
 
   one-file : fileCheck file ≡ accepted
-  one-file = accepted-exactly file .1 (oneRow number n, one-fits, one-accepted, refl) .1
+  one-file = accepted-exactly file .1 (ed, oneRow number n, one-fits, one-accepted, refl) .1
 
   one-plan : planIn file ≡ oneRow number n
-  one-plan = write-read (oneRow number n) one-fits one-accepted
+  one-plan = write-read ed (oneRow number n) one-fits one-accepted .0
 
   one-row : 0 < length (planIn file .rows)
   one-row = omega (arith, ap (λ (p : Plan). length (p .rows)) one-plan)
@@ -130,23 +137,32 @@ module _ (s : Session) (f : List ℕ) (a : fileCheck f ≡ accepted) (i number :
   file-writes buffer =
       rw (file-answers (length buffer), found f a i number has named .1, same)
 
--- There is such a file, under any number: that of the node as a plan of one row, which the writer accepts.
-module _ (s : Session) (h : Sound s) (number : ℕ) (short : number < 65536) where
+-- There is such a file, under any number: that of the node as a plan of one row, which the writer accepts in the second
+-- edition, and in the first if every J is 0.
+module _ (ed : Edition) (s : Session) (h : Sound s) (number : ℕ) (short : number < 65536)
+    (placed : EditionHolds ed (oneRow number (nodeIn s))) where
   kept : Kept (nodeIn s)
   kept = kept-in s (h .within)
 
   -- The writer accepts that plan.
-  pub one-row-written : planCheck (oneRow number (nodeIn s)) ≡ accepted
-  one-row-written = one-accepted (nodeIn s) kept number short
+  pub one-row-written : planCheck ed (oneRow number (nodeIn s)) ≡ accepted
+  one-row-written = one-accepted ed (nodeIn s) kept number short placed
 
   -- Its file is accepted, and its only row has the number and the node.
-  pub one-row-read : (fileCheck (encoding (oneRow number (nodeIn s))) ≡ accepted)
-      × (0 < length (planIn (encoding (oneRow number (nodeIn s))) .rows))
-      × (rowIn (planIn (encoding (oneRow number (nodeIn s))) .rows) 0 .number ≡ number)
-      × (nodeOfRow (planIn (encoding (oneRow number (nodeIn s)))) 0 ≡ nodeIn s)
+  pub one-row-read : (fileCheck (encoding ed (oneRow number (nodeIn s))) ≡ accepted)
+      × (0 < length (planIn (encoding ed (oneRow number (nodeIn s))) .rows))
+      × (rowIn (planIn (encoding ed (oneRow number (nodeIn s))) .rows) 0 .number ≡ number)
+      × (nodeOfRow (planIn (encoding ed (oneRow number (nodeIn s)))) 0 ≡ nodeIn s)
   one-row-read = (
-    one-file (nodeIn s) kept number short,
-    one-row (nodeIn s) kept number short,
-    one-number (nodeIn s) kept number short,
-    one-node (nodeIn s) kept number short,
+    one-file ed (nodeIn s) kept number short placed,
+    one-row ed (nodeIn s) kept number short placed,
+    one-number ed (nodeIn s) kept number short placed,
+    one-node ed (nodeIn s) kept number short placed,
   )
+
+-- The second edition has a place for every node, and the first for a node without jitter.
+pub second-placed : (number : ℕ) (n : Node) → EditionHolds Second (oneRow number n)
+second-placed number n j l = tt
+
+pub first-placed : (number : ℕ) (n : Node) → Punctual (n .entries) → EditionHolds First (oneRow number n)
+first-placed number n h = h

@@ -2,4 +2,5 @@
 pub mod Changing
 pub mod Mapping
 pub mod Checking
+pub mod Writing
 pub mod FileMap

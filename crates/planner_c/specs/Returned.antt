@@ -1,9 +1,12 @@
--- How an answer is passed to C: a number that is returned, and two values that are written to a lent array.
+-- How an answer is passed to C: a number that is returned, and three values that are written to a lent array. A value that
+-- is not named is 0.
 use Prim.Native.Nat.{ℕ}
 use mathlib.Core.List.{List, [], _∷_}
 use Rattle.refusals.specs.Refusals.{Numbered, Outcome, accepted, refused}
 use Rattle.completion.specs.Test.{Completion, on-time, late}
-use Rattle.plan_file.specs.Answers.{Sizes}
+use Rattle.plan_file.specs.declared.Edition.{Edition}
+use Rattle.plan_file.specs.declared.Edition.the-variants.{First, Second}
+use Rattle.plan_file.specs.Answers.{Filled}
 use Rattle.refusals.specs.Answers.{Answer, gives, refuses}
 
 -- The number that is returned, and the values as the call leaves them.
@@ -17,31 +20,36 @@ returned number values = record { number = number; values = values }
 
 -- A refused call: the refusal's number, and the row and the entry position as values.
 abbrev pub back : Numbered → Returned
-back r = returned (r .number) (r .row ∷ r .entry ∷ [])
+back r = returned (r .number) (r .row ∷ r .entry ∷ 0 ∷ [])
 
 -- An accepted call: number 0, and its results as values.
-abbrev pub given : ℕ → ℕ → Returned
-given first second = returned 0 (first ∷ second ∷ [])
+abbrev pub given : ℕ → ℕ → ℕ → Returned
+given first second third = returned 0 (first ∷ second ∷ third ∷ [])
 
--- An accepted check has no results: both values are 0.
+-- An accepted check has no results: all values are 0.
 abbrev pub checked : Outcome → Returned
-checked accepted = given 0 0
+checked accepted = given 0 0 0
 checked (refused r) = back r
 
--- The reader gives how many rows and how many entries it filled.
-abbrev pub sizedPlan : Answer Sizes → Returned
-sizedPlan (gives s) = given (s .rows) (s .entries)
+-- The number of an edition.
+abbrev pub editionNumber : Edition → ℕ
+editionNumber First = 1
+editionNumber Second = 2
+
+-- The reader gives how many rows and how many entries it filled, and the edition.
+abbrev pub sizedPlan : Answer Filled → Returned
+sizedPlan (gives s) = given (s .rows) (s .entries) (editionNumber (s .edition))
 sizedPlan (refuses r) = back r
 
 -- The writer and the listing give a length. The mapper gives how many levels the map uses.
 abbrev pub sized : Answer ℕ → Returned
-sized (gives n) = given n 0
+sized (gives n) = given n 0 0
 sized (refuses r) = back r
 
 -- Timing gives the completion time and the rounds. For a late entry, the time is 0.
 abbrev pub givenTime : Completion → Returned
-givenTime (on-time time rounds) = given time rounds
-givenTime (late rounds) = given 0 rounds
+givenTime (on-time time rounds) = given time rounds 0
+givenTime (late rounds) = given 0 rounds 0
 
 -- What timing an entry of a session returns.
 abbrev pub timed : Answer Completion → Returned

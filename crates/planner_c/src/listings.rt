@@ -12,7 +12,7 @@ use listing::Listed;
 // Lists a plan file from the buffer's start; for a refused file, the text is one line with the refusal. Gives the text's
 // length.
 #[no_mangle]
-pub extern "C" fn maiplur_list(file: &[u8], text: &mut [u8], values: &mut [usize; 2]) -> u32
+pub extern "C" fn maiplur_list(file: &[u8], text: &mut [u8], values: &mut [usize; 3]) -> u32
     ensures { λ a.
         ⌜ returned a (now (values .exit)) ≡ sized (listAnswer (now (file .entry)) (length (now (text .entry)))) ⌝ }
     ensures { λ a.
@@ -23,7 +23,7 @@ pub extern "C" fn maiplur_list(file: &[u8], text: &mut [u8], values: &mut [usize
 {
     let listed = listing::list_plan(file, text);
     match listed {
-        Listed::Text(n) => give(n, 0, values),
+        Listed::Text(n) => give(n, 0, 0, values),
         Listed::Refused(r) => refuse(r, values),
     }
 }

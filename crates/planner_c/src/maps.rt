@@ -18,7 +18,7 @@ pub extern "C" fn maiplur_map(
     file: &[u8],
     number: u16,
     levels: &mut [u8],
-    values: &mut [usize; 2],
+    values: &mut [usize; 3],
 ) -> u32
     ensures { λ a.
         ⌜ returned a (now (values .exit)) ≡
@@ -34,7 +34,7 @@ pub extern "C" fn maiplur_map(
 {
     let mapped = planner::map_node(file, number, levels);
     match mapped {
-        MappedNode::Levels(used) => give(used as usize, 0, values),
+        MappedNode::Levels(used) => give(used as usize, 0, 0, values),
         MappedNode::Refused(r) => refuse(r, values),
     }
 }

@@ -6,28 +6,28 @@ use refusals::Checked;
 use refusals::Refusal;
 
 // Returns the number of a refusal, and writes its row and its entry position to `values`.
-pub(crate) fn refuse(r: Refusal, values: &mut [usize; 2]) -> u32
+pub(crate) fn refuse(r: Refusal, values: &mut [usize; 3]) -> u32
     ensures { λ a. ⌜ returned a (now (values .exit)) ≡ back (numbered r) ⌝ }
 {
     let n = refusals::numbers_of(r);
-    *values = [n.row, n.entry];
+    *values = [n.row, n.entry, 0];
     n.number as u32
 }
 
-// Returns 0, and writes the two results of an accepted call to `values`.
-pub(crate) fn give(first: usize, second: usize, values: &mut [usize; 2]) -> u32
-    ensures { λ a. ⌜ returned a (now (values .exit)) ≡ given first second ⌝ }
+// Returns 0, and writes the results of an accepted call to `values`.
+pub(crate) fn give(first: usize, second: usize, third: usize, values: &mut [usize; 3]) -> u32
+    ensures { λ a. ⌜ returned a (now (values .exit)) ≡ given first second third ⌝ }
 {
-    *values = [first, second];
+    *values = [first, second, third];
     0
 }
 
-// Returns the outcome of a check. An accepted check has no results: both values are 0.
-pub(crate) fn give_checked(found: Checked, values: &mut [usize; 2]) -> u32
+// Returns the outcome of a check. An accepted check has no results: all values are 0.
+pub(crate) fn give_checked(found: Checked, values: &mut [usize; 3]) -> u32
     ensures { λ a. ⌜ returned a (now (values .exit)) ≡ checked (outcome found) ⌝ }
 {
     match found {
-        Checked::Accepted => give(0, 0, values),
+        Checked::Accepted => give(0, 0, 0, values),
         Checked::Refused(r) => refuse(r, values),
     }
 }

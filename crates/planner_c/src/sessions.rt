@@ -30,7 +30,7 @@ ghost use Rattle.planner_c.specs.Changes.{Changes};
 pub extern "C" fn maiplur_session_open(
     words: &mut SessionWords,
     levels: u8,
-    values: &mut [usize; 2],
+    values: &mut [usize; 3],
 ) -> u32
     ensures { λ a.
         ⌜ Changes (opening levels) (now (words .entry)) (returned a (now (values .exit))) (now (words .exit)) ⌝ }
@@ -44,7 +44,7 @@ pub extern "C" fn maiplur_session_open(
 pub extern "C" fn maiplur_session_set_levels(
     words: &mut SessionWords,
     levels: u8,
-    values: &mut [usize; 2],
+    values: &mut [usize; 3],
 ) -> u32
     ensures { λ a.
         ⌜ Changes (changing (settingLevels levels)) (now (words .entry)) (returned a (now (values .exit))) (now (words .exit)) ⌝ }
@@ -59,7 +59,7 @@ pub extern "C" fn maiplur_session_insert(
     words: &mut SessionWords,
     position: usize,
     entry: &EntryWords,
-    values: &mut [usize; 2],
+    values: &mut [usize; 3],
 ) -> u32
     ensures { λ a.
         ⌜ Changes (changing (inserting position (entryFrom (now (entry .entry)) 0))) (now (words .entry))
@@ -75,7 +75,7 @@ pub extern "C" fn maiplur_session_insert(
 pub extern "C" fn maiplur_session_remove(
     words: &mut SessionWords,
     position: usize,
-    values: &mut [usize; 2],
+    values: &mut [usize; 3],
 ) -> u32
     ensures { λ a.
         ⌜ Changes (changing (removing position)) (now (words .entry)) (returned a (now (values .exit))) (now (words .exit)) ⌝ }
@@ -90,7 +90,7 @@ pub extern "C" fn maiplur_session_replace(
     words: &mut SessionWords,
     position: usize,
     entry: &EntryWords,
-    values: &mut [usize; 2],
+    values: &mut [usize; 3],
 ) -> u32
     ensures { λ a.
         ⌜ Changes (changing (replacing position (entryFrom (now (entry .entry)) 0))) (now (words .entry))
@@ -102,14 +102,14 @@ pub extern "C" fn maiplur_session_replace(
 }
 
 // Gives the completion time, or 0 if the entry is late, and the rounds.
-fn give_time(t: Timing, values: &mut [usize; 2]) -> u32
+fn give_time(t: Timing, values: &mut [usize; 3]) -> u32
     ensures { λ a. ⌜ returned a (now (values .exit)) ≡ givenTime (completion t) ⌝ }
 {
     let rounds = t.rounds() as usize;
     let Timing::OnTime { time, rounds: _ } = t else {
-        return give(0, rounds, values);
+        return give(0, rounds, 0, values);
     };
-    give(time as usize, rounds, values)
+    give(time as usize, rounds, 0, values)
 }
 
 // Times the entry at `i` in the group from `first` to `last`. Gives the completion time, or 0 if the entry is late, and the
@@ -120,7 +120,7 @@ pub extern "C" fn maiplur_session_time(
     first: usize,
     last: usize,
     i: usize,
-    values: &mut [usize; 2],
+    values: &mut [usize; 3],
 ) -> u32
     ensures { λ a.
         ⌜ returned a (now (values .exit)) ≡
@@ -139,7 +139,7 @@ pub extern "C" fn maiplur_session_time(
 pub extern "C" fn maiplur_session_map(
     words: &SessionWords,
     levels: &mut [u8],
-    values: &mut [usize; 2],
+    values: &mut [usize; 3],
 ) -> u32
     ensures { λ a.
         ⌜ returned a (now (values .exit)) ≡
@@ -156,7 +156,7 @@ pub extern "C" fn maiplur_session_map(
     let s = from_words(*words);
     let mapped = session::mapped(s, levels);
     match mapped {
-        MappedNode::Levels(used) => give(used as usize, 0, values),
+        MappedNode::Levels(used) => give(used as usize, 0, 0, values),
         MappedNode::Refused(r) => refuse(r, values),
     }
 }

@@ -17,6 +17,7 @@ use Rattle.refusals.specs.declared.Refusal.the-variants.{
   NoMap,
   OutsideList,
   FullList,
+  Jitter,
 }
 use Rattle.refusals.specs.Refusals.{Numbered, at, numbered}
 
@@ -39,3 +40,4 @@ number-some ShortBuffer p = omega arith
 number-some NoMap p = omega arith
 number-some OutsideList p = omega arith
 number-some FullList p = omega arith
+number-some (Jitter row position) p = omega arith

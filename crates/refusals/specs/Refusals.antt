@@ -16,6 +16,7 @@ use Rattle.refusals.specs.declared.Refusal.the-variants.{
   NoMap,
   OutsideList,
   FullList,
+  Jitter,
 }
 use Rattle.refusals.specs.declared.Numbers.{Numbers}
 use Rattle.refusals.specs.declared.Checked.{Checked}
@@ -46,6 +47,7 @@ numbered ShortBuffer = at 10 0 0
 numbered NoMap = at 11 0 0
 numbered OutsideList = at 12 0 0
 numbered FullList = at 13 0 0
+numbered (Jitter row position) = at 14 row position
 
 -- The same, from the struct that the code returns.
 abbrev pub numbersIn : Numbers → Numbered

@@ -18,6 +18,7 @@ pub enum Refusal {
     NoMap,
     OutsideList,
     FullList,
+    Jitter { row: usize, position: usize },
 }
 
 pub enum Checked {
@@ -56,6 +57,7 @@ fn look_up(r: Refusal) -> Numbers
         Refusal::NoMap => numbers_at(11, 0, 0),
         Refusal::OutsideList => numbers_at(12, 0, 0),
         Refusal::FullList => numbers_at(13, 0, 0),
+        Refusal::Jitter { row, position } => numbers_at(14, row, position),
     }
 }
 

@@ -34,14 +34,17 @@ use Rattle.session.specs.Operations.{
   settingLevels,
   timing,
   levelsCheck,
-  changeCheck,
-  queryCheck,
+  changeCheckBy,
+  queryCheckBy,
   operationCheck,
+  operationCheckBy,
   lentCheck,
+  lentCheckBy,
   stepCheck,
+  stepCheckBy,
 }
 use Rattle.refusals.specs.Answers.{gives, refuses}
-use Rattle.session.specs.Timing.{timeAnswer}
+use Rattle.session.specs.Timing.{timeAnswer, timeAnswerBy}
 use Rattle.session.specs.Steps.{sessionMade, sessionAfter}
 
 -- 1 to 64 levels
@@ -66,15 +69,15 @@ levels-accepted levels a =
 -- a session that is lent, and then the operation's own checks
 module _ (o : Operation) (n : Node) where
   pub lent-stops : (r : Numbered) → lentCheck o n ≡ refused r → stepCheck o n ≡ refused r
-  unfolding stepCheck
+  unfolding stepCheckBy
   lent-stops r p = then-refused _ _ r p
 
   pub lent-goes-on : lentCheck o n ≡ accepted → stepCheck o n ≡ operationCheck o n
-  unfolding stepCheck
+  unfolding stepCheckBy
   lent-goes-on p = then-accepted _ _ p
 
   pub step-accepted : stepCheck o n ≡ accepted → (lentCheck o n ≡ accepted) × (operationCheck o n ≡ accepted)
-  unfolding stepCheck
+  unfolding stepCheckBy
   step-accepted p = both-accepted _ _ p
 
 -- the same, of what the checks of a lent session answered
@@ -89,50 +92,50 @@ module _ (o : Operation) (n : Node) (lent : Checked) (p : outcome lent ≡ lentC
 module _ (n : Node) (p : ℕ) where
   module _ (e : Entry) where
     pub insert-outside : length (n .entries) < p → operationCheck (changing (inserting p e)) n ≡ refused (at 12 0 0)
-    unfolding operationCheck changeCheck queryCheck
+    unfolding operationCheckBy changeCheckBy queryCheckBy
     insert-outside h = rw (lt-leb p (length (n .entries)) h)
 
     pub insert-full : p ≤ length (n .entries) → mostEntries ≤ length (n .entries) → operationCheck (changing (inserting p e)) n ≡ refused (at 13 0 0)
-    unfolding operationCheck changeCheck queryCheck
+    unfolding operationCheckBy changeCheckBy queryCheckBy
     insert-full h l = rw (le-leb p (length (n .entries)) h, le-ltb (length (n .entries)) mostEntries l)
 
     pub insert-entry : p ≤ length (n .entries) → length (n .entries) < mostEntries
         → operationCheck (changing (inserting p e)) n ≡ entryCheck 0 p e
-    unfolding operationCheck changeCheck queryCheck
+    unfolding operationCheckBy changeCheckBy queryCheckBy
     insert-entry h l = rw (le-leb p (length (n .entries)) h, lt-ltb (length (n .entries)) mostEntries l)
 
     pub insert-accepted : operationCheck (changing (inserting p e)) n ≡ accepted
         → (p ≤ length (n .entries)) × (length (n .entries) < mostEntries) × (entryCheck 0 p e ≡ accepted)
-    unfolding operationCheck changeCheck queryCheck
+    unfolding operationCheckBy changeCheckBy queryCheckBy
     insert-accepted a =
         let q = both-accepted _ _ a in
         let t = both-accepted _ _ (q .1) in
         (leb-true _ _ (demanded _ _ (q .0)), ltb-true _ _ (demanded _ _ (t .0)), t .1)
 
     pub replace-accepted : operationCheck (changing (replacing p e)) n ≡ accepted → (p < length (n .entries)) × (entryCheck 0 p e ≡ accepted)
-    unfolding operationCheck changeCheck queryCheck
+    unfolding operationCheckBy changeCheckBy queryCheckBy
     replace-accepted a = let q = both-accepted _ _ a in (ltb-true _ _ (demanded _ _ (q .0)), q .1)
 
     -- replacing checks what removing does, and then the entry
     pub replace-step : stepCheck (changing (replacing p e)) n ≡ (stepCheck (changing (removing p)) n andThen entryCheck 0 p e)
-    unfolding stepCheck lentCheck operationCheck changeCheck
+    unfolding stepCheckBy lentCheckBy operationCheckBy changeCheckBy
     replace-step = sym (then-assoc (nodeCheck 0 n) _ _)
 
   pub remove-outside : length (n .entries) ≤ p → operationCheck (changing (removing p)) n ≡ refused (at 12 0 0)
-  unfolding operationCheck changeCheck queryCheck
+  unfolding operationCheckBy changeCheckBy queryCheckBy
   remove-outside h = rw (le-ltb p (length (n .entries)) h)
 
   pub remove-inside : p < length (n .entries) → operationCheck (changing (removing p)) n ≡ accepted
-  unfolding operationCheck changeCheck queryCheck
+  unfolding operationCheckBy changeCheckBy queryCheckBy
   remove-inside h = rw (lt-ltb p (length (n .entries)) h)
 
   pub remove-accepted : operationCheck (changing (removing p)) n ≡ accepted → p < length (n .entries)
-  unfolding operationCheck changeCheck queryCheck
+  unfolding operationCheckBy changeCheckBy queryCheckBy
   remove-accepted a = ltb-true _ _ (demanded _ _ a)
 
 module _ (n : Node) (first last i : ℕ) where
   pub time-inside : first ≤ i → i ≤ last → last < length (n .entries) → operationCheck (asking (timing first last i)) n ≡ accepted
-  unfolding operationCheck changeCheck queryCheck
+  unfolding operationCheckBy changeCheckBy queryCheckBy
   time-inside h l m = rw (le-leb first i h, le-leb i last l, lt-ltb last (length (n .entries)) m)
 
   time-bounds : leb first i && leb i last && ltb last (length (n .entries)) ≡ true
@@ -144,12 +147,12 @@ module _ (n : Node) (first last i : ℕ) where
 
   pub time-else : ((first ≤ i) → (i ≤ last) → (last < length (n .entries)) → ⊥)
       → operationCheck (asking (timing first last i)) n ≡ refused (at 12 0 0)
-  unfolding operationCheck changeCheck queryCheck
+  unfolding operationCheckBy changeCheckBy queryCheckBy
   time-else out = mustHold-refuses _ _ (decided _ time-bounds (λ h. out (h .0) (h .1) (h .2)))
 
   pub time-accepted : operationCheck (asking (timing first last i)) n ≡ accepted
       → (first ≤ i) × (i ≤ last) × (last < length (n .entries))
-  unfolding operationCheck changeCheck queryCheck
+  unfolding operationCheckBy changeCheckBy queryCheckBy
   time-accepted a = time-bounds (demanded _ _ a)
 
 -- what a call leaves
@@ -165,12 +168,12 @@ module _ (o : Operation) (s : Session) where
 -- timing
 module _ (n : Node) (first last i : ℕ) where
   pub time-refused : (r : Numbered) → stepCheck (asking (timing first last i)) n ≡ refused r → timeAnswer n first last i ≡ refuses r
-  unfolding timeAnswer
+  unfolding timeAnswerBy
   time-refused r p = rw p
 
   pub time-given : stepCheck (asking (timing first last i)) n ≡ accepted
       → timeAnswer n first last i ≡ gives (completionTest (n .entries) (groupLevel first last) i)
-  unfolding timeAnswer
+  unfolding timeAnswerBy
   time-given p = rw p
 
 -- what an accepted operation may go by, on a list of `count` entries
@@ -191,7 +194,7 @@ module _ (ws : List ℕ) (count levels : ℕ) where
   few p = omega (arith, node-accepted 0 n .0 p .fewEntries, sized)
 
   pub change-ready : (c : Change) → stepCheck (changing c) n ≡ accepted → Ready c count
-  unfolding lentCheck
+  unfolding lentCheckBy
   change-ready (inserting p e) a =
       let q = insert-accepted n p e (step-accepted _ n a .1) in
       (omega (arith, sized), omega (arith, sized))
@@ -201,7 +204,7 @@ module _ (ws : List ℕ) (count levels : ℕ) where
 
   pub time-ready : (first last i : ℕ) → stepCheck (asking (timing first last i)) n ≡ accepted
       → AllHold (n .entries) × ((first ≤ i) × (i ≤ last) × (last < count) × (count ≤ mostEntries))
-  unfolding lentCheck
+  unfolding lentCheckBy
   time-ready first last i a =
       let q = step-accepted (asking (timing first last i)) n a in
       let t = time-accepted n first last i (q .1) in

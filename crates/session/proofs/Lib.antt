@@ -8,3 +8,4 @@ pub mod InWords
 pub mod Theorems
 pub mod Lent
 pub mod Mapping
+pub mod WithoutJitter

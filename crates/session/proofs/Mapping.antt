@@ -12,20 +12,20 @@ use Rattle.task_model.proofs.Theorems.{node-accepted}
 use Rattle.refusals.proofs.Outcomes.{not-both}
 use Rattle.level_map.specs.declared.MappedNode.{MappedNode}
 use Rattle.level_map.specs.declared.MappedNode.the-variants.{Refused}
-use Rattle.level_map.specs.Answer.{answer, mapOf, heldAnswer, NodeBestMapOrNone}
+use Rattle.level_map.specs.Answer.{answer, mapOf, heldAnswer, heldAnswerUnder, NodeBestMapOrNone}
 use Rattle.level_map.proofs.Theorems.{best-map-or-none}
 use Rattle.level_map.proofs.Answers.{Right}
-use Rattle.session.specs.Operations.{asking, mapping, queryCheck, operationCheck, lentCheck}
-use Rattle.session.specs.Mapping.{mapAnswer, Maps}
+use Rattle.session.specs.Operations.{asking, mapping, queryCheckBy, operationCheck, operationCheckBy, lentCheck, lentCheckBy}
+use Rattle.session.specs.Mapping.{mapAnswer, mapAnswerBy, Maps}
 use Rattle.session.proofs.Checking.{lent-stops, lent-goes-on}
 
 module _ (n : Node) where
   forged-answer : (r : Numbered) → nodeCheck 0 n ≡ refused r → (room : ℕ) → mapAnswer n room ≡ refuses r
-  unfolding mapAnswer lentCheck
+  unfolding mapAnswerBy lentCheckBy
   forged-answer r p room = rw (lent-stops (asking (mapping room)) n r p)
 
   pub own-answer : nodeCheck 0 n ≡ accepted → (room : ℕ) → mapAnswer n room ≡ heldAnswer n room
-  unfolding mapAnswer heldAnswer lentCheck operationCheck queryCheck
+  unfolding mapAnswerBy heldAnswerUnder lentCheckBy operationCheckBy queryCheckBy
   own-answer p room = rw (lent-goes-on (asking (mapping room)) n p)
 
   pub own-best : nodeCheck 0 n ≡ accepted → (buffer : List ℕ)

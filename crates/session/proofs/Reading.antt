@@ -27,6 +27,7 @@ fits e h l =
       period = omega (arith, h .times);
       deadline = omega (arith, h .times);
       blocking = omega (arith, h .times);
+      jitter = omega (arith, h .times, h .jitter);
     }
 
 pub all-fit : (es : List Entry) → ((j : ℕ) → j < length es → EntryFits (entryAt es j)) → EntriesFit es

@@ -24,15 +24,20 @@ use Rattle.session.specs.Operations.{
   CallableChange,
   Callable,
   AllCallable,
-  changeCheck,
+  changeCheckBy,
   operationCheck,
+  operationCheckBy,
   emptyNode,
   changed,
   made,
   nodeAfter,
+  nodeAfterBy,
   nodeAfterAll,
+  nodeAfterAllBy,
   answersAll,
+  answersAllBy,
   lentCheck,
+  lentCheckBy,
   stepCheck,
 }
 use Rattle.session.specs.Steps.{sessionMade, sessionAfter, sessionAfterAll, answersOf}
@@ -71,7 +76,7 @@ module _ (n : Node) (k : Kept n) where
 
   -- an accepted change keeps a node within the limits, and so does any accepted operation
   kept-changed : (c : Change) → CallableChange c → operationCheck (changing c) n ≡ accepted → Kept (changed c n)
-  unfolding changed operationCheck changeCheck
+  unfolding changed operationCheckBy changeCheckBy
   kept-changed (inserting p e) c a =
       let h = insert-accepted n p e a in
       kept-with n _ k (omega (arith, size-inserted (n .entries) e p (h .0))) (each-inserted Good p e (n .entries) (entry-accepted 0 p e .0 (h .2), c) all)
@@ -88,23 +93,23 @@ module _ (n : Node) (k : Kept n) where
       }
 
   pub kept-made : (o : Operation) → Callable o → operationCheck o n ≡ accepted → Kept (made o n)
-  unfolding operationCheck
+  unfolding operationCheckBy
   kept-made (opening levels) c a = let h = levels-accepted levels a in kept-empty levels (h .0) (h .1)
   kept-made (changing x) c a = kept-changed x c a
   kept-made (asking q) c a = k
 
 module _ (o : Operation) (n : Node) where
-  node-changed : operationCheck o n ≡ accepted → nodeAfter o n ≡ made o n
-  unfolding nodeAfter
-  node-changed p = rw (p, nodeAfter)
+  pub node-changed : operationCheck o n ≡ accepted → nodeAfter o n ≡ made o n
+  unfolding nodeAfterBy
+  node-changed p = rw (p, nodeAfterBy)
 
-  node-kept : (r : Numbered) → operationCheck o n ≡ refused r → nodeAfter o n ≡ n
-  unfolding nodeAfter
-  node-kept r p = rw (p, nodeAfter)
+  pub node-kept : (r : Numbered) → operationCheck o n ≡ refused r → nodeAfter o n ≡ n
+  unfolding nodeAfterBy
+  node-kept r p = rw (p, nodeAfterBy)
 
 -- what a session that is lent holds is within the limits, so that its own checks decide
 pub lent-within : (o : Operation) (n : Node) → NodeHolds n → lentCheck o n ≡ accepted
-unfolding lentCheck
+unfolding lentCheckBy
 lent-within (opening levels) n h = refl
 lent-within (changing c) n h = node-accepted 0 n .1 h
 lent-within (asking q) n h = node-accepted 0 n .1 h
@@ -143,13 +148,13 @@ module _ (o : Operation) (n : Node) (k : Kept n) where
 -- all of them
 pub rows-session : (os : List Operation) (n : Node) → Kept n → AllCallable os
     → sessionAfterAll os (sessionOf n) ≡ sessionOf (nodeAfterAll os n)
-unfolding sessionAfterAll nodeAfterAll
+unfolding sessionAfterAll nodeAfterAllBy
 rows-session [] n k c = refl
 rows-session (o ∷ os) n k c =
     ap (sessionAfterAll os) (step-session o n k) ∙ rows-session os (nodeAfter o n) (step-kept o n k (c .0)) (c .1)
 
 pub rows-answers : (os : List Operation) (n : Node) → Kept n → AllCallable os → answersOf os (sessionOf n) ≡ answersAll os n
-unfolding answersOf answersAll
+unfolding answersOf answersAllBy
 rows-answers [] n k c = refl
 rows-answers (o ∷ os) n k c =
     ap (λ a. a ∷ answersOf os (sessionAfter o (sessionOf n))) (answer o n k)
@@ -157,6 +162,6 @@ rows-answers (o ∷ os) n k c =
     (ap (answersOf os) (step-session o n k) ∙ rows-answers os (nodeAfter o n) (step-kept o n k (c .0)) (c .1))
 
 pub rows-kept : (os : List Operation) (n : Node) → Kept n → AllCallable os → Kept (nodeAfterAll os n)
-unfolding nodeAfterAll
+unfolding nodeAfterAllBy
 rows-kept [] n k c = k
 rows-kept (o ∷ os) n k c = rows-kept os (nodeAfter o n) (step-kept o n k (c .0)) (c .1)

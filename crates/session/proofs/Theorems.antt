@@ -32,15 +32,18 @@ use Rattle.session.specs.Operations.{
   timing,
   AllCallable,
   operationCheck,
+  operationCheckBy,
   emptyNode,
   nodeAfterAll,
   answersAll,
   lentCheck,
+  lentCheckBy,
   stepCheck,
+  stepCheckBy,
 }
 use Rattle.refusals.specs.Answers.{gives, refuses, left}
 use Rattle.session.specs.Timing.{timeAnswer}
-use Rattle.session.specs.Mapping.{mapAnswer}
+use Rattle.session.specs.Mapping.{mapAnswer, mapAnswerBy}
 use Rattle.session.specs.Steps.{sessionAfter, sessionAfterAll, answersOf}
 use Rattle.session.specs.InWords.{sessionSize, sessionIn, wordsIn, wordsAfter, wordsAfterAll}
 use Rattle.session.proofs.Reading.{Kept, read-back}
@@ -65,7 +68,7 @@ use Rattle.session.proofs.Sequences.{kept-empty, own-checks, rows-sessi
 -- the level count at opening, `os` the row.
 module _ (levels : ℕ) (some : 1 ≤ levels) (few : levels ≤ mostLevels) (os : List Operation) (call : AllCallable os) (s : Session) where
   opened-accepted : stepCheck (opening levels) (nodeIn s) ≡ accepted
-  unfolding stepCheck lentCheck operationCheck
+  unfolding stepCheckBy lentCheckBy operationCheckBy
   opened-accepted = levels-within levels some few
 
   opened-session : sessionAfter (opening levels) s ≡ sessionOf (emptyNode levels)
@@ -115,7 +118,7 @@ refused-unchanged o s r p = after-refused o s r p
 -- A session that holds no node of a file is turned back as that node would be, by every operation but opening.
 pub forged-refused : (o : Operation) (s : Session) (r : Numbered) → ((levels : ℕ) → o ≡ opening levels → ⊥)
     → nodeCheck 0 (nodeIn s) ≡ refused r → stepCheck o (nodeIn s) ≡ refused r
-unfolding lentCheck
+unfolding lentCheckBy
 forged-refused (opening levels) s r out p = absurd (out levels refl)
 forged-refused (changing c) s r out p = lent-stops (changing c) (nodeIn s) r p
 forged-refused (asking q) s r out p = lent-stops (asking q) (nodeIn s) r p
@@ -167,7 +170,7 @@ time-some s first last i time rounds p = time-right s first last i (on-time time
 -- Mapping, as an operation of a row, is refused exactly as its answer says; on any session.
 pub map-refusal : (s : Session) (room : ℕ) (r : Numbered)
     → stepCheck (asking (mapping room)) (nodeIn s) ≡ refused r ↔ mapAnswer (nodeIn s) room ≡ refuses r
-unfolding mapAnswer
+unfolding mapAnswerBy
 map-refusal s room r = ((λ p. rw p), λ p. giving-refuses (stepCheck (asking (mapping room)) (nodeIn s)) _ r (sym p))
 
 -- Mapping a sound session checks 10, then 11, and answers and writes as mapping a node at hand does.

@@ -5,3 +5,4 @@ pub mod Steps
 pub mod Timing
 pub mod Mapping
 pub mod InWords
+pub mod WithoutJitter

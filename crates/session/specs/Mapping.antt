@@ -9,12 +9,15 @@ use Rattle.task_model.specs.Limits.{Node}
 use Rattle.task_model.specs.Checks.{nodeCheck}
 use Rattle.level_map.specs.declared.MappedNode.{MappedNode}
 use Rattle.level_map.specs.Assignments.{levelsUsed}
-use Rattle.level_map.specs.Answer.{answer, mapOf, NodeBestMapOrNone}
-use Rattle.session.specs.Operations.{asking, mapping, stepCheck}
+use Rattle.level_map.specs.Answer.{answer, levelsUnder, mapOf, NodeBestMapOrNone}
+use Rattle.session.specs.Operations.{Rules, rules, asking, mapping, stepCheckBy}
 
 -- The answer: the checks, then the count of the levels of the node's map.
-unfoldable pub mapAnswer : Node → ℕ → Answer ℕ
-mapAnswer n room = giving (stepCheck (asking (mapping room)) n) (levelsUsed (mapOf n))
+unfoldable pub mapAnswerBy : Rules → Node → ℕ → Answer ℕ
+mapAnswerBy by n room = giving (stepCheckBy by (asking (mapping room)) n) (levelsUsed (levelsUnder (by .test) n))
+
+abbrev pub mapAnswer : Node → ℕ → Answer ℕ
+mapAnswer n room = mapAnswerBy rules n room
 
 -- Mapping n into a buffer answers a and leaves the buffer as `after`. It writes the map from the buffer's start, one byte
 -- per entry, and keeps the bytes beyond; a refusal leaves the buffer untouched. If n is within the limits and fits the

@@ -9,8 +9,10 @@ use Rattle.task_model.specs.declared.Entry.{Entry}
 use Rattle.refusals.specs.Refusals.{at, Outcome, accepted, refused, _andThen_, mustHold}
 use Rattle.task_model.specs.Limits.{mostLevels, mostEntries, Node}
 use Rattle.node_words.specs.Lists.{insertAt, removeAt, replaceAt}
-use Rattle.task_model.specs.Checks.{entryCheck, nodeCheck}
-use Rattle.level_map.specs.Answer.{heldCheck}
+use Rattle.task_model.specs.Checks.{entryCheck, nodeCheckBy}
+use Rattle.completion.specs.Test.{completionTest}
+use Rattle.level_map.specs.Map.{EntryTest}
+use Rattle.level_map.specs.Answer.{heldCheckUnder}
 
 -- The changes of an open session.
 pub data Change : Type 0 where
@@ -56,28 +58,41 @@ AllCallable (o ∷ os) = Callable o × AllCallable os
 unfoldable pub levelsCheck : ℕ → Outcome
 levelsCheck levels = mustHold (leb 1 levels && leb levels mostLevels) (at 4 0 0)
 
--- The checks of a change of a node, in their order. Insert: 12, 13, 7, 8. Remove: 12. Replace: 12, 7, 8. Setting levels: 4.
-unfoldable pub changeCheck : Change → Node → Outcome
-changeCheck (inserting position e) n =
+-- What the operations go by: the check of an entry, by its row and position, and the test that times it.
+pub record Rules : Type 0 where
+  pub check : ℕ → ℕ → Entry → Outcome
+  pub test : EntryTest
+
+-- The rules of a session: the check of an entry (7, 8, 14), and the completion time test.
+abbrev pub rules : Rules
+rules = record { check = entryCheck; test = completionTest }
+
+-- The checks of a change of a node, in their order. Insert: 12, 13, then the entry. Remove: 12. Replace: 12, then the entry.
+-- Setting levels: 4.
+unfoldable pub changeCheckBy : Rules → Change → Node → Outcome
+changeCheckBy by (inserting position e) n =
     mustHold (leb position (length (n .entries))) (at 12 0 0)
     andThen mustHold (ltb (length (n .entries)) mostEntries) (at 13 0 0)
-    andThen entryCheck 0 position e
-changeCheck (removing position) n = mustHold (ltb position (length (n .entries))) (at 12 0 0)
-changeCheck (replacing position e) n =
-    mustHold (ltb position (length (n .entries))) (at 12 0 0) andThen entryCheck 0 position e
-changeCheck (settingLevels levels) n = levelsCheck levels
+    andThen by .check 0 position e
+changeCheckBy by (removing position) n = mustHold (ltb position (length (n .entries))) (at 12 0 0)
+changeCheckBy by (replacing position e) n =
+    mustHold (ltb position (length (n .entries))) (at 12 0 0) andThen by .check 0 position e
+changeCheckBy by (settingLevels levels) n = levelsCheck levels
 
 -- The checks of a query. Mapping: 10, 11. Timing: 12.
-unfoldable pub queryCheck : Query → Node → Outcome
-queryCheck (mapping room) n = heldCheck n room
-queryCheck (timing first last i) n =
+unfoldable pub queryCheckBy : Rules → Query → Node → Outcome
+queryCheckBy by (mapping room) n = heldCheckUnder (by .test) n room
+queryCheckBy by (timing first last i) n =
     mustHold (leb first i && leb i last && ltb last (length (n .entries))) (at 12 0 0)
 
 -- The checks of an operation. Opening: 4.
-unfoldable pub operationCheck : Operation → Node → Outcome
-operationCheck (opening levels) n = levelsCheck levels
-operationCheck (changing c) n = changeCheck c n
-operationCheck (asking q) n = queryCheck q n
+unfoldable pub operationCheckBy : Rules → Operation → Node → Outcome
+operationCheckBy by (opening levels) n = levelsCheck levels
+operationCheckBy by (changing c) n = changeCheckBy by c n
+operationCheckBy by (asking q) n = queryCheckBy by q n
+
+abbrev pub operationCheck : Operation → Node → Outcome
+operationCheck o n = operationCheckBy rules o n
 
 -- Opening makes an empty node with the given level count.
 abbrev pub emptyNode : ℕ → Node
@@ -97,31 +112,46 @@ made (changing c) n = changed c n
 made (asking q) n = n
 
 -- The node after an operation. A refused operation changes nothing.
-unfoldable pub nodeAfter : Operation → Node → Node
-nodeAfter o n =
-    elim (operationCheck o n) [
+unfoldable pub nodeAfterBy : Rules → Operation → Node → Node
+nodeAfterBy by o n =
+    elim (operationCheckBy by o n) [
       | accepted ↦ made o n
       | refused r ↦ n
     ]
 
+abbrev pub nodeAfter : Operation → Node → Node
+nodeAfter o n = nodeAfterBy rules o n
+
 -- The node after a sequence of operations.
-unfoldable pub nodeAfterAll : List Operation → Node → Node
-nodeAfterAll [] n = n
-nodeAfterAll (o ∷ os) n = nodeAfterAll os (nodeAfter o n)
+unfoldable pub nodeAfterAllBy : Rules → List Operation → Node → Node
+nodeAfterAllBy by [] n = n
+nodeAfterAllBy by (o ∷ os) n = nodeAfterAllBy by os (nodeAfterBy by o n)
+
+abbrev pub nodeAfterAll : List Operation → Node → Node
+nodeAfterAll os n = nodeAfterAllBy rules os n
 
 -- The answers of a sequence of operations.
-unfoldable pub answersAll : List Operation → Node → List Outcome
-answersAll [] n = []
-answersAll (o ∷ os) n = operationCheck o n ∷ answersAll os (nodeAfter o n)
+unfoldable pub answersAllBy : Rules → List Operation → Node → List Outcome
+answersAllBy by [] n = []
+answersAllBy by (o ∷ os) n = operationCheckBy by o n ∷ answersAllBy by os (nodeAfterBy by o n)
+
+abbrev pub answersAll : List Operation → Node → List Outcome
+answersAll os n = answersAllBy rules os n
 
 -- The checks of the session that is lent. A caller can lend memory that no operation made, so every operation but opening
--- first checks it like a node of a file: 4, then 7 and 8 with the entry's position. A session that was opened and then
--- changed by operations always passes.
-unfoldable pub lentCheck : Operation → Node → Outcome
-lentCheck (opening levels) n = accepted
-lentCheck (changing c) n = nodeCheck 0 n
-lentCheck (asking q) n = nodeCheck 0 n
+-- first checks it like a node of a file: 4, then each entry, with its position. A session that was opened and then changed
+-- by operations always passes.
+unfoldable pub lentCheckBy : Rules → Operation → Node → Outcome
+lentCheckBy by (opening levels) n = accepted
+lentCheckBy by (changing c) n = nodeCheckBy (by .check) 0 n
+lentCheckBy by (asking q) n = nodeCheckBy (by .check) 0 n
+
+abbrev pub lentCheck : Operation → Node → Outcome
+lentCheck o n = lentCheckBy rules o n
 
 -- All checks of a call: first those of the lent session, then those of the operation.
-unfoldable pub stepCheck : Operation → Node → Outcome
-stepCheck o n = lentCheck o n andThen operationCheck o n
+unfoldable pub stepCheckBy : Rules → Operation → Node → Outcome
+stepCheckBy by o n = lentCheckBy by o n andThen operationCheckBy by o n
+
+abbrev pub stepCheck : Operation → Node → Outcome
+stepCheck o n = stepCheckBy rules o n

@@ -1,5 +1,5 @@
 // The checks of each operation, in their order; numbers in parentheses are the refusals. A session is given by its level
-// count, its entry count and the words of its entries. It is checked first, like a node of a file: 4, then 7 and 8 with the
+// count, its entry count and the words of its entries. It is checked first, like a node of a file: 4, then 7, 8 and 14 with the
 // entry's position.
 use node_words::check_words;
 use refusals::Checked;
@@ -29,7 +29,7 @@ pub fn check_levels(levels: u8) -> Checked
 }
 
 // Checks that the position is at most the entry count (12), that the list is not full (13), and that the entry is within
-// the limits (7, 8).
+// the limits (7, 8, 14).
 pub fn check_insert(levels: u32, count: usize, words: &[u32], position: usize, e: Entry) -> Checked
     requires { ⌜ nodeSize ≤ length (now words) ⌝ }
     ensures { λ a. ⌜ outcome a ≡ stepCheck (changing (inserting position e)) (nodeOf (now (words .entry)) count levels) ⌝ }
@@ -62,7 +62,7 @@ pub fn check_remove(levels: u32, count: usize, words: &[u32], position: usize) -
     Checked::Accepted
 }
 
-// Checks that there is an entry at the position (12), and that the new entry is within the limits (7, 8).
+// Checks that there is an entry at the position (12), and that the new entry is within the limits (7, 8, 14).
 pub fn check_replace(levels: u32, count: usize, words: &[u32], position: usize, e: Entry) -> Checked
     requires { ⌜ nodeSize ≤ length (now words) ⌝ }
     ensures { λ a. ⌜ outcome a ≡ stepCheck (changing (replacing position e)) (nodeOf (now (words .entry)) count levels) ⌝ }

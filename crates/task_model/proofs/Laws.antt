@@ -1,5 +1,5 @@
 -- Laws of the limits and the checks: from a test's result to facts about numbers, and from a check's outcome to limits.
-use Prim.Native.Nat.{ℕ, suc, _≤_}
+use Prim.Native.Nat.{ℕ, suc, _-_, _≤_}
 use mathlib.Core.Path.{_≡_}
 use mathlib.Core.Bool.{true, false}
 use mathlib.Core.List.{List, _∷_}
@@ -8,9 +8,9 @@ use lib.Dec.{leb}
 use borrow.Author.Tests.{leb-true, le-leb}
 use Rattle.task_model.proofs.Tests.{and-true, decided}
 use Rattle.task_model.specs.declared.Entry.{Entry}
-use Rattle.refusals.specs.Refusals.{Numbered, at, accepted, refused}
-use Rattle.task_model.specs.Limits.{mostTicks, mostLevels, mostEntries, Node, TimesHold}
-use Rattle.task_model.specs.Checks.{kindTest, timesTest, entryCheck, entriesCheck, sizeTest, nodeCheck}
+use Rattle.refusals.specs.Refusals.{Numbered, at, Outcome, accepted, refused}
+use Rattle.task_model.specs.Limits.{mostTicks, mostLevels, mostEntries, Node, TimesHold, JitterHolds}
+use Rattle.task_model.specs.Checks.{kindTest, timesTest, jitterTest, entryCheck, entriesBy, entriesCheck, sizeTest, nodeCheckBy, nodeCheck}
 
 -- 8
 module _ (e : Entry) where
@@ -49,6 +49,19 @@ module _ (e : Entry) where
   unfolding timesTest
   times-rest h1 h2 h3 h4 = rw (le-leb _ _ h1, le-leb _ _ h2, le-leb _ _ h3, le-leb _ _ h4)
 
+-- 14
+module _ (e : Entry) where
+  pub jitter-true : JitterHolds e → jitterTest e ≡ true
+  unfolding jitterTest
+  jitter-true h = le-leb (e .jitter) (e .deadline - e .wcet) h
+
+  pub jitter-hold : jitterTest e ≡ true → JitterHolds e
+  unfolding jitterTest
+  jitter-hold p = leb-true _ _ p
+
+  pub jitter-false : (JitterHolds e → ⊥) → jitterTest e ≡ false
+  jitter-false n = decided (jitterTest e) jitter-hold n
+
 pub sizes-true : (levels count : ℕ) → 1 ≤ levels → levels ≤ mostLevels → count ≤ mostEntries → sizeTest levels count ≡ true
 unfolding sizeTest
 sizes-true levels count h1 h2 h3 = rw (le-leb 1 levels h1, le-leb levels mostLevels h2, le-leb count mostEntries h3)
@@ -60,40 +73,45 @@ sizes-hold p =
     let p2 = and-true _ _ (p1 .0) in
     (leb-true _ _ (p2 .0), leb-true _ _ (p2 .1), leb-true _ _ (p1 .1))
 
--- 7, then 8
+-- 7, then 8, then 14
 module _ (row position : ℕ) (e : Entry) where
   pub check-kind : kindTest (e .kind) (e .calls) ≡ false → entryCheck row position e ≡ refused (at 7 row position)
   unfolding entryCheck
-  check-kind p = rw (p, entryCheck)
+  check-kind p = rw p
 
   pub check-times : kindTest (e .kind) (e .calls) ≡ true → timesTest e ≡ false
       → entryCheck row position e ≡ refused (at 8 row position)
   unfolding entryCheck
-  check-times p q = rw (p, entryCheck) (rw (q, entryCheck))
+  check-times p q = rw (p, q)
 
-  pub check-accepts : kindTest (e .kind) (e .calls) ≡ true → timesTest e ≡ true → entryCheck row position e ≡ accepted
+  pub check-jitter : kindTest (e .kind) (e .calls) ≡ true → timesTest e ≡ true → jitterTest e ≡ false
+      → entryCheck row position e ≡ refused (at 14 row position)
   unfolding entryCheck
-  check-accepts p q = rw (p, entryCheck) (rw (q, entryCheck))
+  check-jitter p q r = rw (p, q, r)
 
--- entry by entry
-module _ (row position : ℕ) (e : Entry) (es : List Entry) where
-  pub entries-next : entryCheck row position e ≡ accepted
-      → entriesCheck row position (e ∷ es) ≡ entriesCheck row (suc position) es
-  unfolding entriesCheck
-  entries-next p = rw (p, entriesCheck)
+  pub check-accepts : kindTest (e .kind) (e .calls) ≡ true → timesTest e ≡ true → jitterTest e ≡ true
+      → entryCheck row position e ≡ accepted
+  unfolding entryCheck
+  check-accepts p q r = rw (p, q, r)
 
-  pub entries-stop : (r : Numbered) → entryCheck row position e ≡ refused r → entriesCheck row position (e ∷ es) ≡ refused r
-  unfolding entriesCheck
-  entries-stop r p = rw (p, entriesCheck)
+-- entry by entry, for any check of one entry
+module _ (check : ℕ → Entry → Outcome) (position : ℕ) (e : Entry) (es : List Entry) where
+  pub entries-next : check position e ≡ accepted → entriesBy check position (e ∷ es) ≡ entriesBy check (suc position) es
+  unfolding entriesBy
+  entries-next p = rw p
+
+  pub entries-stop : (r : Numbered) → check position e ≡ refused r → entriesBy check position (e ∷ es) ≡ refused r
+  unfolding entriesBy
+  entries-stop r p = rw p
 
 -- 4, then the entries
 module _ (row : ℕ) (n : Node) where
   pub node-sizes : ((1 ≤ n .levels) → (n .levels ≤ mostLevels) → (length (n .entries) ≤ mostEntries) → ⊥) → nodeCheck row n ≡ refused (at 4 row 0)
-  unfolding nodeCheck
+  unfolding nodeCheckBy
   node-sizes out =
-      rw (decided (sizeTest (n .levels) (length (n .entries))) sizes-hold (λ h. out (h .0) (h .1) (h .2)), nodeCheck)
+      rw (decided (sizeTest (n .levels) (length (n .entries))) sizes-hold (λ h. out (h .0) (h .1) (h .2)))
 
   pub node-entries : 1 ≤ n .levels → n .levels ≤ mostLevels → length (n .entries) ≤ mostEntries
       → nodeCheck row n ≡ entriesCheck row 0 (n .entries)
-  unfolding nodeCheck
-  node-entries h1 h2 h3 = rw (sizes-true (n .levels) (length (n .entries)) h1 h2 h3, nodeCheck)
+  unfolding nodeCheckBy
+  node-entries h1 h2 h3 = rw (sizes-true (n .levels) (length (n .entries)) h1 h2 h3)

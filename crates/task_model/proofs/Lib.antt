@@ -2,3 +2,4 @@
 pub mod Tests
 pub mod Laws
 pub mod Theorems
+pub mod WithoutJitter

@@ -1,11 +1,11 @@
 -- The checks of an entry and of a node, in their order, and which refusal each gives.
-use Prim.Native.Nat.{ℕ, suc}
-use mathlib.Core.Bool.{Bool, true, false, _&&_, _||_}
+use Prim.Native.Nat.{ℕ, suc, _-_}
+use mathlib.Core.Bool.{Bool, _&&_, _||_}
 use mathlib.Core.List.{List, [], _∷_}
 use lib.ListN.{length}
 use lib.Dec.{leb, eqb}
 use Rattle.task_model.specs.declared.Entry.{Entry}
-use Rattle.refusals.specs.Refusals.{at, Outcome, accepted, refused}
+use Rattle.refusals.specs.Refusals.{at, Outcome, accepted, _andThen_, mustHold}
 use Rattle.task_model.specs.Limits.{mostTicks, mostLevels, mostEntries, Node}
 
 -- Kind 1 with up to 15 calls, or kind 2 with none.
@@ -19,34 +19,35 @@ timesTest e =
     && leb (e .period) mostTicks
     && leb (e .blocking) mostTicks
 
--- An entry: first its kind with its calls (7), then its times (8).
+-- J ≤ D - C.
+unfoldable pub jitterTest : Entry → Bool
+jitterTest e = leb (e .jitter) (e .deadline - e .wcet)
+
+-- An entry: first its kind with its calls (7), then its times (8), then its jitter (14).
 unfoldable pub entryCheck : ℕ → ℕ → Entry → Outcome
 entryCheck row position e =
-    elim (kindTest (e .kind) (e .calls)) [
-      | false ↦ refused (at 7 row position)
-      | true ↦ elim (timesTest e) [
-        | false ↦ refused (at 8 row position)
-        | true ↦ accepted
-      ]
-    ]
+    mustHold (kindTest (e .kind) (e .calls)) (at 7 row position)
+    andThen mustHold (timesTest e) (at 8 row position)
+    andThen mustHold (jitterTest e) (at 14 row position)
 
--- Entries one by one, from a position on: the first refusal that is met.
-unfoldable pub entriesCheck : ℕ → ℕ → List Entry → Outcome
-entriesCheck row position [] = accepted
-entriesCheck row position (e ∷ es) =
-    elim (entryCheck row position e) [
-      | refused r ↦ refused r
-      | accepted ↦ entriesCheck row (suc position) es
-    ]
+-- Entries one by one, from a position on, each by its position and itself: the first refusal that is met.
+unfoldable pub entriesBy : (ℕ → Entry → Outcome) → ℕ → List Entry → Outcome
+entriesBy check position [] = accepted
+entriesBy check position (e ∷ es) = check position e andThen entriesBy check (suc position) es
+
+-- Entries one by one, each by the check of an entry.
+abbrev pub entriesCheck : ℕ → ℕ → List Entry → Outcome
+entriesCheck row position es = entriesBy (entryCheck row) position es
 
 -- 1 to 64 levels and up to 64 entries.
 unfoldable pub sizeTest : ℕ → ℕ → Bool
 sizeTest levels count = leb 1 levels && leb levels mostLevels && leb count mostEntries
 
--- A node: first its counts of levels and entries (4), then its entries.
-unfoldable pub nodeCheck : ℕ → Node → Outcome
-nodeCheck row n =
-    elim (sizeTest (n .levels) (length (n .entries))) [
-      | false ↦ refused (at 4 row 0)
-      | true ↦ entriesCheck row 0 (n .entries)
-    ]
+-- A node: first its counts of levels and entries (4), then its entries, each by a check of one entry.
+unfoldable pub nodeCheckBy : (ℕ → ℕ → Entry → Outcome) → ℕ → Node → Outcome
+nodeCheckBy check row n =
+    mustHold (sizeTest (n .levels) (length (n .entries))) (at 4 row 0) andThen entriesBy (check row) 0 (n .entries)
+
+-- The same, each entry by the check of an entry.
+abbrev pub nodeCheck : ℕ → Node → Outcome
+nodeCheck row n = nodeCheckBy entryCheck row n

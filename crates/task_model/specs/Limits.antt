@@ -1,5 +1,5 @@
 -- The limits of an entry and of a node (docs/SPEC.md, 'The entry').
-use Prim.Native.Nat.{ℕ, _≤_, _<_}
+use Prim.Native.Nat.{ℕ, _-_, _≤_, _<_}
 use mathlib.Core.Path.{_≡_}
 use mathlib.Core.Logic.{_⊎_}
 use mathlib.Core.List.{List}
@@ -25,7 +25,7 @@ pub record Node : Type 0 where
 
 -- Default outside the list; no theorem depends on it.
 abbrev pub noEntry : Entry
-noEntry = record { number = 0; kind = 0; calls = 0; wcet = 0; period = 0; deadline = 0; blocking = 0 }
+noEntry = record { number = 0; kind = 0; calls = 0; wcet = 0; period = 0; deadline = 0; blocking = 0; jitter = 0 }
 
 -- The entry at a position, counted from 0.
 abbrev pub entryAt : List Entry → ℕ → Entry
@@ -43,10 +43,15 @@ pub record TimesHold (e : Entry) : Type 0 where
   pub longest : e .period ≤ mostTicks
   pub blocked : e .blocking ≤ mostTicks
 
--- An entry within the limits: its kind and calls, and its times.
+-- The release jitter J is at most D - C, so that an entry that starts as late as it may can still end by its deadline.
+abbrev pub JitterHolds : Entry → Type 0
+JitterHolds e = e .jitter ≤ e .deadline - e .wcet
+
+-- An entry within the limits: its kind and calls, its times, and its jitter.
 pub record EntryHolds (e : Entry) : Type 0 where
   pub kind : KindHolds e
   pub times : TimesHold e
+  pub jitter : JitterHolds e
 
 -- Every entry of the list is within the limits.
 abbrev pub AllHold : List Entry → Type 0

@@ -2,8 +2,9 @@
 use refusals::Checked;
 use refusals::Refusal;
 ghost use mathlib.Core.Path.{_≡_};
+ghost use Rattle.task_model.specs.Limits.{TimesHold};
 ghost use Rattle.refusals.specs.Refusals.{outcome};
-ghost use Rattle.task_model.specs.Checks.{kindTest, timesTest, entryCheck};
+ghost use Rattle.task_model.specs.Checks.{kindTest, timesTest, jitterTest, entryCheck};
 
 // Upper limits: of T and B in ticks, of a node's levels, and of a node's entries.
 pub const MOST_TICKS: u32 = 1000000000;
@@ -26,6 +27,8 @@ pub struct Entry {
     pub period: u32,
     pub deadline: u32,
     pub blocking: u32,
+    // J: the release jitter. A job may start up to J ticks after its period does.
+    pub jitter: u32,
 }
 
 // Whether the kind is 1 with at most 15 remote calls, or 2 with none.
@@ -64,7 +67,15 @@ fn times_hold(e: Entry) -> bool
     e.blocking <= MOST_TICKS
 }
 
-// Checks an entry: its kind and calls (7), then its times (8). A refusal has the given row and position.
+// Whether J ≤ D - C.
+fn jitter_holds(e: Entry) -> bool
+    requires { ⌜ TimesHold e ⌝ }
+    ensures { λ a. ⌜ a ≡ jitterTest e ⌝ }
+{
+    e.jitter <= e.deadline - e.wcet
+}
+
+// Checks an entry: its kind and calls (7), its times (8), then its jitter (14). A refusal has the given row and position.
 pub fn check_entry(row: usize, position: usize, e: Entry) -> Checked
     ensures { λ a. ⌜ outcome a ≡ entryCheck row position e ⌝ }
 {
@@ -73,6 +84,9 @@ pub fn check_entry(row: usize, position: usize, e: Entry) -> Checked
     }
     if !times_hold(e) {
         return Checked::Refused(Refusal::Times { row, position });
+    }
+    if !jitter_holds(e) {
+        return Checked::Refused(Refusal::Jitter { row, position });
     }
     Checked::Accepted
 }

@@ -6,15 +6,16 @@
 use oracle::cases;
 use oracle::file::encode;
 use oracle::gen::entries::realistic;
+use oracle::gen::jitter::{most, third};
 use oracle::listing::list;
-use oracle::model::{Node, Plan};
+use oracle::model::{Edition, Entry, Node, Plan};
 use oracle::rng::Rng;
 use std::path::Path;
 
-/// A station of 32 controllers with usual utilisations and periods.
-fn station() -> Plan {
+/// A station of 32 controllers with usual utilisations and periods. In the second edition some entries may start late.
+fn station(edition: Edition) -> Plan {
     let mut rng = Rng::new(32);
-    let nodes = (0..32)
+    let mut nodes: Vec<Node> = (0..32)
         .map(|row| {
             let count = rng.count(6, 18);
             Node {
@@ -24,7 +25,13 @@ fn station() -> Plan {
             }
         })
         .collect();
-    Plan { nodes }
+    if edition == Edition::Second {
+        for entry in nodes.iter_mut().flat_map(|node| &mut node.entries) {
+            let late = rng.range(1, third(entry).max(1)).min(most(entry));
+            entry.j = rng.pick(&[0, 0, 0, late]);
+        }
+    }
+    Plan { edition, nodes }
 }
 
 fn write(folder: &Path, name: &str, file: &[u8]) {
@@ -50,12 +57,36 @@ fn main() {
     for (name, node) in starred {
         write(folder, name, &cases::file(node));
     }
-    write(
-        folder,
-        "station",
-        &encode(&station()).expect("the station is inside the limits"),
-    );
+    for (name, node) in late() {
+        write(folder, name, &cases::second_file(node));
+    }
+    for (name, edition) in [
+        ("station", Edition::First),
+        ("station_jitter", Edition::Second),
+    ] {
+        let file = encode(&station(edition)).expect("the station is inside the limits");
+        write(folder, name, &file);
+    }
     let mut damaged = cases::file(cases::p());
     damaged[40] = 200;
     write(folder, "refused", &damaged);
+    let mut damaged = cases::second_file(cases::node(1, &[Entry::task(1, 3, 10, 10)]));
+    damaged[36] = 8;
+    write(folder, "refused_jitter", &damaged);
+}
+
+/// Cases in which entries start late, in the second edition.
+fn late() -> Vec<(&'static str, Node)> {
+    vec![
+        ("p_jitter_12", cases::jittered(cases::p(), 2, 12)),
+        ("p_jitter_13", cases::jittered(cases::p(), 2, 13)),
+        ("h_jitter_15", cases::jittered(cases::h(), 1, 15)),
+        ("h_jitter_16", cases::jittered(cases::h(), 1, 16)),
+        ("h_jitter_first", cases::jittered(cases::h(), 0, 1)),
+        ("h_jitter_third", cases::jittered(cases::h(), 2, 1)),
+        ("v_jitter_2", cases::jittered(cases::v(), 0, 2)),
+        ("v_jitter_4", cases::jittered(cases::v(), 0, 4)),
+        ("again", cases::again(4)),
+        ("twice_ahead", cases::twice_ahead(8)),
+    ]
 }

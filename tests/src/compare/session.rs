@@ -1,5 +1,5 @@
 //! One session in both implementations. After each operation the answer, all
-//! 322 words and every lent buffer are compared.
+//! 386 words and every lent buffer are compared.
 
 use super::rooms;
 use crate::ffi;
@@ -59,7 +59,7 @@ impl Both {
 
     /// Maps into buffers that are too short, and into an exact one, a longer
     /// one, or both. The map of a session must be that of the same node in a
-    /// file.
+    /// file of the second edition, and of the first where every J is 0.
     pub fn map(&mut self, tally: &mut Tally, rng: &mut Rng) {
         let session = self.session();
         let count = session.as_ref().map_or(3, |held| held.entries().len());
@@ -71,11 +71,14 @@ impl Both {
         for room in rooms {
             let answer = self.step(tally, &Op::Map, room);
             if let Ok(session) = &session {
-                let (mut mine, mut from_file) = (known(room), known(room));
-                let used = ffi::map(&file_of(session), 7, &mut from_file);
+                let mut mine = known(room);
+                let used = self.proved.map(&mut mine);
                 assert_eq!(used.map(|used| Reply::Mapped(used as u8)), answer);
-                assert_eq!(self.proved.map(&mut mine), used);
-                assert_eq!(mine, from_file, "{:?}", self.due);
+                for file in files_of(session) {
+                    let mut from_file = known(room);
+                    assert_eq!(ffi::map(&file, 7, &mut from_file), used);
+                    assert_eq!(mine, from_file, "{:?}", self.due);
+                }
             }
         }
     }
@@ -123,12 +126,20 @@ fn proved(
     Ok(Reply::Changed)
 }
 
-/// The file of a plan with the session's node, which has number 7.
-fn file_of(session: &Session) -> Vec<u8> {
+/// The files of a plan with the session's node, which has number 7, in each
+/// edition that has room for it.
+fn files_of(session: &Session) -> Vec<Vec<u8>> {
     let node = Node {
         number: 7,
         levels: session.levels(),
         entries: session.entries().to_vec(),
     };
-    encode(&Plan { nodes: vec![node] }).expect("a session holds a good node")
+    let (second, least) = (Plan::second(vec![node.clone()]), Plan::of(vec![node]));
+    let plans = if least == second {
+        vec![second]
+    } else {
+        vec![second, least]
+    };
+    let file = |plan| encode(plan).expect("a session holds a good node");
+    plans.iter().map(file).collect()
 }

@@ -1,7 +1,8 @@
 //! The session's C functions.
 
-use super::{answer, one, UNSET};
-use crate::lent::Words;
+use super::{answer, one, Values, UNSET};
+use crate::lent::{Words, SESSION_WORDS};
+use crate::model::MAX_ENTRIES;
 use crate::refusal::Refusal;
 use crate::timing::Timing;
 use crate::words::ENTRY_WORDS;
@@ -14,46 +15,38 @@ pub struct Session {
     pub levels: u32,
     /// Entry count.
     pub count: u32,
-    /// Five words per entry.
-    pub words: [u32; 320],
+    /// Six words per entry.
+    pub words: [u32; MAX_ENTRIES * ENTRY_WORDS],
 }
 
 extern "C" {
-    fn maiplur_session_open(session: *mut Session, levels: u8, values: *mut [usize; 2]) -> u32;
-    fn maiplur_session_set_levels(
-        session: *mut Session,
-        levels: u8,
-        values: *mut [usize; 2],
-    ) -> u32;
+    fn maiplur_session_open(session: *mut Session, levels: u8, values: *mut Values) -> u32;
+    fn maiplur_session_set_levels(session: *mut Session, levels: u8, values: *mut Values) -> u32;
     fn maiplur_session_insert(
         session: *mut Session,
         position: usize,
         entry: *const [u32; ENTRY_WORDS],
-        values: *mut [usize; 2],
+        values: *mut Values,
     ) -> u32;
-    fn maiplur_session_remove(
-        session: *mut Session,
-        position: usize,
-        values: *mut [usize; 2],
-    ) -> u32;
+    fn maiplur_session_remove(session: *mut Session, position: usize, values: *mut Values) -> u32;
     fn maiplur_session_replace(
         session: *mut Session,
         position: usize,
         entry: *const [u32; ENTRY_WORDS],
-        values: *mut [usize; 2],
+        values: *mut Values,
     ) -> u32;
     fn maiplur_session_time(
         session: *const Session,
         first: usize,
         last: usize,
         i: usize,
-        values: *mut [usize; 2],
+        values: *mut Values,
     ) -> u32;
     fn maiplur_session_map(
         session: *const Session,
         levels: *mut u8,
         level_count: usize,
-        values: *mut [usize; 2],
+        values: *mut Values,
     ) -> u32;
 }
 
@@ -68,9 +61,9 @@ impl Session {
         }
     }
 
-    /// Its memory, all 322 words.
+    /// Its memory, all 386 words.
     pub fn memory(&self) -> Words {
-        let mut words = [0; 322];
+        let mut words = [0; SESSION_WORDS];
         words[0] = self.levels;
         words[1] = self.count;
         words[2..].copy_from_slice(&self.words);
@@ -79,7 +72,7 @@ impl Session {
 
     /// Opens the session, whatever it held.
     pub fn open(&mut self, levels: u8) -> Result<(), Refusal> {
-        let mut values = [UNSET; 2];
+        let mut values = [UNSET; 3];
         // SAFETY: the struct has C's layout, and the pointers come from borrows that live through the call.
         let number = unsafe { maiplur_session_open(self, levels, &mut values) };
         nothing(number, values)
@@ -87,7 +80,7 @@ impl Session {
 
     /// Sets the level count.
     pub fn set_levels(&mut self, levels: u8) -> Result<(), Refusal> {
-        let mut values = [UNSET; 2];
+        let mut values = [UNSET; 3];
         // SAFETY: as above.
         let number = unsafe { maiplur_session_set_levels(self, levels, &mut values) };
         nothing(number, values)
@@ -95,7 +88,7 @@ impl Session {
 
     /// Inserts before a position, or appends.
     pub fn insert(&mut self, position: usize, entry: &[u32; ENTRY_WORDS]) -> Result<(), Refusal> {
-        let mut values = [UNSET; 2];
+        let mut values = [UNSET; 3];
         // SAFETY: as above.
         let number = unsafe { maiplur_session_insert(self, position, entry, &mut values) };
         nothing(number, values)
@@ -103,7 +96,7 @@ impl Session {
 
     /// Removes the entry at a position.
     pub fn remove(&mut self, position: usize) -> Result<(), Refusal> {
-        let mut values = [UNSET; 2];
+        let mut values = [UNSET; 3];
         // SAFETY: as above.
         let number = unsafe { maiplur_session_remove(self, position, &mut values) };
         nothing(number, values)
@@ -111,7 +104,7 @@ impl Session {
 
     /// Replaces the entry at a position.
     pub fn replace(&mut self, position: usize, entry: &[u32; ENTRY_WORDS]) -> Result<(), Refusal> {
-        let mut values = [UNSET; 2];
+        let mut values = [UNSET; 3];
         // SAFETY: as above.
         let number = unsafe { maiplur_session_replace(self, position, entry, &mut values) };
         nothing(number, values)
@@ -119,10 +112,11 @@ impl Session {
 
     /// Times the entry at `i` in the group from `first` to `last`.
     pub fn time(&self, first: usize, last: usize, i: usize) -> Result<Timing, Refusal> {
-        let mut values = [UNSET; 2];
+        let mut values = [UNSET; 3];
         // SAFETY: as above; the session is only read.
         let number = unsafe { maiplur_session_time(self, first, last, i, &mut values) };
-        let [time, rounds] = answer(number, values)?.map(|value| value as u64);
+        let [time, rounds, third] = answer(number, values)?.map(|value| value as u64);
+        assert_eq!(third, 0, "two values are given");
         Ok(match time {
             0 => Timing::Late { rounds },
             _ => Timing::OnTime { time, rounds },
@@ -131,7 +125,7 @@ impl Session {
 
     /// Maps the node, and returns the levels used.
     pub fn map(&self, levels: &mut [u8]) -> Result<usize, Refusal> {
-        let mut values = [UNSET; 2];
+        let mut values = [UNSET; 3];
         // SAFETY: as above; what is written is borrowed mutably, so nothing overlaps.
         let number =
             unsafe { maiplur_session_map(self, levels.as_mut_ptr(), levels.len(), &mut values) };
@@ -140,8 +134,8 @@ impl Session {
 }
 
 /// A change returns no values.
-fn nothing(number: u32, values: [usize; 2]) -> Result<(), Refusal> {
+fn nothing(number: u32, values: Values) -> Result<(), Refusal> {
     let given = answer(number, values)?;
-    assert_eq!(given, [0, 0], "a change gives nothing");
+    assert_eq!(given, [0; 3], "a change gives nothing");
     Ok(())
 }

@@ -7,8 +7,8 @@ mod write;
 
 pub use check::check;
 pub use layout::{
-    body_end, contents_end, entry_at, row_at, ENTRY_BYTES, HEAD_BYTES, LONGEST, OPENING_BYTES,
-    ROW_BYTES,
+    body_end, contents_end, edition_of, entry_at, entry_length, longest, opening_bytes, row_at,
+    FIRST_ENTRY, HEAD_BYTES, ROW_BYTES, SECOND_ENTRY,
 };
 pub use read::{decode, read};
 pub use write::{check_parts, encode, entry_bytes, write};

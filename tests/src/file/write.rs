@@ -1,12 +1,16 @@
 //! The writer.
 
-use super::layout::{body_end, contents_end, ENTRY_BYTES, OPENING_BYTES, ROW_BYTES};
-use crate::limits::{check_entry, check_row};
-use crate::model::{Entry, Plan, Row, MAX_NODES};
-use crate::refusal::{Refusal, BUFFER, COUNT, LENGTH};
+use super::layout::{body_end, contents_end, entry_length, opening_bytes, ROW_BYTES};
+use crate::limits::{check_entry, check_no_jitter, check_row};
+use crate::model::{Edition, Entry, Plan, Row, MAX_NODES};
+use crate::refusal::{Refusal, BUFFER, COUNT, LENGTH, OPENING};
 
-/// The writer's checks of a plan: 3, 4, 6, then 7 with 8 entry by entry.
-pub fn check_parts(rows: &[Row], entries: &[Entry]) -> Result<(), Refusal> {
+/// The writer's checks of a plan to be written in the edition with this
+/// number: 2, 3, 4, 6, then 7, 8 and 14 entry by entry. Returns the edition.
+pub fn check_parts(edition: u32, rows: &[Row], entries: &[Entry]) -> Result<Edition, Refusal> {
+    let Some(edition) = Edition::numbered(edition) else {
+        return Err(Refusal::plain(OPENING));
+    };
     if rows.is_empty() || rows.len() > MAX_NODES {
         return Err(Refusal::plain(COUNT));
     }
@@ -21,16 +25,25 @@ pub fn check_parts(rows: &[Row], entries: &[Entry]) -> Result<(), Refusal> {
     }
     for (entry, (row, position)) in entries.iter().zip(places(rows)) {
         check_entry(entry, row, position)?;
+        if edition == Edition::First {
+            check_no_jitter(entry, row, position)?;
+        }
     }
-    Ok(())
+    Ok(edition)
 }
 
-/// Writes the file from the buffer's start and returns its length.
+/// Writes the file of the edition with this number from the buffer's start and
+/// returns its length.
 ///
 /// Bytes beyond are kept; a refused call keeps them all.
-pub fn write(rows: &[Row], entries: &[Entry], buffer: &mut [u8]) -> Result<usize, Refusal> {
-    check_parts(rows, entries)?;
-    let file = bytes_of(rows, entries);
+pub fn write(
+    edition: u32,
+    rows: &[Row],
+    entries: &[Entry],
+    buffer: &mut [u8],
+) -> Result<usize, Refusal> {
+    let edition = check_parts(edition, rows, entries)?;
+    let file = bytes_of(edition, rows, entries);
     let Some(target) = buffer.get_mut(..file.len()) else {
         return Err(Refusal::plain(BUFFER));
     };
@@ -38,11 +51,11 @@ pub fn write(rows: &[Row], entries: &[Entry], buffer: &mut [u8]) -> Result<usize
     Ok(file.len())
 }
 
-/// The file of a plan that the writer accepts.
+/// The file of a plan that the writer accepts, in the plan's edition.
 pub fn encode(plan: &Plan) -> Result<Vec<u8>, Refusal> {
     let (rows, entries) = (plan.rows(), plan.entries());
-    check_parts(&rows, &entries)?;
-    Ok(bytes_of(&rows, &entries))
+    let edition = check_parts(plan.edition.number(), &rows, &entries)?;
+    Ok(bytes_of(edition, &rows, &entries))
 }
 
 /// Row and position of each entry that the rows count.
@@ -52,15 +65,15 @@ fn places(rows: &[Row]) -> impl Iterator<Item = (usize, usize)> + '_ {
         .flat_map(|(index, row)| (0..usize::from(row.entries)).map(move |at| (index, at)))
 }
 
-fn bytes_of(rows: &[Row], entries: &[Entry]) -> Vec<u8> {
-    let mut file = OPENING_BYTES.to_vec();
+fn bytes_of(edition: Edition, rows: &[Row], entries: &[Entry]) -> Vec<u8> {
+    let mut file = opening_bytes(edition).to_vec();
     file.extend([rows.len() as u8, 0, 0, 0]);
     let mut offset = contents_end(rows.len());
     for row in rows {
         file.extend(row_bytes(row, offset));
-        offset = body_end(offset, row.entries);
+        offset = body_end(edition, offset, row.entries);
     }
-    file.extend(entries.iter().flat_map(entry_bytes));
+    file.extend(entries.iter().flat_map(|e| entry_bytes(edition, e)));
     file
 }
 
@@ -74,12 +87,13 @@ fn row_bytes(row: &Row, offset: usize) -> [u8; ROW_BYTES] {
 }
 
 /// The bytes of one entry; ticks are truncated to four bytes.
-pub fn entry_bytes(entry: &Entry) -> [u8; ENTRY_BYTES] {
-    let mut bytes = [0; ENTRY_BYTES];
+pub fn entry_bytes(edition: Edition, entry: &Entry) -> Vec<u8> {
+    let mut bytes = vec![0; entry_length(edition)];
     bytes[0..2].copy_from_slice(&entry.number.to_le_bytes());
     bytes[2] = entry.kind;
     bytes[3] = entry.r;
-    let ticks = [entry.c, entry.t, entry.d, entry.b];
+    // In the first edition there is no room for the last one.
+    let ticks = [entry.c, entry.t, entry.d, entry.b, entry.j];
     for (field, value) in bytes[4..].chunks_exact_mut(4).zip(ticks) {
         field.copy_from_slice(&(value as u32).to_le_bytes());
     }

@@ -5,7 +5,8 @@
 //! entries run as often as they are released. So a block has a few *hot*
 //! entries with short periods, and at its end some entries with a long
 //! blocking, during which the hot ones are released again. These end in time
-//! only in a group that contains the hot entries.
+//! only in a group that contains the hot entries. In half of the nodes entries
+//! may start late, with deadlines that allow for it.
 
 use crate::map::{by_groups, group_passes, Map};
 use crate::model::{Entry, MAX_TICKS};
@@ -18,9 +19,10 @@ const LONGEST: u64 = 400_000;
 /// A node of `count` entries in `blocks` blocks, each of three or more. The map
 /// whose groups are the blocks passes.
 pub fn blocks(rng: &mut Rng, count: usize, blocks: usize) -> Vec<Entry> {
+    let late = rng.chance(1, 2);
     loop {
         let levels = block_levels(rng, count, blocks);
-        if let Some(entries) = drawn(rng, &levels) {
+        if let Some(entries) = drawn(rng, &levels, late) {
             let longest = entries.iter().map(|e| e.t.max(e.b)).max().unwrap_or(1);
             let factor = rng.pick(&[1, 1, 7, MAX_TICKS / longest]);
             return entries.iter().map(|entry| times(entry, factor)).collect();
@@ -32,7 +34,7 @@ pub fn blocks(rng: &mut Rng, count: usize, blocks: usize) -> Vec<Entry> {
 pub fn hurry_one(rng: &mut Rng, entries: &mut [Entry]) {
     let blocked: Vec<usize> = (0..entries.len()).filter(|&i| entries[i].b > 0).collect();
     let entry = &mut entries[rng.pick(&blocked)];
-    entry.d = (entry.d - 1).max(entry.c);
+    entry.d = (entry.d - 1).max(entry.c + entry.j);
 }
 
 /// Whether a group of the map would fail if it began later. A search that stops
@@ -67,8 +69,8 @@ fn block_levels(rng: &mut Rng, count: usize, blocks: usize) -> Vec<u8> {
 }
 
 /// Entries that pass with these levels, or none where the utilisation is too
-/// high.
-fn drawn(rng: &mut Rng, levels: &[u8]) -> Option<Vec<Entry>> {
+/// high; `late` says whether they have a J.
+fn drawn(rng: &mut Rng, levels: &[u8], late: bool) -> Option<Vec<Entry>> {
     let mut entries: Vec<Entry> = Vec::new();
     for block in levels.chunk_by(|a, b| a == b) {
         let length = block.len();
@@ -83,19 +85,31 @@ fn drawn(rng: &mut Rng, levels: &[u8]) -> Option<Vec<Entry>> {
             let number = (first + at + 1) as u16;
             entries.push(Entry::task(number, c, LONGEST, LONGEST));
         }
-        close(rng, &mut entries, &levels[..first + length], first)?;
+        close(rng, &mut entries, &levels[..first + length], first, late)?;
     }
     Some(entries)
 }
 
-/// Sets periods, blockings and deadlines of the block that begins at `first`.
-fn close(rng: &mut Rng, entries: &mut [Entry], levels: &[u8], first: usize) -> Option<()> {
+/// Sets periods, blockings, deadlines and J of the block that begins at
+/// `first`. On their own level entries run once, whatever their J.
+fn close(
+    rng: &mut Rng,
+    entries: &mut [Entry],
+    levels: &[u8],
+    first: usize,
+    late: bool,
+) -> Option<()> {
     let base = time_of(entries, levels, first)?;
+    let jitter = |rng: &mut Rng| match late {
+        true => rng.pick(&[0, 1, base / 10, base / 2]),
+        false => 0,
+    };
     let blocked = rng.count(1, (entries.len() - first) / 3);
     let end = entries.len() - blocked;
     for entry in &mut entries[first..end] {
         let slack = rng.pick(&[0, 0, 1, base / 10]);
-        entry.d = base + slack;
+        entry.j = jitter(rng);
+        entry.d = base + slack + entry.j;
         // Hot entries have short runs; the others have long periods.
         let cold = entry.c > 6 || rng.chance(1, 5);
         entry.t = match cold {
@@ -106,7 +120,8 @@ fn close(rng: &mut Rng, entries: &mut [Entry], levels: &[u8], first: usize) -> O
     for i in end..entries.len() {
         entries[i].b = rng.range(base / 3, base);
         let time = time_of(entries, levels, i)?;
-        entries[i].d = time + rng.pick(&[0, 0, 0, 1, 3]);
+        entries[i].j = jitter(rng);
+        entries[i].d = time + entries[i].j + rng.pick(&[0, 0, 0, 1, 3]);
         entries[i].t = entries[i].d * rng.range(2, 20);
     }
     let longest = entries.iter().map(|entry| entry.t).max();
@@ -127,6 +142,7 @@ fn times(entry: &Entry, factor: u64) -> Entry {
         t: entry.t * factor,
         d: entry.d * factor,
         b: entry.b * factor,
+        j: entry.j * factor,
         ..*entry
     }
 }

@@ -38,7 +38,9 @@ pub fn draw_fitting(mut draw: impl FnMut() -> Vec<Entry>) -> (Vec<Entry>, u64) {
 fn rounds_ceiling_of(entries: &[Entry], i: usize) -> u64 {
     let deadline = entries[i].d;
     let others = || (0..entries.len()).filter(|&j| j != i).map(|j| entries[j]);
-    let by_periods: u64 = others().map(|other| deadline.div_ceil(other.t) - 1).sum();
+    let by_periods: u64 = others()
+        .map(|other| (deadline + other.j).div_ceil(other.t) - 1)
+        .sum();
     // From round to round t grows by at least one run of another entry.
     let by_runs = match others().map(|other| other.c).min() {
         Some(least_run) => deadline / least_run,

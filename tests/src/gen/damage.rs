@@ -1,12 +1,12 @@
 //! Damaged files, each with the expected refusal.
 
-use super::faults::{break_kind, break_row, break_ticks};
+use super::faults::{break_jitter, break_kind, break_row, break_ticks};
 use crate::file::{
-    body_end, contents_end, encode, entry_at, entry_bytes, row_at, ENTRY_BYTES, HEAD_BYTES,
-    OPENING_BYTES,
+    body_end, contents_end, encode, entry_at, entry_bytes, entry_length, opening_bytes, row_at,
+    HEAD_BYTES,
 };
-use crate::model::{Entry, Plan, MAX_NODES};
-use crate::refusal::{Refusal, COUNT, CUT_OFF, KIND, LENGTH, OFFSET, OPENING, ROW, TICKS};
+use crate::model::{Edition, Entry, Plan, MAX_NODES};
+use crate::refusal::{Refusal, COUNT, CUT_OFF, JITTER, KIND, LENGTH, OFFSET, OPENING, ROW, TICKS};
 use crate::rng::Rng;
 
 /// The check that a fault aims at.
@@ -30,10 +30,12 @@ pub enum Aim {
     Kind,
     /// 8.
     Ticks,
+    /// 14.
+    Jitter,
 }
 
 /// Every aim.
-pub const AIMS: [Aim; 9] = [
+pub const AIMS: [Aim; 10] = [
     Aim::Head,
     Aim::Opening,
     Aim::Count,
@@ -43,6 +45,7 @@ pub const AIMS: [Aim; 9] = [
     Aim::Length,
     Aim::Kind,
     Aim::Ticks,
+    Aim::Jitter,
 ];
 
 /// A damaged file.
@@ -54,11 +57,17 @@ pub struct Damaged {
     pub due: Refusal,
 }
 
-/// The plan's file with one fault for each aim, made in that order.
+/// The plan's file with one fault for each aim, made in that order. A fault of
+/// J needs the second edition.
 ///
 /// The plan must have an entry.
 pub fn damage(rng: &mut Rng, plan: &Plan, aims: &[Aim]) -> Damaged {
-    let mut work = Work::new(plan);
+    let edition = match aims.contains(&Aim::Jitter) {
+        true => Edition::Second,
+        false => plan.edition,
+    };
+    let nodes = plan.nodes.clone();
+    let mut work = Work::new(Plan { edition, nodes });
     let faults: Vec<Fault> = aims.iter().map(|&aim| work.put_in(rng, aim)).collect();
     let first = faults.iter().min_by_key(|fault| fault.rank);
     let due = first.expect("there is an aim").refusal;
@@ -118,18 +127,18 @@ impl Fault {
 }
 
 /// A file while it is damaged; its length is changed only at the end.
-struct Work<'a> {
-    plan: &'a Plan,
+struct Work {
+    plan: Plan,
     file: Vec<u8>,
     cut: Option<usize>,
     more: usize,
 }
 
-impl Work<'_> {
-    fn new(plan: &Plan) -> Work<'_> {
+impl Work {
+    fn new(plan: Plan) -> Work {
         Work {
+            file: encode(&plan).expect("only good plans are damaged"),
             plan,
-            file: encode(plan).expect("only good plans are damaged"),
             cut: None,
             more: 0,
         }
@@ -167,6 +176,10 @@ impl Work<'_> {
                 let (row, entry) = self.break_entry(rng, break_ticks);
                 Fault::in_body(row, entry, 1, TICKS)
             }
+            Aim::Jitter => {
+                let (row, entry) = self.break_entry(rng, break_jitter);
+                Fault::in_body(row, entry, 2, JITTER)
+            }
         }
     }
 
@@ -174,11 +187,15 @@ impl Work<'_> {
         contents_end(self.plan.nodes.len())
     }
 
+    fn entry_length(&self) -> usize {
+        entry_length(self.plan.edition)
+    }
+
     /// The offset that the row requires.
     fn body_of(&self, row: usize) -> usize {
         let before = &self.plan.nodes[..row];
         before.iter().fold(self.contents_end(), |at, node| {
-            body_end(at, node.row().entries)
+            body_end(self.plan.edition, at, node.row().entries)
         })
     }
 
@@ -187,12 +204,11 @@ impl Work<'_> {
     }
 
     fn break_opening(&mut self, rng: &mut Rng) -> Fault {
-        let at = rng.index(OPENING_BYTES.len());
-        self.file[at] = rng.pick(&[
-            0,
-            OPENING_BYTES[at] ^ 0x20,
-            OPENING_BYTES[at].wrapping_add(1),
-        ]);
+        let at = rng.index(4);
+        let byte = opening_bytes(self.plan.edition)[at];
+        // The fourth byte may also be that of the other edition.
+        let next = if at == 3 { 0x33 } else { byte.wrapping_add(1) };
+        self.file[at] = rng.pick(&[0, byte ^ 0x20, next, byte ^ 0x80]);
         Fault::plain(1, OPENING)
     }
 
@@ -227,7 +243,7 @@ impl Work<'_> {
             0,
             required - 1,
             required + 1,
-            required + ENTRY_BYTES as u32,
+            required + self.entry_length() as u32,
             required + (1 << 24),
             u32::MAX,
         ]);
@@ -239,7 +255,7 @@ impl Work<'_> {
         if rng.chance(1, 2) {
             self.cut_to(rng.count(self.contents_end(), self.file.len() - 1));
         } else {
-            self.more = rng.count(1, 2 * ENTRY_BYTES);
+            self.more = rng.count(1, 2 * self.entry_length());
         }
         Fault::plain(5, LENGTH)
     }
@@ -255,11 +271,12 @@ impl Work<'_> {
             .collect();
         let row = rng.pick(&filled);
         let position = rng.index(self.plan.nodes[row].entries.len());
-        let body = self.body_of(row);
-        let mut entry = entry_at(&self.file, body, position);
+        let (edition, body) = (self.plan.edition, self.body_of(row));
+        let mut entry = entry_at(edition, &self.file, body, position);
         break_one(rng, &mut entry);
-        let at = body + position * ENTRY_BYTES;
-        self.file[at..at + ENTRY_BYTES].copy_from_slice(&entry_bytes(&entry));
+        let bytes = entry_bytes(edition, &entry);
+        let at = body + position * bytes.len();
+        self.file[at..at + bytes.len()].copy_from_slice(&bytes);
         (row, position)
     }
 }

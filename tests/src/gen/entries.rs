@@ -1,6 +1,7 @@
 //! The entries of one node.
 
 use super::budget::draw_fitting;
+use super::jitter::Jitter;
 use crate::map::group_passes;
 use crate::model::{Entry, MAX_R, MAX_TICKS, SECTION, TASK};
 use crate::rng::Rng;
@@ -96,19 +97,22 @@ pub fn light(rng: &mut Rng, count: usize) -> Vec<Entry> {
 }
 
 /// Numbers at both ends of the limits.
-pub fn at_limits(rng: &mut Rng, count: usize) -> Vec<Entry> {
-    at_limits_counted(rng, count).0
+pub fn at_limits(rng: &mut Rng, count: usize, jitter: Jitter) -> Vec<Entry> {
+    at_limits_counted(rng, count, jitter).0
 }
 
 /// The same, and the number of draws dropped because their tests are too long.
-pub fn at_limits_counted(rng: &mut Rng, count: usize) -> (Vec<Entry>, u64) {
+pub fn at_limits_counted(rng: &mut Rng, count: usize, jitter: Jitter) -> (Vec<Entry>, u64) {
     let periods: &[u64] = rng.pick(&[
         &[1, 2, 3][..],
         &[MAX_TICKS, MAX_TICKS - 1],
         &[1, 2, 1_000, 1_000_000, MAX_TICKS],
         &[1_000_000, MAX_TICKS / 2, MAX_TICKS],
     ]);
-    draw_fitting(|| (0..count).map(|_| limit_entry(rng, periods)).collect())
+    draw_fitting(|| {
+        let entries = (0..count).map(|_| limit_entry(rng, periods)).collect();
+        jitter.put(rng, entries)
+    })
 }
 
 /// Whether some group fails although a wider one with the same end passes.
@@ -122,18 +126,53 @@ pub fn wide_passes_after_narrow(entries: &[Entry]) -> bool {
 }
 
 /// Tiny entries for which [`wide_passes_after_narrow`] holds.
-pub fn wide(rng: &mut Rng, count: usize) -> Vec<Entry> {
+pub fn wide(rng: &mut Rng, count: usize, jitter: Jitter) -> Vec<Entry> {
     assert!(count >= 2, "one entry has one group");
     loop {
         let entries = tiny(rng, count);
+        let entries = jitter.put(rng, entries);
         if wide_passes_after_narrow(&entries) {
             return entries;
         }
     }
 }
 
-/// The same entries with deadlines exactly at the completion times of a random
-/// grouping, now and then one of them a tick earlier.
+/// Entries of which J decides on their own level.
+///
+/// Some may start late, with a period that ends when they may end at the latest.
+/// The others wait longer than that and call remote sections, so they may find
+/// these twice ahead. Their deadlines are at the completion time in one group,
+/// now and then a tick earlier.
+pub fn queued(rng: &mut Rng, count: usize, jitter: Jitter) -> Vec<Entry> {
+    let runs: Vec<u64> = (0..count).map(|_| rng.range(1, 3)).collect();
+    let sum: u64 = runs.iter().sum();
+    let mut entries: Vec<Entry> = (1..)
+        .zip(runs)
+        .map(|(number, c)| {
+            let late = rng.range(1, 2 * sum);
+            let t = sum + late + rng.pick(&[0, 0, 1]);
+            match rng.chance(1, 2) {
+                true => Entry::task(number, c, t, t).jittered(late),
+                false => Entry::task(number, c, 20 * sum, 20 * sum)
+                    .calling(rng.pick(&[1, 1, 2, MAX_R]))
+                    .blocked(rng.range(1, 2 * sum)),
+            }
+        })
+        .collect();
+    if jitter == Jitter::Zero {
+        entries.iter_mut().for_each(|entry| entry.j = 0);
+    }
+    let levels = vec![1; count];
+    for i in (0..count).filter(|&i| entries[i].b > 0).collect::<Vec<_>>() {
+        if let Timing::OnTime { time, .. } = completion(&entries, &levels, i) {
+            entries[i].d = (time - rng.pick(&[0, 0, 0, 1])).max(entries[i].c);
+        }
+    }
+    entries
+}
+
+/// The same entries with deadlines exactly at J plus the completion times of a
+/// random grouping, now and then one of them a tick earlier.
 pub fn tighten(rng: &mut Rng, mut entries: Vec<Entry>) -> Vec<Entry> {
     for entry in &mut entries {
         entry.d = entry.t;
@@ -146,7 +185,7 @@ pub fn tighten(rng: &mut Rng, mut entries: Vec<Entry>) -> Vec<Entry> {
     for (i, (entry, timing)) in entries.iter_mut().zip(times).enumerate() {
         if let Timing::OnTime { time, .. } = timing {
             let early = u64::from(one_early == Some(i));
-            entry.d = (time - early).max(entry.c);
+            entry.d = entry.j + (time - early).max(entry.c);
         }
     }
     entries

@@ -1,9 +1,10 @@
 //! Nodes whose tests reach extremes within the limits: very many rounds, and
 //! starts and demands that do not fit 32 bits.
 
+use super::jitter::most;
 use crate::model::{Entry, MAX_ENTRIES, MAX_R, MAX_TICKS};
 use crate::rng::Rng;
-use crate::timing::{completion_in_group, Timing};
+use crate::timing::{completion_in_group, demand, group_levels, limit, Timing};
 
 /// Position of the last entry of [`slow`].
 pub const SLOW: usize = 5;
@@ -19,11 +20,20 @@ pub fn slow(fifth: u64, blocking: u64) -> Vec<Entry> {
     entries
 }
 
-/// The same with the last deadline `early` ticks before the completion time.
-pub fn slow_until(fifth: u64, blocking: u64, early: u64) -> Vec<Entry> {
+/// The same; each entry but the last may start just before its next period.
+pub fn slow_and_late(fifth: u64, blocking: u64) -> Vec<Entry> {
     let mut entries = slow(fifth, blocking);
+    for entry in &mut entries[..SLOW] {
+        entry.j = most(entry);
+    }
+    entries
+}
+
+/// These entries of [`slow`] with the last deadline `early` ticks before the
+/// completion time.
+pub fn until_the_last(mut entries: Vec<Entry>, early: u64) -> Vec<Entry> {
     let Timing::OnTime { time, .. } = completion_in_group(&entries, SLOW, SLOW, SLOW) else {
-        panic!("{fifth}, {blocking}: the last entry ends by 10^9");
+        panic!("the last entry ends by 10^9: {entries:?}");
     };
     entries[SLOW].d = time - early;
     entries
@@ -119,5 +129,28 @@ pub fn many_releases(rng: &mut Rng) -> Vec<Entry> {
 pub fn five_full() -> Vec<Entry> {
     let mut entries = vec![Entry::task(1, 1_000, 1_000, 1_000); 5];
     entries.push(Entry::task(6, 1, MAX_TICKS, MAX_TICKS).blocked(799_995_000));
+    entries
+}
+
+/// Entries with periods of nearly 10^9 that may start nearly a period late, and
+/// a last one whose demand at its limit, also nearly 10^9, is that limit, or a
+/// tick less or more, in the group from `first` on. So t + J + T - 1 comes near
+/// 3,000,000,000.
+pub fn far_sums(rng: &mut Rng, first: usize, last: usize) -> Vec<Entry> {
+    let mut entries: Vec<Entry> = (1..=last as u16)
+        .map(|number| {
+            let t = MAX_TICKS - rng.pick(&[0, 0, 1, 2, 999]);
+            let entry = Entry::task(number, rng.range(1, 40), t, t);
+            entry.jittered(most(&entry) - rng.below(3))
+        })
+        .collect();
+    let own = Entry::task(99, rng.range(1, 40), MAX_TICKS, MAX_TICKS);
+    entries.push(
+        own.calling(rng.pick(&[0, 1, 2, MAX_R]))
+            .jittered(rng.below(3)),
+    );
+    let levels = group_levels(last + 1, first, last);
+    let room = limit(&entries[last]) - demand(&entries, &levels, last, limit(&entries[last]));
+    entries[last].b = room + rng.pick(&[0, 0, 1]) - rng.pick(&[0, 0, 1]);
     entries
 }

@@ -38,6 +38,20 @@ pub fn break_ticks(rng: &mut Rng, entry: &mut Entry) {
     }
 }
 
+/// Aims at 14, in the second edition and in a session.
+pub fn break_jitter(rng: &mut Rng, entry: &mut Entry) {
+    let most = entry.d.saturating_sub(entry.c);
+    entry.j = rng.pick(&[most + 1, most + 1, most + 2, entry.d + 1, 1 << 31, MOST]);
+    entry.j = entry.j.clamp(most + 1, MOST);
+}
+
+/// Aims at 14 in a plan to be written in the first edition.
+pub fn put_jitter(rng: &mut Rng, entry: &mut Entry) {
+    let most = entry.d.saturating_sub(entry.c);
+    entry.j = rng.pick(&[1, 1, most, most + 1, 1 << 8, 1 << 16, 1 << 24, MOST]);
+    entry.j = entry.j.clamp(1, MOST);
+}
+
 /// Aims at 4; `last` is the number of the row before.
 pub fn break_row(rng: &mut Rng, row: &mut Row, last: Option<u16>) {
     match (rng.below(3), last) {

@@ -2,12 +2,13 @@
 //! operation has made.
 
 use super::entries;
-use super::faults::{break_kind, break_ticks};
-use crate::lent::{words_of, Words};
+use super::faults::{break_jitter, break_kind, break_ticks};
+use super::jitter::Jitter;
+use crate::lent::{words_of, Words, SESSION_WORDS};
 use crate::model::Entry;
 use crate::rng::Rng;
 use crate::session::Session;
-use crate::words::{entry_of, entry_words};
+use crate::words::{entry_of, entry_words, ENTRY_WORDS};
 
 /// A sound session of `count` entries.
 pub fn sound(rng: &mut Rng, count: usize) -> Words {
@@ -15,6 +16,12 @@ pub fn sound(rng: &mut Rng, count: usize) -> Words {
         0..=8 => entries::tiny(rng, count),
         _ => entries::light(rng, count),
     };
+    // In a long list, more would leave no map.
+    let jitter = match count {
+        0..=8 => rng.pick(&[Jitter::Zero, Jitter::Small, Jitter::Mixed]),
+        _ => rng.pick(&[Jitter::Zero, Jitter::Zero, Jitter::Small, Jitter::Most]),
+    };
+    let entries = jitter.put(rng, entries);
     let levels = rng.count(1, 64);
     words_of(&Session::holding(levels, &entries).expect("the generators give good entries"))
 }
@@ -22,7 +29,7 @@ pub fn sound(rng: &mut Rng, count: usize) -> Words {
 /// Memory with one or two faults, which may still hold a session.
 pub fn damaged(rng: &mut Rng) -> Words {
     if rng.chance(1, 20) {
-        return [(); 322].map(|_| rng.word() as u32);
+        return [(); SESSION_WORDS].map(|_| rng.word() as u32);
     }
     let count = rng.count(0, 6);
     let mut words = sound(rng, count);
@@ -39,9 +46,9 @@ fn damage(rng: &mut Rng, words: &mut Words, count: usize) {
         // With one entry less, words beyond the last entry are not 0; with one
         // more, its kind is 0.
         2 => words[1] = rng.pick(&[count.saturating_sub(1), count + 1, 64]) as u32,
-        3 => words[rng.count(2, 321)] = rng.word() as u32,
+        3 => words[rng.count(2, SESSION_WORDS - 1)] = rng.word() as u32,
         4 if count > 0 => break_entry(rng, words, count),
-        _ => words[rng.count(2 + 5 * count, 321)] = rng.word() as u32,
+        _ => words[rng.count(2 + ENTRY_WORDS * count, SESSION_WORDS - 1)] = rng.word() as u32,
     }
 }
 
@@ -49,9 +56,10 @@ fn break_entry(rng: &mut Rng, words: &mut Words, count: usize) {
     let at = rng.index(count);
     let slot = &mut words[2..].as_chunks_mut().0[at];
     let mut entry = entry_of(slot);
-    match rng.chance(1, 2) {
-        true => break_kind(rng, &mut entry),
-        false => break_ticks(rng, &mut entry),
+    match rng.below(3) {
+        0 => break_kind(rng, &mut entry),
+        1 => break_ticks(rng, &mut entry),
+        _ => break_jitter(rng, &mut entry),
     }
     *slot = entry_words(&entry);
 }

@@ -7,6 +7,7 @@ pub mod damage;
 pub mod entries;
 pub mod extremes;
 pub mod faults;
+pub mod jitter;
 pub mod just_late;
 pub mod lent;
 pub mod listings;

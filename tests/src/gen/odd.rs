@@ -1,6 +1,7 @@
 //! Odd plans: nodes whose utilisation is close to 1, so that the test of an
 //! entry may take very many rounds.
 
+use super::jitter::{most, third, Jitter};
 use crate::model::{Entry, Node, Plan, MAX_ENTRIES, MAX_NODES, MAX_R, MAX_TICKS};
 use crate::rng::Rng;
 use crate::timing::{completion_in_group, Timing};
@@ -24,6 +25,14 @@ pub const JUST_LATE: [Family; 2] = [
     ("deadlines just below the completion time", just_late),
     ("the same with primes as periods", primes),
 ];
+
+/// The node of [`JUST_LATE`] whose first entries may start just before their
+/// next period, with deadlines one tick below the completion time under that
+/// jitter. A bound on that time that leaves the jitter out is far too low.
+pub const LATE_STARTS: Family = (
+    "deadlines just below the completion time under jitter",
+    late_starts,
+);
 
 /// Level count of the nodes of the families.
 pub const LEVELS: u8 = 8;
@@ -79,6 +88,19 @@ fn just_late() -> Vec<Entry> {
     entries
 }
 
+/// [`just_late`] with J 1, 2, 6, 42 and 1806 on its first entries, under which
+/// its last 59 end at 63 × 3,263,442 + 1, and deadlines a tick before that.
+fn late_starts() -> Vec<Entry> {
+    let mut entries = many_rounds(MAX_ENTRIES);
+    for entry in &mut entries[..5] {
+        entry.j = most(entry);
+    }
+    for entry in &mut entries[5..] {
+        entry.d = 63 * 3_263_442;
+    }
+    entries
+}
+
 /// 34 primes as periods, with a utilisation of 1 - 1/14,200,000 or so, and 30
 /// entries that end at 588,022,764.
 fn primes() -> Vec<Entry> {
@@ -94,7 +116,16 @@ fn primes() -> Vec<Entry> {
     filled(PERIODS.map(|t| task(1, t)).to_vec(), last)
 }
 
-/// The longest plan file, each node with these entries.
+/// The same entries, each with J of a third of its period, cut to D - C.
+pub fn with_thirds(mut entries: Vec<Entry>) -> Vec<Entry> {
+    for entry in &mut entries {
+        entry.j = third(entry);
+    }
+    entries
+}
+
+/// The longest plan file, each node with these entries, of the first edition if
+/// every J is 0.
 pub fn full_plan(entries: &[Entry]) -> Plan {
     let nodes = (1..=MAX_NODES as u16)
         .map(|number| Node {
@@ -103,7 +134,7 @@ pub fn full_plan(entries: &[Entry]) -> Plan {
             entries: entries.to_vec(),
         })
         .collect();
-    Plan { nodes }
+    Plan::of(nodes)
 }
 
 fn task(c: u64, t: u64) -> Entry {
@@ -133,15 +164,16 @@ fn numbered(mut entries: Vec<Entry>) -> Vec<Entry> {
 const WHOLES: [u64; 10] = [8, 12, 32, 60, 62, 64, 126, 420, 512, 5_040];
 
 /// A few entries with a utilisation just below, at or just above 1, then one or
-/// two with long deadlines, some of them exactly at the completion time. All
-/// times may be multiplied by one factor, which does not change the rounds.
-pub fn near_one(rng: &mut Rng) -> Vec<Entry> {
+/// two with long deadlines, some of them exactly at J plus the completion time.
+/// All times may be multiplied by one factor, which does not change the rounds.
+pub fn near_one(rng: &mut Rng, jitter: Jitter) -> Vec<Entry> {
     let whole = rng.pick(&WHOLES);
     let excess = rng.pick(&[-3, -2, -1, -1, -1, -1, 0, 1]);
     let mut entries = urgent(rng, whole, excess);
     for _ in 0..rng.range(1, 2) {
         entries.push(long(rng, whole));
     }
+    let mut entries = jitter.put(rng, entries);
     if rng.chance(2, 3) {
         tighten_last(rng, &mut entries);
     }
@@ -189,8 +221,8 @@ fn long(rng: &mut Rng, whole: u64) -> Entry {
     Entry { d, ..task(c, t) }.calling(r).blocked(b)
 }
 
-/// Sets the last deadline to the completion time in a group of its own, or to
-/// one tick before or after it.
+/// Sets the last deadline to J plus the completion time in a group of its own,
+/// or to one tick before or after it.
 fn tighten_last(rng: &mut Rng, entries: &mut [Entry]) {
     let last = entries.len() - 1;
     let kept = entries[last];
@@ -200,9 +232,8 @@ fn tighten_last(rng: &mut Rng, entries: &mut [Entry]) {
         entries[last] = kept;
         return;
     };
-    entries[last].d = (time + rng.pick(&[0, 0, 1]))
-        .saturating_sub(rng.below(2))
-        .max(kept.c);
+    let limit = (time + rng.pick(&[0, 0, 1])).saturating_sub(rng.below(2));
+    entries[last].d = kept.j + limit.max(kept.c);
     entries[last].t = entries[last].d + rng.pick(&[0, 1, 500]);
 }
 
@@ -212,6 +243,7 @@ fn times(e: &Entry, factor: u64) -> Entry {
         t: e.t * factor,
         d: e.d * factor,
         b: e.b * factor,
+        j: e.j * factor,
         ..*e
     }
 }

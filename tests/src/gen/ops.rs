@@ -1,10 +1,11 @@
 //! Sequences of session operations, refused ones included.
 
 use super::entries;
-use super::faults::{break_kind, break_ticks};
+use super::faults::{break_jitter, break_kind, break_ticks};
+use super::jitter::any;
 use super::lent::{damaged, sound};
 use super::sessions::FAMILIES;
-use crate::lent::{apply, session_in};
+use crate::lent::{apply, session_in, SESSION_WORDS};
 use crate::model::{Entry, MAX_LEVELS};
 use crate::rng::Rng;
 use crate::sequences::Sequence;
@@ -50,7 +51,7 @@ pub fn sequence(rng: &mut Rng, tally: &mut Tally) -> Sequence {
         return family.sequence(rng, tally);
     }
     let (start, course) = match rng.below(4) {
-        0 => ([0; 322], Course::Short),
+        0 => ([0; SESSION_WORDS], Course::Short),
         1 => (sound(rng, 4), Course::Short),
         2 => (sound(rng, 63), Course::Growing),
         _ => (damaged(rng), Course::Short),
@@ -99,12 +100,23 @@ fn entry(rng: &mut Rng, course: Course) -> Entry {
         Course::Short => entries::tiny(rng, 4)[0],
         Course::Growing => entries::light(rng, 1)[0],
     };
+    if rng.chance(1, 3) {
+        entry.j = any(rng, &entry);
+    }
     match rng.below(16) {
         0 => break_kind(rng, &mut entry),
         1 | 2 => break_ticks(rng, &mut entry),
-        3 => {
+        3 | 4 => break_jitter(rng, &mut entry),
+        5 => {
             break_kind(rng, &mut entry);
             break_ticks(rng, &mut entry);
+        }
+        6 => {
+            break_jitter(rng, &mut entry);
+            match rng.chance(1, 2) {
+                true => break_kind(rng, &mut entry),
+                false => break_ticks(rng, &mut entry),
+            }
         }
         _ => {}
     }

@@ -1,14 +1,16 @@
 //! Faulty calls of the writer, each with the expected refusal.
 
-use super::faults::{break_kind, break_row, break_ticks};
+use super::faults::{break_jitter, break_kind, break_row, break_ticks, put_jitter};
 use crate::file::encode;
-use crate::model::{Entry, Plan, Row, MAX_NODES};
-use crate::refusal::{Refusal, BUFFER, COUNT, KIND, LENGTH, ROW, TICKS};
+use crate::model::{Edition, Entry, Plan, Row, MAX_NODES};
+use crate::refusal::{Refusal, BUFFER, COUNT, JITTER, KIND, LENGTH, OPENING, ROW, TICKS};
 use crate::rng::Rng;
 
 /// The check that a fault aims at, in the writer's order.
 #[derive(Clone, Copy, Debug, PartialEq, Eq, PartialOrd, Ord)]
 pub enum PartAim {
+    /// 2.
+    Edition,
     /// 3.
     Count,
     /// 4.
@@ -19,23 +21,29 @@ pub enum PartAim {
     Kind,
     /// 8.
     Ticks,
+    /// 14.
+    Jitter,
     /// 10.
     Buffer,
 }
 
 /// Every aim.
-pub const PART_AIMS: [PartAim; 6] = [
+pub const PART_AIMS: [PartAim; 8] = [
+    PartAim::Edition,
     PartAim::Count,
     PartAim::Row,
     PartAim::Length,
     PartAim::Kind,
     PartAim::Ticks,
+    PartAim::Jitter,
     PartAim::Buffer,
 ];
 
 /// A call of the writer.
 #[derive(Clone, Debug)]
 pub struct Parts {
+    /// The number of the edition to write.
+    pub edition: u32,
     /// The rows.
     pub rows: Vec<Row>,
     /// The entries of all rows.
@@ -53,6 +61,7 @@ type Rank = (u8, usize, usize, u8);
 /// The plan's parts with one fault for each aim. The plan must have an entry.
 pub fn damage_parts(rng: &mut Rng, plan: &Plan, aims: &[PartAim]) -> Parts {
     let mut parts = Parts {
+        edition: plan.edition.number(),
         rows: plan.rows(),
         entries: plan.entries(),
         room: file_bytes(plan),
@@ -78,49 +87,57 @@ fn file_bytes(plan: &Plan) -> usize {
 
 fn put_in(rng: &mut Rng, plan: &Plan, parts: &mut Parts, aim: PartAim) -> (Rank, Refusal) {
     match aim {
+        PartAim::Edition => {
+            parts.edition = rng.pick(&[0, 3, 0x31, 0x32, 257, 1 << 16 | 2, u32::MAX]);
+            ((0, 0, 0, 0), Refusal::plain(OPENING))
+        }
         PartAim::Count => {
             let rows = rng.pick(&[0, MAX_NODES + 1, 300]);
             parts.rows.resize(rows, Row::default());
-            ((0, 0, 0, 0), Refusal::plain(COUNT))
+            ((1, 0, 0, 0), Refusal::plain(COUNT))
         }
         PartAim::Row => {
             let index = rng.index(plan.nodes.len());
             let last = index.checked_sub(1).map(|last| plan.nodes[last].number);
             break_row(rng, &mut parts.rows[index], last);
-            ((1, index, 0, 0), Refusal::at_row(ROW, index))
+            ((2, index, 0, 0), Refusal::at_row(ROW, index))
         }
         PartAim::Length => {
             let counted = plan.entries().len();
             let given = rng.pick(&[counted - 1, counted + 1, 0, 2 * counted]);
             parts.entries.resize(given, plan.entries()[0]);
-            ((2, 0, 0, 0), Refusal::plain(LENGTH))
+            ((3, 0, 0, 0), Refusal::plain(LENGTH))
         }
-        PartAim::Kind => {
-            let (row, entry) = break_entry(rng, plan, parts, break_kind);
-            ((3, row, entry, 0), Refusal::at_entry(KIND, row, entry))
-        }
-        PartAim::Ticks => {
-            let (row, entry) = break_entry(rng, plan, parts, break_ticks);
-            ((3, row, entry, 1), Refusal::at_entry(TICKS, row, entry))
+        PartAim::Kind => break_entry(rng, plan, parts, (0, KIND), break_kind),
+        PartAim::Ticks => break_entry(rng, plan, parts, (1, TICKS), break_ticks),
+        PartAim::Jitter => {
+            let break_one = match plan.edition {
+                Edition::First => put_jitter,
+                Edition::Second => break_jitter,
+            };
+            break_entry(rng, plan, parts, (2, JITTER), break_one)
         }
         PartAim::Buffer => {
             let needed = file_bytes(plan);
             parts.room = rng.pick(&[needed - 1, needed - 1, 0]);
-            ((4, 0, 0, 0), Refusal::plain(BUFFER))
+            ((5, 0, 0, 0), Refusal::plain(BUFFER))
         }
     }
 }
 
-/// Breaks a random entry and returns its row and position.
+/// Breaks a random entry, at a step of its checks and with its number.
 fn break_entry(
     rng: &mut Rng,
     plan: &Plan,
     parts: &mut Parts,
+    (step, number): (u8, u8),
     break_one: fn(&mut Rng, &mut Entry),
-) -> (usize, usize) {
+) -> (Rank, Refusal) {
     let at = rng.index(parts.entries.len());
     break_one(rng, &mut parts.entries[at]);
-    place_of(plan, at)
+    let (row, entry) = place_of(plan, at);
+    let refusal = Refusal::at_entry(number, row, entry);
+    ((4, row, entry, step), refusal)
 }
 
 /// Row and position of the entry at `at` in the flat list.

@@ -1,19 +1,21 @@
-//! Whole plans.
+//! Whole plans, in half of the draws of the second edition.
 
+use super::jitter::Jitter;
 use super::{entries, odd};
-use crate::model::{Entry, Node, Plan, MAX_ENTRIES, MAX_NODES};
+use crate::model::{Edition, Entry, Node, Plan, MAX_ENTRIES, MAX_NODES};
 use crate::rng::Rng;
 
 /// A few nodes of a few entries with small numbers, some empty.
 pub fn small(rng: &mut Rng) -> Plan {
     let nodes = rng.count(1, 4);
-    plan(rng, nodes, |rng| {
+    plan(rng, nodes, |rng, jitter| {
         let count = rng.count(0, 6);
-        match rng.below(3) {
+        let entries = match rng.below(3) {
             0 => entries::tiny(rng, count),
             1 => entries::scattered(rng, count),
-            _ => entries::at_limits(rng, count),
-        }
+            _ => return entries::at_limits(rng, count, jitter),
+        };
+        jitter.put(rng, entries)
     })
 }
 
@@ -30,42 +32,55 @@ pub fn filled(rng: &mut Rng) -> Plan {
 /// Nodes whose wide groups pass although narrower ones fail.
 pub fn wide(rng: &mut Rng) -> Plan {
     let nodes = rng.count(1, 3);
-    plan(rng, nodes, |rng| {
+    plan(rng, nodes, |rng, jitter| {
         let count = rng.count(3, 8);
-        entries::wide(rng, count)
+        entries::wide(rng, count, jitter)
     })
 }
 
 /// Nodes whose deadlines are at completion times.
 pub fn tight(rng: &mut Rng) -> Plan {
     let nodes = rng.count(1, 3);
-    plan(rng, nodes, |rng| {
+    plan(rng, nodes, |rng, jitter| {
         let count = rng.count(1, 10);
         let loose = match rng.below(2) {
             0 => entries::tiny(rng, count),
             _ => entries::realistic(rng, count),
         };
+        let loose = jitter.put(rng, loose);
         entries::tighten(rng, loose)
+    })
+}
+
+/// Nodes in which entries find others twice ahead on their level, in the second
+/// edition by J alone.
+pub fn queued(rng: &mut Rng) -> Plan {
+    let nodes = rng.count(1, 3);
+    plan(rng, nodes, |rng, jitter| {
+        let count = rng.count(2, 8);
+        entries::queued(rng, count, jitter)
     })
 }
 
 /// A station: 1 to 32 nodes of 3 to 20 entries.
 pub fn station(rng: &mut Rng) -> Plan {
     let nodes = rng.count(1, MAX_NODES);
-    plan(rng, nodes, |rng| {
+    plan(rng, nodes, |rng, jitter| {
         let count = rng.count(3, 20);
-        entries::realistic(rng, count)
+        let entries = entries::realistic(rng, count);
+        jitter.put(rng, entries)
     })
 }
 
 /// One node of 64 entries.
 pub fn full_node(rng: &mut Rng) -> Plan {
-    plan(rng, 1, |rng| {
+    plan(rng, 1, |rng, jitter| {
         let entries = match rng.below(3) {
             0 => entries::light(rng, MAX_ENTRIES),
             1 => entries::tiny(rng, MAX_ENTRIES),
             _ => entries::many(rng, MAX_ENTRIES),
         };
+        let entries = jitter.put(rng, entries);
         if rng.chance(1, 2) {
             entries::tighten(rng, entries)
         } else {
@@ -77,9 +92,10 @@ pub fn full_node(rng: &mut Rng) -> Plan {
 /// One node of 13 to 64 entries with blocking and remote sections, some with
 /// deadlines at completion times.
 pub fn many_entries(rng: &mut Rng) -> Plan {
-    plan(rng, 1, |rng| {
+    plan(rng, 1, |rng, jitter| {
         let count = rng.count(13, MAX_ENTRIES);
         let entries = entries::many(rng, count);
+        let entries = jitter.put(rng, entries);
         if rng.chance(1, 2) {
             entries::tighten(rng, entries)
         } else {
@@ -91,9 +107,10 @@ pub fn many_entries(rng: &mut Rng) -> Plan {
 /// A few nodes with usual periods of up to 1,000,000,000.
 pub fn long_periods(rng: &mut Rng) -> Plan {
     let nodes = rng.count(1, 3);
-    plan(rng, nodes, |rng| {
+    plan(rng, nodes, |rng, jitter| {
         let count = rng.count(3, 20);
-        entries::long_periods(rng, count)
+        let entries = entries::long_periods(rng, count);
+        jitter.put(rng, entries)
     })
 }
 
@@ -105,32 +122,66 @@ pub fn near_one(rng: &mut Rng) -> Plan {
 
 /// 32 nodes, each with few entries, or none.
 pub fn many_nodes(rng: &mut Rng) -> Plan {
-    plan(rng, MAX_NODES, |rng| {
+    plan(rng, MAX_NODES, |rng, jitter| {
         let count = rng.count(0, 5);
-        entries::scattered(rng, count)
+        let entries = entries::scattered(rng, count);
+        jitter.put(rng, entries)
     })
 }
 
-/// The longest plan: 32 nodes of 64 entries.
+/// The longest plan of an edition: 32 nodes of 64 entries.
 pub fn longest(rng: &mut Rng) -> Plan {
-    plan(rng, MAX_NODES, |rng| entries::light(rng, MAX_ENTRIES))
+    let edition = rng.pick(&Edition::BOTH);
+    longest_in(rng, edition)
+}
+
+/// The longest plan of this edition.
+pub fn longest_in(rng: &mut Rng, edition: Edition) -> Plan {
+    plan_in(rng, edition, MAX_NODES, |rng, jitter| {
+        let entries = entries::light(rng, MAX_ENTRIES);
+        jitter.put(rng, entries)
+    })
 }
 
 /// Nodes with numbers at both ends of the limits.
 pub fn at_limits(rng: &mut Rng) -> Plan {
     let nodes = rng.count(1, 5);
-    plan(rng, nodes, |rng| {
+    plan(rng, nodes, |rng, jitter| {
         let count = rng.count(1, 6);
-        entries::at_limits(rng, count)
+        entries::at_limits(rng, count, jitter)
     })
 }
 
-fn plan(rng: &mut Rng, nodes: usize, mut draw: impl FnMut(&mut Rng) -> Vec<Entry>) -> Plan {
+/// The same nodes without J, in the first edition.
+pub fn punctual(mut plan: Plan) -> Plan {
+    for entry in plan.nodes.iter_mut().flat_map(|node| &mut node.entries) {
+        entry.j = 0;
+    }
+    Plan::first(plan.nodes)
+}
+
+/// A plan of either edition; `draw` draws the entries of a node, with the given
+/// jitter.
+fn plan(rng: &mut Rng, nodes: usize, draw: impl FnMut(&mut Rng, Jitter) -> Vec<Entry>) -> Plan {
+    let edition = rng.pick(&Edition::BOTH);
+    plan_in(rng, edition, nodes, draw)
+}
+
+fn plan_in(
+    rng: &mut Rng,
+    edition: Edition,
+    nodes: usize,
+    mut draw: impl FnMut(&mut Rng, Jitter) -> Vec<Entry>,
+) -> Plan {
     let numbers = rising(rng, nodes);
     let nodes = numbers
         .into_iter()
         .map(|number| {
-            let entries = draw(rng);
+            let jitter = match edition {
+                Edition::First => Jitter::Zero,
+                Edition::Second => Jitter::draw(rng),
+            };
+            let entries = draw(rng, jitter);
             Node {
                 number,
                 levels: levels_for(rng, entries.len()),
@@ -138,7 +189,7 @@ fn plan(rng: &mut Rng, nodes: usize, mut draw: impl FnMut(&mut Rng) -> Vec<Entry
             }
         })
         .collect();
-    Plan { nodes }
+    Plan { edition, nodes }
 }
 
 /// Level counts near what the entries need, and both ends of the limits.

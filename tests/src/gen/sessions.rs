@@ -2,6 +2,7 @@
 //! them to see what fits.
 
 use super::budget::{rounds_ceiling, ROUNDS};
+use super::jitter::any;
 use super::ops::group;
 use super::plans;
 use crate::lent::words_of;
@@ -119,14 +120,14 @@ impl Family {
 
 /// The entry with one number changed, within the limits.
 fn varied(rng: &mut Rng, entry: Entry) -> Entry {
-    let Entry { c, t, d, .. } = entry;
-    match rng.below(6) {
+    let Entry { c, t, d, j, .. } = entry;
+    match rng.below(7) {
         0 => Entry {
-            c: rng.range(1, d.min(2 * c)),
+            c: rng.range(1, (d - j).min(2 * c)),
             ..entry
         },
         1 => Entry {
-            d: rng.range(c, t),
+            d: rng.range(c + j, t),
             ..entry
         },
         2 => Entry { d: t, ..entry },
@@ -138,6 +139,7 @@ fn varied(rng: &mut Rng, entry: Entry) -> Entry {
             b: rng.range(0, d - c) / rng.pick(&[1, 4, 16]),
             ..entry
         },
+        5 => entry.jittered(any(rng, &entry)),
         _ => Entry {
             kind: TASK,
             r: rng.pick(&[0, 1, 2, MAX_R - 1, MAX_R]),

@@ -5,7 +5,7 @@ use super::{completion, entry_holds, map_entries, Entry, MOST};
 use crate::ffi::session::Session;
 use crate::words::ENTRY_WORDS;
 
-/// The entry that five words hold.
+/// The entry that six words hold.
 pub(super) fn entry(words: &[u32; ENTRY_WORDS]) -> Entry {
     let [low, high, kind, r] = words[0].to_le_bytes();
     Entry {
@@ -16,6 +16,7 @@ pub(super) fn entry(words: &[u32; ENTRY_WORDS]) -> Entry {
         t: words[2],
         d: words[3],
         b: words[4],
+        j: words[5],
     }
 }
 

@@ -1,19 +1,21 @@
 //! Entries, read in place.
 
-use crate::refusal::{Refusal, KIND, TICKS};
+use crate::refusal::{Refusal, JITTER, KIND, TICKS};
 
 /// Most entries of a node.
 pub const MOST: usize = 64;
 /// Largest period and blocking.
 const MOST_TICKS: u32 = 1_000_000_000;
 
-/// An entry in a file, and one in words.
-pub type Bytes = [u8; 20];
-pub type Words = [u32; 5];
+/// An entry in a file of either edition, and one in words.
+pub type FirstBytes = [u8; 20];
+pub type SecondBytes = [u8; 24];
+pub type Words = [u32; 6];
 
-/// Access to an entry's five words.
+/// Access to an entry's words.
 pub trait Entry {
-    /// The word at an index, 0 to 4.
+    /// The word at an index, 0 to 5; an entry of the first edition has no last
+    /// one.
     fn word(&self, at: usize) -> u32;
 
     fn number(&self) -> u32 {
@@ -40,6 +42,15 @@ pub trait Entry {
         self.word(4)
     }
 
+    fn jitter(&self) -> u32 {
+        self.word(5)
+    }
+
+    /// The last time by which it may end, counted from its start.
+    fn limit(&self) -> u32 {
+        self.deadline() - self.jitter()
+    }
+
     /// Whether it is a task with up to 15 calls, or a section with none.
     fn kind_holds(&self) -> bool {
         let kind = self.word(0) >> 16;
@@ -53,9 +64,39 @@ pub trait Entry {
             && self.blocking() <= MOST_TICKS
     }
 
+    /// Of an entry whose times hold.
+    fn jitter_holds(&self) -> bool {
+        self.jitter() <= self.deadline() - self.wcet()
+    }
+
     /// Whether it is within all limits.
     fn holds(&self) -> bool {
-        self.kind_holds() && self.times_hold()
+        self.kind_holds() && self.times_hold() && self.jitter_holds()
+    }
+
+    /// The number of its refusal, if it is outside the limits.
+    fn refusal(&self) -> Option<u8> {
+        if !self.kind_holds() {
+            Some(KIND)
+        } else if !self.times_hold() {
+            Some(TICKS)
+        } else if !self.jitter_holds() {
+            Some(JITTER)
+        } else {
+            None
+        }
+    }
+}
+
+/// An entry in a file.
+pub trait InFile: Entry + Sized + 'static {
+    /// The entries in the bodies of a file.
+    fn in_bodies(bodies: &[u8]) -> &[Self];
+
+    /// Its words, with its jitter.
+    fn words(&self) -> Words {
+        let [a, b, c, d, e] = [0, 1, 2, 3, 4].map(|at| self.word(at));
+        [a, b, c, d, e, self.jitter()]
     }
 }
 
@@ -65,20 +106,36 @@ impl Entry for Words {
     }
 }
 
-impl Entry for Bytes {
+impl Entry for FirstBytes {
     fn word(&self, at: usize) -> u32 {
         u32::from_le_bytes(self.as_chunks().0[at])
+    }
+
+    fn jitter(&self) -> u32 {
+        0
+    }
+}
+
+impl Entry for SecondBytes {
+    fn word(&self, at: usize) -> u32 {
+        u32::from_le_bytes(self.as_chunks().0[at])
+    }
+}
+
+impl<const N: usize> InFile for [u8; N]
+where
+    [u8; N]: Entry,
+{
+    fn in_bodies(bodies: &[u8]) -> &[Self] {
+        bodies.as_chunks().0
     }
 }
 
 /// The refusal of the first of these entries that is outside the limits.
 #[cold]
 pub fn refusal_in<E: Entry>(entries: &[E], row: usize) -> Option<Refusal> {
-    let at = entries.iter().position(|entry| !entry.holds())?;
-    let number = if entries[at].kind_holds() {
-        TICKS
-    } else {
-        KIND
-    };
-    Some(Refusal::at_entry(number, row, at))
+    entries
+        .iter()
+        .enumerate()
+        .find_map(|(at, entry)| Some(Refusal::at_entry(entry.refusal()?, row, at)))
 }

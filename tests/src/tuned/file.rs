@@ -1,7 +1,8 @@
 //! Plan files.
 
-use super::entry::{refusal_in, Bytes, Entry, Words, MOST};
-use crate::refusal::{Refusal, BUFFER, COUNT, CUT_OFF, LENGTH, OFFSET, OPENING, ROW};
+use super::entry::{refusal_in, Entry, FirstBytes, InFile, SecondBytes, Words, MOST};
+use crate::model::Edition;
+use crate::refusal::{Refusal, BUFFER, COUNT, CUT_OFF, JITTER, LENGTH, OFFSET, OPENING, ROW};
 
 /// Bytes before the contents.
 const HEAD: usize = 8;
@@ -36,23 +37,30 @@ impl Row {
     }
 }
 
-/// An accepted file: its rows, and the entries of all of them.
-#[derive(Clone, Copy)]
-pub struct Plan<'a> {
-    rows: &'a [RowBytes],
-    entries: &'a [Bytes],
+/// The edition of a file, by its opening bytes.
+pub fn edition_of(file: &[u8]) -> Result<Edition, Refusal> {
+    let head = file.first_chunk::<HEAD>().ok_or(Refusal::plain(CUT_OFF))?;
+    match &head[..4] {
+        b"LMP1" => Ok(Edition::First),
+        b"LMP2" => Ok(Edition::Second),
+        _ => Err(Refusal::plain(OPENING)),
+    }
 }
 
-impl<'a> Plan<'a> {
-    /// The plan of a file, or the file's refusal.
-    pub fn of(file: &'a [u8]) -> Result<Plan<'a>, Refusal> {
+/// An accepted file: its rows, and the entries of all of them.
+#[derive(Clone, Copy)]
+pub struct Plan<'a, E> {
+    rows: &'a [RowBytes],
+    entries: &'a [E],
+}
+
+impl<'a, E: InFile> Plan<'a, E> {
+    /// The plan of a file that opens as one of the edition, or its refusal.
+    pub fn of(file: &'a [u8]) -> Result<Plan<'a, E>, Refusal> {
         let (head, rest) = file
             .split_first_chunk::<HEAD>()
             .ok_or(Refusal::plain(CUT_OFF))?;
-        let [o0, o1, o2, o3, nodes, zeros @ ..] = head;
-        if [*o0, *o1, *o2, *o3] != *b"LMP1" {
-            return Err(Refusal::plain(OPENING));
-        }
+        let [_, _, _, _, nodes, zeros @ ..] = head;
         let nodes = usize::from(*nodes);
         if nodes == 0 || nodes > MOST_NODES || *zeros != [0; 3] {
             return Err(Refusal::plain(COUNT));
@@ -62,7 +70,7 @@ impl<'a> Plan<'a> {
             .ok_or(Refusal::plain(CUT_OFF))?;
         let plan = Plan {
             rows: contents.as_chunks().0,
-            entries: bodies.as_chunks().0,
+            entries: E::in_bodies(bodies),
         };
         plan.check_rows(file.len())?;
         // All entries in one loop; only a refused file needs a second pass, for
@@ -87,7 +95,7 @@ impl<'a> Plan<'a> {
                 return Err(Refusal::at_row(OFFSET, at));
             }
             least = u32::from(row.number) + 1;
-            required += row.count * 20;
+            required += row.count * size_of::<E>();
         }
         if length != required {
             return Err(Refusal::plain(LENGTH));
@@ -115,7 +123,7 @@ impl<'a> Plan<'a> {
     }
 
     /// Each row with its entries.
-    pub fn nodes(&self) -> impl Iterator<Item = (Row, &'a [Bytes])> {
+    pub fn nodes(&self) -> impl Iterator<Item = (Row, &'a [E])> {
         let mut rest = self.entries;
         self.rows.iter().map(move |bytes| {
             let row = Row::of(words_of(bytes)[0]);
@@ -134,53 +142,99 @@ fn words_of(row: &RowBytes) -> [u32; 2] {
 /// Accepts a plan file, or refuses it.
 #[inline(never)]
 pub fn check(file: &[u8]) -> Result<(), Refusal> {
-    Plan::of(file).map(|_| ())
+    match edition_of(file)? {
+        Edition::First => Plan::<FirstBytes>::of(file).map(|_| ()),
+        Edition::Second => Plan::<SecondBytes>::of(file).map(|_| ()),
+    }
 }
 
-/// Reads a file into words, and returns how many rows and entries.
+/// Reads a file into words, and returns how many rows and entries, and the
+/// edition.
 #[inline(never)]
-pub fn read(file: &[u8], rows: &mut [u32], entries: &mut [u32]) -> Result<(usize, usize), Refusal> {
-    let plan = Plan::of(file)?;
-    let words = plan.entries.as_flattened().as_chunks().0;
+pub fn read(
+    file: &[u8],
+    rows: &mut [u32],
+    entries: &mut [u32],
+) -> Result<(usize, usize, Edition), Refusal> {
+    let edition = edition_of(file)?;
+    let (rows, entries) = match edition {
+        Edition::First => read_as::<FirstBytes>(file, rows, entries),
+        Edition::Second => read_as::<SecondBytes>(file, rows, entries),
+    }?;
+    Ok((rows, entries, edition))
+}
+
+fn read_as<E: InFile>(
+    file: &[u8],
+    rows: &mut [u32],
+    entries: &mut [u32],
+) -> Result<(usize, usize), Refusal> {
+    let plan = Plan::<E>::of(file)?;
     let (Some(rows), Some(entries)) = (
         rows.get_mut(..plan.rows.len()),
-        entries.get_mut(..words.len()),
+        entries.get_mut(..plan.entries.len() * 6),
     ) else {
         return Err(Refusal::plain(BUFFER));
     };
     for (row, bytes) in rows.iter_mut().zip(plan.rows) {
         *row = words_of(bytes)[0];
     }
-    for (word, bytes) in entries.iter_mut().zip(words) {
-        *word = u32::from_le_bytes(*bytes);
+    for (words, entry) in entries.as_chunks_mut().0.iter_mut().zip(plan.entries) {
+        *words = entry.words();
     }
     Ok((plan.node_count(), plan.entry_count()))
 }
 
-/// Writes words as a file, and returns its length.
+/// Writes words as a file of the edition with this number, and returns its
+/// length.
 #[inline(never)]
-pub fn write(rows: &[u32], words: &[u32], file: &mut [u8]) -> Result<usize, Refusal> {
-    check_parts(rows, words)?;
+pub fn write(edition: u32, rows: &[u32], words: &[u32], file: &mut [u8]) -> Result<usize, Refusal> {
+    let edition = Edition::numbered(edition).ok_or(Refusal::plain(OPENING))?;
+    let entries = check_parts(edition, rows, words)?;
+    let (opening, size) = match edition {
+        Edition::First => (b"LMP1", 20),
+        Edition::Second => (b"LMP2", 24),
+    };
     let bodies = HEAD + rows.len() * 8;
-    let length = bodies + words.len() * 4;
+    let length = bodies + entries.len() * size;
     let file = file.get_mut(..length).ok_or(Refusal::plain(BUFFER))?;
-    let (contents, entries) = file.split_at_mut(bodies);
-    let (head, contents) = contents.split_at_mut(HEAD);
-    head.copy_from_slice(&[b'L', b'M', b'P', b'1', rows.len() as u8, 0, 0, 0]);
-    let mut offset = bodies as u32;
-    for (target, word) in contents.as_chunks_mut().0.iter_mut().zip(rows) {
-        let both: u64 = u64::from(*word) | u64::from(offset) << 32;
-        *target = both.to_le_bytes();
-        offset += (*word >> 24) * 20;
-    }
-    for (target, word) in entries.as_chunks_mut().0.iter_mut().zip(words) {
-        *target = word.to_le_bytes();
+    let (contents, bodies) = file.split_at_mut(bodies);
+    put_contents(opening, rows, contents, size);
+    match edition {
+        Edition::First => put_entries::<20>(entries, bodies),
+        Edition::Second => put_entries::<24>(entries, bodies),
     }
     Ok(length)
 }
 
-/// The writer's checks.
-fn check_parts(rows: &[u32], words: &[u32]) -> Result<(), Refusal> {
+/// Writes head and rows.
+fn put_contents(opening: &[u8; 4], rows: &[u32], contents: &mut [u8], size: usize) {
+    let mut offset = contents.len() as u32;
+    let (head, contents) = contents.split_at_mut(HEAD);
+    head[..4].copy_from_slice(opening);
+    head[4..].copy_from_slice(&[rows.len() as u8, 0, 0, 0]);
+    for (target, word) in contents.as_chunks_mut().0.iter_mut().zip(rows) {
+        let both: u64 = u64::from(*word) | u64::from(offset) << 32;
+        *target = both.to_le_bytes();
+        offset += (*word >> 24) * size as u32;
+    }
+}
+
+/// Writes as many words of each entry as its N bytes have.
+fn put_entries<const N: usize>(entries: &[Words], bodies: &mut [u8]) {
+    for (target, words) in bodies.as_chunks_mut::<N>().0.iter_mut().zip(entries) {
+        for (bytes, word) in target.as_chunks_mut().0.iter_mut().zip(words) {
+            *bytes = word.to_le_bytes();
+        }
+    }
+}
+
+/// The writer's checks; returns the entries.
+fn check_parts<'a>(
+    edition: Edition,
+    rows: &[u32],
+    words: &'a [u32],
+) -> Result<&'a [Words], Refusal> {
     if rows.is_empty() || rows.len() > MOST_NODES {
         return Err(Refusal::plain(COUNT));
     }
@@ -194,25 +248,43 @@ fn check_parts(rows: &[u32], words: &[u32]) -> Result<(), Refusal> {
         least = u32::from(row.number) + 1;
         total += row.count;
     }
-    if words.len() != total * 5 {
+    if words.len() != total * 6 {
         return Err(Refusal::plain(LENGTH));
     }
     let entries: &[Words] = words.as_chunks().0;
-    if entries.iter().all(Entry::holds) {
-        return Ok(());
+    let hold = match edition {
+        Edition::First => entries
+            .iter()
+            .all(|entry| refusal_in_first(entry).is_none()),
+        Edition::Second => entries.iter().all(Entry::holds),
+    };
+    match hold {
+        true => Ok(entries),
+        false => Err(refusal_of_parts(edition, rows, entries)),
     }
-    Err(refusal_of_parts(rows, entries))
+}
+
+/// The number of an entry's refusal, if it can't be written in the first
+/// edition, which has no room for J.
+fn refusal_in_first(entry: &Words) -> Option<u8> {
+    let jitter = (entry.jitter() > 0).then_some(JITTER);
+    entry.refusal().or(jitter)
 }
 
 /// The refusal of the first bad entry.
 #[cold]
-fn refusal_of_parts(rows: &[u32], mut entries: &[Words]) -> Refusal {
+fn refusal_of_parts(edition: Edition, rows: &[u32], entries: &[Words]) -> Refusal {
+    let mut rest = entries.iter();
     for (row, word) in rows.iter().enumerate() {
-        let (own, behind) = entries.split_at(Row::of(*word).count);
-        if let Some(refusal) = refusal_in(own, row) {
-            return refusal;
+        for (at, entry) in rest.by_ref().take(Row::of(*word).count).enumerate() {
+            let number = match edition {
+                Edition::First => refusal_in_first(entry),
+                Edition::Second => entry.refusal(),
+            };
+            if let Some(number) = number {
+                return Refusal::at_entry(number, row, at);
+            }
         }
-        entries = behind;
     }
     unreachable!("an entry is outside the limits")
 }

@@ -1,10 +1,11 @@
 //! The listing of a plan file.
 
-use super::entry::{Bytes, Entry};
-use super::file::{Plan, Row};
+use super::entry::{Entry, FirstBytes, InFile, SecondBytes};
+use super::file::{edition_of, Plan, Row};
 use super::map::Groups;
 use super::text::Text;
 use super::timing::{runs_of, Test};
+use crate::model::Edition;
 use crate::refusal::{Refusal, BUFFER};
 use crate::timing::Timing;
 
@@ -12,7 +13,14 @@ use crate::timing::Timing;
 /// does not fit, the buffer is left as it was.
 #[inline(never)]
 pub fn list(file: &[u8], out: &mut [u8]) -> Result<usize, Refusal> {
-    let plan = Plan::of(file);
+    match edition_of(file) {
+        Ok(Edition::First) => list_plan(Plan::<FirstBytes>::of(file), out),
+        Ok(Edition::Second) => list_plan(Plan::<SecondBytes>::of(file), out),
+        Err(refusal) => list_plan::<FirstBytes>(Err(refusal), out),
+    }
+}
+
+fn list_plan<E: InFile>(plan: Result<Plan<E>, Refusal>, out: &mut [u8]) -> Result<usize, Refusal> {
     if out.len() >= most_text(&plan) {
         return put_listing(plan, out).ok_or(Refusal::plain(BUFFER));
     }
@@ -24,7 +32,7 @@ pub fn list(file: &[u8], out: &mut [u8]) -> Result<usize, Refusal> {
 }
 
 /// A bound on the listing's length.
-fn most_text(plan: &Result<Plan, Refusal>) -> usize {
+fn most_text<E: InFile>(plan: &Result<Plan<E>, Refusal>) -> usize {
     match plan {
         Ok(plan) => 9 + 29 * plan.node_count() + 56 * plan.entry_count(),
         Err(_) => 64,
@@ -32,7 +40,7 @@ fn most_text(plan: &Result<Plan, Refusal>) -> usize {
 }
 
 /// The text's length, if it fits.
-fn put_listing(plan: Result<Plan, Refusal>, out: &mut [u8]) -> Option<usize> {
+fn put_listing<E: InFile>(plan: Result<Plan<E>, Refusal>, out: &mut [u8]) -> Option<usize> {
     let mut text = Text::new(out);
     match plan {
         Ok(plan) => {
@@ -52,7 +60,7 @@ fn put_listing(plan: Result<Plan, Refusal>, out: &mut [u8]) -> Option<usize> {
     Some(text.length())
 }
 
-fn put_node(text: &mut Text, row: Row, entries: &[Bytes]) -> Option<()> {
+fn put_node<E: Entry>(text: &mut Text, row: Row, entries: &[E]) -> Option<()> {
     text.put_field(b"node ", u32::from(row.number))?;
     let Some(groups) = Groups::of(entries, row.levels) else {
         return text.put(b" no map\n");
@@ -69,7 +77,7 @@ fn put_node(text: &mut Text, row: Row, entries: &[Bytes]) -> Option<()> {
 }
 
 /// The lines of the entries from `first` on.
-fn put_group(text: &mut Text, entries: &[Bytes], first: usize, level: u32) -> Option<()> {
+fn put_group<E: Entry>(text: &mut Text, entries: &[E], first: usize, level: u32) -> Option<()> {
     let runs = runs_of(entries);
     for (i, entry) in entries.iter().enumerate().skip(first) {
         let timing = Test::new(entries, first, i, runs).completion();

@@ -1,8 +1,9 @@
 //! The map of a node.
 
-use super::entry::{Entry, MOST};
-use super::file::Plan;
+use super::entry::{Entry, FirstBytes, InFile, SecondBytes, MOST};
+use super::file::{edition_of, Plan};
 use super::timing::{runs_of, Test};
+use crate::model::Edition;
 use crate::refusal::{Refusal, BUFFER, NO_MAP, NO_NODE};
 
 /// The groups of a map.
@@ -46,7 +47,7 @@ impl Groups {
 /// entry is late.
 fn least_start<E: Entry>(entries: &[E]) -> Option<usize> {
     let runs = runs_of(entries);
-    let late = |e: &E| u64::from(e.blocking()) + runs > u64::from(e.deadline());
+    let late = |e: &E| u64::from(e.blocking()) + runs > u64::from(e.limit());
     let mut start = entries.iter().rposition(late).map_or(0, |i| i + 1);
     'starts: while start < entries.len() {
         for i in (start..entries.len()).rev() {
@@ -78,7 +79,13 @@ pub fn map_entries<E: Entry>(entries: &[E], levels: u8, out: &mut [u8]) -> Resul
 /// Maps the node of a file with this number, and returns the levels used.
 #[inline(never)]
 pub fn map(file: &[u8], number: u16, levels: &mut [u8]) -> Result<usize, Refusal> {
-    let plan = Plan::of(file)?;
+    match edition_of(file)? {
+        Edition::First => map_in(Plan::<FirstBytes>::of(file)?, number, levels),
+        Edition::Second => map_in(Plan::<SecondBytes>::of(file)?, number, levels),
+    }
+}
+
+fn map_in<E: InFile>(plan: Plan<E>, number: u16, levels: &mut [u8]) -> Result<usize, Refusal> {
     let (row, entries) = plan
         .nodes()
         .find(|(row, _)| row.number == number)

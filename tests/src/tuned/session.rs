@@ -32,7 +32,7 @@ fn slots(session: &mut Session) -> &mut [Words] {
 /// Leaves a session with its first `count` entries, and zeros after them.
 fn clear_rest(session: &mut Session, count: usize) {
     session.count = count as u32;
-    session.words[count * 5..].fill(0);
+    session.words[count * 6..].fill(0);
 }
 
 fn check_levels(levels: u8) -> Result<(), Refusal> {

@@ -16,17 +16,18 @@ pub fn runs_of(entries: &[impl Entry]) -> u64 {
 /// needs no division.
 fn higher_level_interference(entry: &impl Entry, t: u32) -> u64 {
     let (wcet, period) = (u64::from(entry.wcet()), entry.period());
-    if t <= period {
+    let late = t + entry.jitter();
+    if late <= period {
         return wcet;
     }
-    wcet * u64::from((t + (period - 1)) / period)
+    wcet * u64::from((late + (period - 1)) / period)
 }
 
 /// What an entry on the same level as the tested one runs in `t` ticks; `calls`
 /// is that of the tested entry. Once `calls` periods are past, the count is at
 /// its limit and needs no division.
 fn same_level_interference(entry: &impl Entry, calls: u32, t: u32) -> u64 {
-    if u64::from(entry.period()) * u64::from(calls) < u64::from(t) {
+    if u64::from(entry.period()) * u64::from(calls) < u64::from(t + entry.jitter()) {
         return u64::from(entry.wcet()) * u64::from(calls + 1);
     }
     higher_level_interference(entry, t)
@@ -62,10 +63,10 @@ impl<'a, E: Entry> Test<'a, E> {
 
     /// The test, with its rounds.
     pub fn completion(&self) -> Timing {
-        let deadline = u64::from(self.own.deadline());
+        let limit = u64::from(self.own.limit());
         let mut t = self.initial_time;
         let mut rounds = 0;
-        while t <= deadline {
+        while t <= limit {
             let next = self.demand(t as u32);
             rounds += 1;
             if next == t {
@@ -76,15 +77,15 @@ impl<'a, E: Entry> Test<'a, E> {
         Timing::Late { rounds }
     }
 
-    /// Whether the entry ends by its deadline. The initial time decides, or
-    /// the demand at the deadline, or else rounds that begin as late as the
+    /// Whether the entry ends by its limit. The initial time decides, or the
+    /// demand at the limit, or else rounds that begin as late as the
     /// utilisation allows.
     pub fn is_on_time(&self) -> bool {
-        let deadline = self.own.deadline();
-        if self.initial_time > u64::from(deadline) {
+        let limit = self.own.limit();
+        if self.initial_time > u64::from(limit) {
             return false;
         }
-        self.demand(deadline) <= u64::from(deadline) || self.is_met_from(self.completion_bound())
+        self.demand(limit) <= u64::from(limit) || self.is_met_from(self.completion_bound())
     }
 
     /// The demand at `t`.
@@ -104,30 +105,34 @@ impl<'a, E: Entry> Test<'a, E> {
     }
 
     /// A time before which the demand is not met: the initial time, or a later
-    /// one if the utilisation of the more urgent entries with T < D shows it.
+    /// one if the utilisation of the more urgent entries that are released
+    /// again before the limit shows it. What they run for their jitter is cut
+    /// where it already misses the limit, before it passes 64 bits.
     fn completion_bound(&self) -> u64 {
-        let deadline = self.own.deadline();
-        let (mut utilisation, mut runs) = (0, 0);
+        let limit = self.own.limit();
+        let most = FULL_UTILISATION * u64::from(limit);
+        let (mut utilisation, mut runs, mut jitter) = (0, 0, 0);
         for entry in self.urgent {
-            if entry.period() < deadline {
-                utilisation +=
-                    FULL_UTILISATION * u64::from(entry.wcet()) / u64::from(entry.period());
+            if limit + entry.jitter() > entry.period() {
+                let part = FULL_UTILISATION * u64::from(entry.wcet()) / u64::from(entry.period());
+                utilisation += part;
                 runs += u64::from(entry.wcet());
+                jitter += (part * u64::from(entry.jitter())).min(most - jitter);
             }
         }
-        if utilisation >= FULL_UTILISATION {
-            return u64::from(deadline) + 1;
+        let once = FULL_UTILISATION * (self.initial_time - runs);
+        if utilisation >= FULL_UTILISATION || jitter > most - once {
+            return u64::from(limit) + 1;
         }
-        let by_utilisation = (FULL_UTILISATION * (self.initial_time - runs))
-            .div_ceil(FULL_UTILISATION - utilisation);
+        let by_utilisation = (once + jitter).div_ceil(FULL_UTILISATION - utilisation);
         by_utilisation.max(self.initial_time)
     }
 
-    /// Whether the demand is met by the deadline, by rounds from `t`; it must
-    /// not be met before `t`.
+    /// Whether the demand is met by the limit, by rounds from `t`; it must not
+    /// be met before `t`.
     fn is_met_from(&self, mut t: u64) -> bool {
-        let deadline = u64::from(self.own.deadline());
-        while t <= deadline {
+        let limit = u64::from(self.own.limit());
+        while t <= limit {
             let next = self.demand(t as u32);
             if next <= t {
                 return true;

@@ -7,20 +7,22 @@ use oracle::gen::buffers::known;
 use oracle::gen::damage::{damage, AIMS};
 use oracle::gen::plans;
 use oracle::map::map_node;
-use oracle::model::{Entry, Plan};
+use oracle::model::{Edition, Entry, Plan};
 use oracle::options::{rng, times};
-use oracle::refusal::{Refusal, BUFFER, FULL, KIND, NO_MAP, NO_NODE, POSITION, TICKS};
+use oracle::refusal::{Refusal, BUFFER, FULL, JITTER, KIND, NO_MAP, NO_NODE, POSITION, TICKS};
 use oracle::session::Session;
 
 #[test]
 fn mapping_a_file_checks_file_then_9_10_11() {
     let mut rng = rng(80);
     // Case F has no map: without an earlier fault the answer is 11.
-    let plan = Plan {
-        nodes: vec![cases::f()],
-    };
-    let good = encode(&plan).unwrap();
-    for aim in AIMS {
+    for (edition, aim) in Edition::BOTH
+        .into_iter()
+        .flat_map(|e| AIMS.map(|aim| (e, aim)))
+    {
+        let nodes = vec![cases::f()];
+        let plan = Plan { edition, nodes };
+        let good = encode(&plan).unwrap();
         let bad = damage(&mut rng, &plan, &[aim]);
         for number in [7, 8, 65_536 + 7] {
             for room in [0, 2, 3, 9] {
@@ -79,6 +81,20 @@ const BAD_BOTH: Entry = Entry {
     kind: 3,
     ..BAD_TICKS
 };
+const BAD_JITTER: Entry = GOOD.jittered(900);
+const LATEST: Entry = GOOD.jittered(899);
+/// Entries that meet none of 7, 8 and 14, one of them, two, and all.
+const ENTRIES: [Entry; 9] = [
+    GOOD,
+    LATEST,
+    BAD_JITTER,
+    BAD_TICKS,
+    BAD_TICKS.jittered(u32::MAX as u64),
+    BAD_KIND,
+    BAD_KIND.jittered(900),
+    BAD_BOTH,
+    BAD_BOTH.jittered(1),
+];
 
 /// A session with `count` good entries.
 fn session_of(count: usize) -> Session {
@@ -91,18 +107,20 @@ fn session_of(count: usize) -> Session {
 
 /// The expected refusal of an entry at this position of a session.
 fn of_entry(entry: Entry, position: usize) -> Option<Refusal> {
-    match (entry == GOOD, entry.kind) {
-        (true, _) => None,
-        (false, 3) => Some(Refusal::at_entry(KIND, 0, position)),
-        (false, _) => Some(Refusal::at_entry(TICKS, 0, position)),
-    }
+    let number = match entry {
+        GOOD | LATEST => return None,
+        Entry { kind: 3, .. } => KIND,
+        Entry { c: 6, .. } => TICKS,
+        _ => JITTER,
+    };
+    Some(Refusal::at_entry(number, 0, position))
 }
 
 #[test]
-fn insert_checks_12_13_7_8() {
+fn insert_checks_12_13_7_8_14() {
     for count in [0, 1, 63, 64] {
         for position in [0, count / 2, count, count + 1, 64, 65, usize::MAX] {
-            for entry in [GOOD, BAD_TICKS, BAD_KIND, BAD_BOTH] {
+            for entry in ENTRIES {
                 let mut session = session_of(count);
                 let due = if position > count {
                     Some(Refusal::plain(POSITION))
@@ -120,10 +138,10 @@ fn insert_checks_12_13_7_8() {
 }
 
 #[test]
-fn replace_checks_12_7_8() {
+fn replace_checks_12_7_8_14() {
     for count in [0, 1, 64] {
         for position in [0, count / 2, count, count + 1, 64, usize::MAX] {
-            for entry in [GOOD, BAD_TICKS, BAD_KIND, BAD_BOTH] {
+            for entry in ENTRIES {
                 let mut session = session_of(count);
                 let due = if position >= count {
                     Some(Refusal::plain(POSITION))
@@ -131,7 +149,8 @@ fn replace_checks_12_7_8() {
                     of_entry(entry, position)
                 };
                 assert_eq!(session.replace(position, entry).err(), due);
-                assert_eq!(session, session_of(count));
+                let unchanged = session == session_of(count);
+                assert_eq!(unchanged, due.is_some() || entry == GOOD);
             }
         }
     }

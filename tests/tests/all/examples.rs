@@ -83,7 +83,7 @@ fn change_line(name: &str, answer: Result<(), Refusal>) -> String {
 }
 
 /// Case P, then case R, then R without its second task and with one level, then
-/// refused changes.
+/// with jitter, then refused changes.
 #[test]
 fn c_session() {
     let program = compiled_c("examples/session.c", "session_c");
@@ -96,6 +96,10 @@ fn c_session() {
     due += &change_line("remove", session.remove(1));
     due += &change_line("set levels", session.set_levels(1));
     due += &(map_line(&session) + &time_line(&session));
+    let late = |j| cases::r().entries[2].jittered(j);
+    due += &change_line("replace", session.replace(1, late(49)));
+    due += &map_line(&session);
+    due += &change_line("replace", session.replace(1, late(70)));
     due += &change_line("insert", session.insert(1, Entry::task(4, 6, 10, 5)));
     due += &change_line("remove", session.remove(2));
     due += &change_line("set levels", session.set_levels(0));
@@ -103,13 +107,16 @@ fn c_session() {
     assert_eq!(String::from_utf8_lossy(&text), due);
 }
 
-/// The example writes case P, byte for byte.
+/// The example writes case P in either edition, byte for byte.
 #[test]
 fn c_write() {
     let program = compiled_c("examples/write.c", "write_c");
     let (file, ended) = run(&program, &[], Duration::ZERO);
     assert!(ended);
     assert_eq!(file, cases::file(cases::p()));
+    let second = Command::new(&program).arg("2").output().unwrap();
+    assert!(second.status.success());
+    assert_eq!(second.stdout, cases::second_file(cases::p()));
 }
 
 /// The examples call every function that the header declares.

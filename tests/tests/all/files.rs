@@ -1,12 +1,14 @@
 //! Plan files: which are accepted, and which refusal comes first.
 
 use oracle::cases;
-use oracle::file::{check, contents_end, decode, encode, read, write, ENTRY_BYTES};
+use oracle::file::{
+    check, contents_end, decode, edition_of, encode, entry_length, read, write, SECOND_ENTRY,
+};
 use oracle::gen::damage::{byte_changes, damage, truncations, Aim, AIMS};
 use oracle::gen::plans;
-use oracle::model::{Entry, Plan, Row};
+use oracle::model::{Edition, Entry, Plan, Row};
 use oracle::options::{rng, times};
-use oracle::refusal::{Refusal, COUNT, CUT_OFF, KIND, LENGTH, OFFSET, OPENING, ROW, TICKS};
+use oracle::refusal::{Refusal, COUNT, CUT_OFF, JITTER, KIND, LENGTH, OFFSET, OPENING, ROW, TICKS};
 use oracle::rng::Rng;
 
 /// Any plan, often a small one.
@@ -31,8 +33,10 @@ fn generated_plans_are_accepted_and_come_back() {
         assert_eq!(decode(&file).unwrap(), plan);
         assert_eq!(encode(&decode(&file).unwrap()).unwrap(), file);
     }
-    let longest = plans::longest(&mut rng);
-    assert_eq!(decode(&encode(&longest).unwrap()).unwrap(), longest);
+    for edition in Edition::BOTH {
+        let longest = plans::longest_in(&mut rng, edition);
+        assert_eq!(decode(&encode(&longest).unwrap()).unwrap(), longest);
+    }
 }
 
 #[test]
@@ -40,7 +44,8 @@ fn parts_come_back() {
     let mut rng = rng(61);
     for _ in 0..times(200) {
         let plan = draw(&mut rng);
-        assert_eq!(Plan::from_parts(&plan.rows(), &plan.entries()), plan);
+        let parts = Plan::from_parts(plan.edition, &plan.rows(), &plan.entries());
+        assert_eq!(parts, plan);
     }
 }
 
@@ -102,7 +107,7 @@ fn truncation_at_every_length() {
 }
 
 /// Case P, an empty node, and a node with a section.
-fn three_nodes() -> Plan {
+fn three_nodes(edition: Edition) -> Plan {
     let section = Entry {
         kind: 2,
         ..Entry::task(9, 3, 300, 200).blocked(5)
@@ -110,17 +115,17 @@ fn three_nodes() -> Plan {
     let mut nodes = vec![cases::p(), cases::e(), cases::node(1, &[section])];
     nodes[1].number = 300;
     nodes[2].number = 301;
-    Plan { nodes }
+    Plan { edition, nodes }
 }
 
 #[test]
 fn one_byte_changed_at_every_place_to_every_value() {
     let mut accepted = 0;
     for plan in [
-        Plan {
-            nodes: vec![cases::p()],
-        },
-        three_nodes(),
+        Plan::first(vec![cases::p()]),
+        Plan::second(vec![cases::jittered(cases::p(), 2, 12)]),
+        three_nodes(Edition::First),
+        three_nodes(Edition::Second),
     ] {
         let file = encode(&plan).unwrap();
         let mut files = 0;
@@ -135,14 +140,18 @@ fn one_byte_changed_at_every_place_to_every_value() {
         }
         assert_eq!(files, file.len() * 255);
     }
-    assert!(accepted > 1_000, "{accepted}");
+    assert!(accepted > 2_500, "{accepted}");
 }
 
 /// The refusals that a change of this one byte may cause.
 fn possible_numbers(plan: &Plan, at: usize) -> &'static [u8] {
     let contents = contents_end(plan.nodes.len());
-    if at < 4 {
+    if at < 3 {
         return &[OPENING];
+    }
+    if at < 4 {
+        // In the other edition the second body, or the end, lies elsewhere.
+        return &[OPENING, OFFSET, LENGTH];
     }
     if at < 8 {
         // Another count moves the bodies, or promises more contents.
@@ -155,9 +164,12 @@ fn possible_numbers(plan: &Plan, at: usize) -> &'static [u8] {
             _ => &[OFFSET],
         };
     }
-    match (at - contents) % ENTRY_BYTES {
+    match (at - contents) % entry_length(plan.edition) {
         0 | 1 => &[],
         2 | 3 => &[KIND],
+        // Another C or D may leave too little room for J.
+        4..8 | 12..16 => &[TICKS, JITTER],
+        20.. => &[JITTER],
         _ => &[TICKS],
     }
 }
@@ -174,10 +186,14 @@ fn writes_back(file: &[u8]) -> bool {
             entries: row[3],
         })
         .collect();
+    let Some(edition) = edition_of(file) else {
+        return false;
+    };
     let bodies = file.get(contents_end(rows.len())..).unwrap_or(&[]);
-    let entries: Vec<Entry> = bodies.chunks_exact(ENTRY_BYTES).map(entry_of).collect();
+    let bodies = bodies.chunks_exact(entry_length(edition));
+    let entries: Vec<Entry> = bodies.map(entry_of).collect();
     let mut written = vec![0; file.len()];
-    write(&rows, &entries, &mut written) == Ok(file.len()) && written == file
+    write(edition.number(), &rows, &entries, &mut written) == Ok(file.len()) && written == file
 }
 
 fn entry_of(bytes: &[u8]) -> Entry {
@@ -190,6 +206,11 @@ fn entry_of(bytes: &[u8]) -> Entry {
         t: ticks(8),
         d: ticks(12),
         b: ticks(16),
+        j: if bytes.len() == SECOND_ENTRY {
+            ticks(20)
+        } else {
+            0
+        },
     }
 }
 
@@ -211,7 +232,7 @@ const FILL_ROW: Row = Row {
     levels: 9,
     entries: 9,
 };
-const FILL: Entry = Entry::task(9, 9, 9, 9);
+const FILL: Entry = Entry::task(9, 9, 9, 9).jittered(9);
 
 #[test]
 fn reader_fills_from_the_start_and_keeps_the_rest() {
@@ -224,7 +245,7 @@ fn reader_fills_from_the_start_and_keeps_the_rest() {
             let mut rows = vec![FILL_ROW; row_count + more];
             let mut entries = vec![FILL; entry_count + more];
             let answer = read(&file, &mut rows, &mut entries);
-            assert_eq!(answer, Ok((row_count, entry_count)));
+            assert_eq!(answer, Ok((row_count, entry_count, plan.edition)));
             assert_eq!(rows, [plan.rows(), vec![FILL_ROW; more]].concat());
             assert_eq!(entries, [plan.entries(), vec![FILL; more]].concat());
         }

@@ -3,10 +3,11 @@
 use oracle::file::encode;
 use oracle::gen::budget::{fits, rounds_ceiling, ROUNDS};
 use oracle::gen::entries::{self, wide_passes_after_narrow};
+use oracle::gen::jitter::{most, third, Jitter};
 use oracle::gen::plans;
 use oracle::gen::sessions::{LONG, MANY};
 use oracle::map::map_entries;
-use oracle::model::{Entry, Node, Plan, MAX_R, MAX_TICKS, SECTION};
+use oracle::model::{Edition, Entry, Node, Plan, MAX_R, MAX_TICKS, SECTION};
 use oracle::options::{rng, times};
 use oracle::rng::Rng;
 use oracle::timing::completion;
@@ -14,7 +15,8 @@ use std::io::Write;
 
 type Draw = fn(&mut Rng) -> Plan;
 
-const ALL: [(&str, Draw); 10] = [
+const ALL: [(&str, Draw); 11] = [
+    ("queued", plans::queued),
     ("small", plans::small),
     ("wide", plans::wide),
     ("tight", plans::tight),
@@ -56,9 +58,11 @@ fn the_ceiling_is_one() {
         let count = rng.count(1, 12);
         let entries = match rng.below(3) {
             0 => entries::realistic(&mut rng, count),
-            1 => entries::at_limits(&mut rng, count.min(6)),
+            1 => entries::at_limits(&mut rng, count.min(6), Jitter::Zero),
             _ => entries::scattered(&mut rng, count),
         };
+        let jitter = Jitter::draw(&mut rng);
+        let entries = jitter.put(&mut rng, entries);
         let mut levels: Vec<u8> = entries.iter().map(|_| rng.byte(1, 4)).collect();
         levels.sort();
         for i in 0..entries.len() {
@@ -192,7 +196,8 @@ fn few_draws_are_dropped() {
     let (drawn, mut dropped) = (times(1_000), 0);
     for _ in 0..drawn {
         let count = rng.count(1, 6);
-        dropped += entries::at_limits_counted(&mut rng, count).1;
+        let jitter = Jitter::draw(&mut rng);
+        dropped += entries::at_limits_counted(&mut rng, count, jitter).1;
     }
     // Not `println!`: the harness hides what passing tests print with it.
     let all = drawn + dropped;
@@ -202,4 +207,36 @@ fn few_draws_are_dropped() {
     )
     .unwrap();
     assert!(dropped * 5 < all * 3, "{dropped} of {all}");
+}
+
+/// Half of the plans are of each edition. In the second, J is 0, small, a third
+/// of the period, and at its limit.
+#[test]
+fn both_editions_and_every_jitter_are_met() {
+    let any = ALL.into_iter().filter(|(name, _)| *name != "queued");
+    for (part, (name, draw)) in (128..).zip(any) {
+        let plans = drawn(part, times(60), draw);
+        let (second, first): (Vec<Plan>, Vec<Plan>) = plans
+            .into_iter()
+            .partition(|plan| plan.edition == Edition::Second);
+        let least = times(60) / 4;
+        assert!(
+            first.len() as u64 > least && second.len() as u64 > least,
+            "{name}"
+        );
+        assert!(first.iter().all(Plan::is_punctual), "{name}");
+        let all: Vec<Entry> = second.iter().flat_map(Plan::entries).collect();
+        for what in [
+            |e: &Entry| e.j == 0 && e.d > e.c,
+            |e: &Entry| e.j == 1 && e.d > e.c + 1,
+            |e: &Entry| e.j > 0 && e.j == third(e),
+            |e: &Entry| e.j > 0 && e.j == most(e),
+        ] {
+            assert!(all.iter().any(what), "{name}");
+        }
+        assert!(
+            second.iter().any(Plan::is_punctual) || name != "small",
+            "{name}"
+        );
+    }
 }

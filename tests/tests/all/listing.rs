@@ -2,12 +2,12 @@
 
 use oracle::cases::{self, P_LISTING};
 use oracle::ffi;
-use oracle::file::{encode, LONGEST};
+use oracle::file::{encode, longest};
 use oracle::gen::damage::{damage, AIMS};
 use oracle::gen::plans;
 use oracle::lent::words_of;
 use oracle::listing::{list, MAX_INPUT};
-use oracle::model::{Entry, Node, Plan};
+use oracle::model::{Edition, Entry, Node, Plan};
 use oracle::options::{rng, times};
 use oracle::session::Session;
 use oracle::timing::Timing;
@@ -41,6 +41,26 @@ fn file_of_case_p() {
 }
 
 #[test]
+fn file_of_case_p_in_the_second_edition() {
+    let bytes: Vec<u8> = [
+        &[0x4C, 0x4D, 0x50, 0x32, 1, 0, 0, 0][..],
+        &[7, 0, 2, 3, 16, 0, 0, 0],
+        &[1, 0, 1, 0, 20, 0, 0, 0, 100, 0, 0, 0],
+        &[100, 0, 0, 0, 0, 0, 0, 0, 0, 0, 0, 0],
+        &[2, 0, 1, 0, 30, 0, 0, 0, 145, 0, 0, 0],
+        &[145, 0, 0, 0, 0, 0, 0, 0, 0, 0, 0, 0],
+        &[3, 0, 1, 0, 68, 0, 0, 0, 150, 0, 0, 0],
+        &[150, 0, 0, 0, 0, 0, 0, 0, 12, 0, 0, 0],
+    ]
+    .concat();
+    let file = cases::second_file(cases::jittered(cases::p(), 2, 12));
+    assert_eq!(file, bytes);
+    // The completion time is listed without J.
+    assert_eq!(list(&file), P_LISTING);
+    assert_eq!(list(&cases::second_file(cases::p())), P_LISTING);
+}
+
+#[test]
 fn node_without_a_map() {
     assert_eq!(list(&cases::file(cases::f())), "plan 1\nnode 7 no map\n");
 }
@@ -66,7 +86,9 @@ node 65535 levels 1 of 2
 entry 1 level 1 time 5 rounds 1
 entry 2 level 1 time 16 rounds 2
 ";
-    assert_eq!(list(&encode(&Plan { nodes }).unwrap()), expected);
+    for plan in [Plan::first(nodes.clone()), Plan::second(nodes)] {
+        assert_eq!(list(&encode(&plan).unwrap()), expected);
+    }
 }
 
 #[test]
@@ -76,6 +98,9 @@ fn refused_line() {
     file[16 + 20 + 4] = 6;
     assert_eq!(list(&file), "refused 8 row 0 entry 1\n");
     assert_eq!(list(&[]), "refused 1 row 0 entry 0\n");
+    let mut file = cases::second_file(cases::node(1, &good));
+    file[16 + 24 + 20] = 1;
+    assert_eq!(list(&file), "refused 14 row 0 entry 1\n");
 }
 
 /// The listing of case P's file after `edit`, padded with zeros to `length`.
@@ -99,7 +124,7 @@ fn longest_input_and_one_byte_more() {
         assert_eq!(count, "refused 3 row 0 entry 0\n");
     }
     // No plan file comes near the program's limit.
-    assert_eq!(LONGEST, 41_224);
+    assert_eq!(Edition::BOTH.map(longest), [41_224, 49_416]);
 }
 
 /// A node's lines, made from other calls of the proved library.

@@ -2,6 +2,7 @@
 //! assignments.
 
 use oracle::assignments::{all_assignments, different_levels, fewest_levels, is_map};
+use oracle::gen::jitter::Jitter;
 use oracle::gen::{entries, plans};
 use oracle::map::{by_groupings, by_groups, map_entries, passes};
 use oracle::model::{Entry, Node, Plan};
@@ -10,13 +11,18 @@ use oracle::rng::Rng;
 
 /// Entries of any kind that a small node may have.
 fn draw(rng: &mut Rng, count: usize) -> Vec<Entry> {
-    match rng.below(5) {
+    let jitter = match rng.chance(1, 2) {
+        true => Jitter::Zero,
+        false => Jitter::draw(rng),
+    };
+    let entries = match rng.below(5) {
         0 => entries::tiny(rng, count),
         1 => entries::scattered(rng, count),
         2 => entries::realistic(rng, count),
-        3 => entries::at_limits(rng, count),
-        _ => entries::wide(rng, count.max(2)),
-    }
+        3 => return entries::at_limits(rng, count, jitter),
+        _ => return entries::wide(rng, count.max(2), jitter),
+    };
+    jitter.put(rng, entries)
 }
 
 fn assert_both_ways_agree(entries: &[Entry], levels: u8) {

@@ -3,36 +3,38 @@
 
 use oracle::cases;
 use oracle::compare;
-use oracle::gen::odd::{many_rounds, near_one, FAMILIES, JUST_LATE};
+use oracle::gen::jitter::Jitter;
+use oracle::gen::odd::{many_rounds, near_one, with_thirds, FAMILIES, JUST_LATE, LATE_STARTS};
 use oracle::map::by_groups;
 use oracle::model::Entry;
 use oracle::options::{rng, times};
 use oracle::tally::Tally;
-use oracle::timing::{completion, completion_in_group, Timing};
+use oracle::timing::{completion, completion_in_group, demand, group_levels, limit, Timing};
 use std::io::Write;
 
 /// Whether the utilisation shows that the entry at `i` is late in the group
 /// from `start` to the last entry. It computes exactly, in integers, and
 /// without a round.
 ///
-/// For t ≤ D its demand W(t) is at least K + U t. K is its blocking, plus C of
-/// each entry of the group, plus C of each entry before the group with T ≥ D.
-/// U is the utilisation of the other entries before the group. So W(t) ≤ t
-/// gives K ≤ (1 - U) t. If U < 1, then K ≤ (1 - U) D. If U ≥ 1, there is no
-/// such t, because K > 0.
+/// Let L be its limit, D - J. For t ≤ L its demand W(t) is at least K + V + U t.
+/// K is its blocking, plus C of each entry of the group, plus C of each entry
+/// before the group with T ≥ L + J. U is the utilisation of the other entries
+/// before the group, and V the sum of J times the utilisation of each of them.
+/// So W(t) ≤ t gives K + V ≤ (1 - U) t. If U < 1, then K + V ≤ (1 - U) L. If
+/// U ≥ 1, there is no such t, because K > 0.
 fn surely_late(entries: &[Entry], start: usize, i: usize) -> bool {
     let own = &entries[i];
-    let (short, long): (Vec<&Entry>, Vec<&Entry>) =
-        entries[..start].iter().partition(|e| e.t < own.d);
+    let (short, long): (Vec<&Entry>, Vec<&Entry>) = entries[..start]
+        .iter()
+        .partition(|e| e.t < limit(own) + e.j);
     let runs = |some: &[&Entry]| some.iter().map(|e| i128::from(e.c)).sum::<i128>();
     let group: Vec<&Entry> = entries[start..].iter().collect();
     let k = i128::from(own.b) + runs(&group) + runs(&long);
     let whole = short.iter().fold(1, |whole, e| least_multiple(whole, e.t));
-    let utilisation: i128 = short
-        .iter()
-        .map(|e| i128::from(e.c) * (whole / i128::from(e.t)))
-        .sum();
-    k * whole > (whole - utilisation) * i128::from(own.d)
+    let part = |e: &Entry| i128::from(e.c) * (whole / i128::from(e.t));
+    let utilisation: i128 = short.iter().map(|e| part(e)).sum();
+    let jitter: i128 = short.iter().map(|e| part(e) * i128::from(e.j)).sum();
+    k * whole + jitter > (whole - utilisation) * i128::from(limit(own))
 }
 
 fn least_multiple(whole: i128, t: u64) -> i128 {
@@ -43,14 +45,28 @@ fn least_multiple(whole: i128, t: u64) -> i128 {
     whole / a * i128::from(t)
 }
 
+/// The last entries of the family with late starts end a tick behind their
+/// deadline.
+#[test]
+fn late_starts_are_just_late() {
+    let entries = LATE_STARTS.1();
+    let levels = group_levels(entries.len(), 5, 63);
+    let time = 205_596_847;
+    assert_eq!(demand(&entries, &levels, 63, time), time);
+    assert!(demand(&entries, &levels, 63, time - 1) > time - 1);
+    assert!(entries[5..].iter().all(|entry| entry.d == time - 1));
+}
+
 /// Wherever the last group of a map starts, one of its entries is late.
 #[test]
 fn the_families_have_no_map() {
-    for (name, entries) in FAMILIES.into_iter().chain([JUST_LATE[0]]) {
-        let entries = entries();
-        for start in 0..entries.len() {
-            let late = (start..entries.len()).any(|i| surely_late(&entries, start, i));
-            assert!(late, "{name}: {start}");
+    let families = FAMILIES.into_iter().chain([JUST_LATE[0], LATE_STARTS]);
+    for (name, entries) in families {
+        for entries in [entries(), with_thirds(entries())] {
+            for start in 0..entries.len() {
+                let late = (start..entries.len()).any(|i| surely_late(&entries, start, i));
+                assert!(late, "{name}: {start}");
+            }
         }
     }
 }
@@ -79,7 +95,11 @@ fn utilisations_near_one() {
     let (mut rng, mut tally) = (rng(260), Tally::default());
     let (mut maps, mut none, mut sure) = (0, 0, 0);
     for _ in 0..times(8_000) {
-        let entries = near_one(&mut rng);
+        let jitter = match rng.chance(1, 2) {
+            true => Jitter::Zero,
+            false => Jitter::draw(&mut rng),
+        };
+        let entries = near_one(&mut rng, jitter);
         sure += late_by_utilisation(&entries);
         let file = cases::file(cases::node(rng.pick(&[2, 3, 64]), &entries));
         let before = tally.accepted();
@@ -136,9 +156,15 @@ mod full {
     /// Seconds allowed for a listing; it takes milliseconds.
     const LIMIT: Duration = Duration::from_secs(10);
 
+    /// A family, and the same with J of a third of each period.
     fn assert_listed(family: usize) {
         let (name, entries) = FAMILIES[family];
-        let plan = full_plan(&entries());
+        assert_no_map(name, &entries());
+        assert_no_map(name, &with_thirds(entries()));
+    }
+
+    fn assert_no_map(name: &str, entries: &[Entry]) {
+        let plan = full_plan(entries);
         let file = encode(&plan).unwrap();
         let mut program = Command::new(root().join("target/bin/list_plan"));
         let (text, ended) = run_within(&mut program, &file, LIMIT);
@@ -178,5 +204,13 @@ mod full {
     #[test]
     fn load_1_by_62_entries() {
         assert_listed(4);
+    }
+
+    /// The bound by the utilisation counts J: without it, this plan would take
+    /// a hundred times the evaluations.
+    #[test]
+    fn late_starts() {
+        let (name, entries) = LATE_STARTS;
+        assert_no_map(name, &entries());
     }
 }

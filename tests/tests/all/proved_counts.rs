@@ -5,15 +5,15 @@ use oracle::cases;
 use oracle::compare;
 use oracle::compare::session::Both;
 use oracle::ffi;
-use oracle::file::{contents_end, encode, LONGEST};
+use oracle::file::{contents_end, encode, entry_length};
 use oracle::gen::buffers::known;
 use oracle::gen::lent::sound;
 use oracle::gen::places::{full_plan, offset_faults, put_entry, row_faults, with_offset, with_row};
 use oracle::lent::words_of;
 use oracle::listing::{list, MAX_INPUT};
-use oracle::model::{Entry, Plan, Row, MAX_ENTRIES, MAX_NODES, MAX_TICKS};
+use oracle::model::{Edition, Entry, Plan, Row, MAX_ENTRIES, MAX_NODES, MAX_TICKS};
 use oracle::options::rng;
-use oracle::refusal::{Refusal, COUNT, LENGTH, NO_NODE, OFFSET, POSITION, ROW};
+use oracle::refusal::{Refusal, COUNT, LENGTH, NO_NODE, OFFSET, OPENING, POSITION, ROW};
 use oracle::session::{Op, Session};
 use oracle::tally::Tally;
 use oracle::words::{self, ENTRY_WORDS};
@@ -32,20 +32,43 @@ fn empty_rows(count: usize) -> Vec<Row> {
         .collect()
 }
 
+/// Bytes that hold every plan file.
+const ROOM: usize = 49_416;
+
 /// Too many rows; truncated, some of the counts would be valid.
 #[test]
 fn rows_for_the_writer() {
     let mut tally = Tally::default();
-    for count in [33, 256, 257, 288, 512, 65_535] {
-        let rows = empty_rows(count);
-        let answer = compare::write(&mut tally, &rows, &[], LONGEST);
-        assert_eq!(answer, Err(Refusal::plain(COUNT)), "{count} rows");
-    }
     let mut rows = empty_rows(65_536);
     rows.extend(empty_rows(32));
-    for count in [65_536, 65_537, 65_568] {
-        let answer = compare::write(&mut tally, &rows[..count], &[], LONGEST);
-        assert_eq!(answer, Err(Refusal::plain(COUNT)), "{count} rows");
+    for count in [33, 256, 257, 288, 512, 65_535, 65_536, 65_537, 65_568] {
+        for edition in [1, 2] {
+            let answer = compare::write(&mut tally, edition, &rows[..count], &[], ROOM);
+            assert_eq!(answer, Err(Refusal::plain(COUNT)), "{count} rows");
+        }
+    }
+}
+
+/// Numbers of editions that do not exist; truncated, some would be valid. Check
+/// 2 comes before 3.
+#[test]
+fn editions_for_the_writer() {
+    let mut tally = Tally::default();
+    let rows = empty_rows(2);
+    for edition in 1..=2 {
+        let answer = compare::write(&mut tally, edition, &rows, &[], ROOM);
+        assert_eq!(answer, Ok(contents_end(2)), "{edition}");
+    }
+    let near = [0, 3, 4, 0x31, 0x32, 255];
+    let cut = [1 << 8, 1 << 16, 1 << 24, 1 << 31].into_iter();
+    let cut = cut.flat_map(|high| [high, high + 1, high + 2]);
+    for edition in near.into_iter().chain(cut).chain([u32::MAX]) {
+        for rows in [&rows[..], &[], &[rows[0]; 33]] {
+            for room in [0, ROOM] {
+                let answer = compare::write(&mut tally, edition, rows, &[], room);
+                assert_eq!(answer, Err(Refusal::plain(OPENING)), "{edition}");
+            }
+        }
     }
 }
 
@@ -54,48 +77,52 @@ fn rows_for_the_writer() {
 #[test]
 fn entries_for_the_writer() {
     let mut tally = Tally::default();
-    for plan in [one(&cases::p().entries), full_plan(&mut rng(320))] {
-        let rows = plan.rows();
+    for plan in plans(320) {
+        let (edition, rows) = (plan.edition.number(), plan.rows());
         for more in [256, 65_536] {
             let mut entries = plan.entries();
             entries.resize(entries.len() + more, entries[0]);
-            let answer = compare::write(&mut tally, &rows, &entries, LONGEST);
+            let answer = compare::write(&mut tally, edition, &rows, &entries, ROOM);
             assert_eq!(answer, Err(Refusal::plain(LENGTH)), "{more} more");
             let mut words = words::of_entries(&plan.entries());
             words.resize(words.len() + more, 1);
-            let mut file = known(LONGEST);
-            let answer = ffi::write(&words::of_rows(&rows), &words, &mut file);
+            let mut file = known(ROOM);
+            let answer = ffi::write(edition, &words::of_rows(&rows), &words, &mut file);
             assert_eq!(answer, Err(Refusal::plain(LENGTH)), "{more} words more");
-            assert_eq!(file, known(LONGEST));
+            assert_eq!(file, known(ROOM));
         }
+        // Five words an entry, as before entries had a J.
+        let words = &words::of_entries(&plan.entries())[..plan.entries().len() * 5];
+        let answer = ffi::write(edition, &words::of_rows(&rows), words, &mut known(ROOM));
+        assert_eq!(answer, Err(Refusal::plain(LENGTH)));
         for given in [plan.entries().len().saturating_sub(256), 0] {
             let entries = &plan.entries()[..given];
-            let answer = compare::write(&mut tally, &rows, entries, LONGEST);
+            let answer = compare::write(&mut tally, edition, &rows, entries, ROOM);
             assert_eq!(answer, Err(Refusal::plain(LENGTH)), "{given} entries");
         }
     }
 }
 
-fn one(entries: &[Entry]) -> Plan {
-    Plan {
-        nodes: vec![cases::node(2, entries)],
-    }
+/// Case P and a full plan, in both editions.
+fn plans(part: u64) -> [Plan; 4] {
+    let [first, second] = Edition::BOTH.map(|edition| full_plan(&mut rng(part), edition));
+    let p = || vec![cases::p()];
+    [Plan::first(p()), Plan::second(p()), first, second]
 }
 
 /// Plans padded with zeros; truncated, most of the lengths would be right.
 #[test]
 fn padded_files() {
     let mut tally = Tally::default();
-    let full = full_plan(&mut rng(325));
-    let (p, full) = (cases::file(cases::p()), encode(&full).unwrap());
-    assert_eq!((p.len(), full.len()), (76, LONGEST));
+    let files = plans(325).map(|plan| encode(&plan).unwrap());
+    assert_eq!(files.each_ref().map(Vec::len), [76, 88, 41_224, 49_416]);
     for more in [1, 256, 65_536, 131_072, 1 << 24] {
-        for (file, number) in [(&p, 7), (&full, 100)] {
+        for (file, number) in files.iter().zip([7, 7, 100, 100]) {
             let mut file = file.clone();
             file.resize(file.len() + more, 0);
             let due = Refusal::plain(LENGTH);
             assert_eq!(compare::check(&mut tally, &file), Err(due), "{more} more");
-            compare::read(&mut tally, &file, MAX_NODES, 10_240);
+            compare::read(&mut tally, &file, MAX_NODES, 12_288);
             compare::map(&mut tally, &file, number, MAX_ENTRIES);
             compare::list(&mut tally, &file);
             assert_eq!(list(&file), format!("{due}\n"));
@@ -107,24 +134,30 @@ fn padded_files() {
 /// an entry is not: 6 is checked between them.
 #[test]
 fn faults_before_the_length() {
+    for edition in Edition::BOTH {
+        faults_before_the_length_in(&full_plan(&mut rng(321), edition));
+    }
+}
+
+fn faults_before_the_length_in(plan: &Plan) {
     let mut tally = Tally::default();
-    let plan = full_plan(&mut rng(321));
     let long = |mut file: Vec<u8>| {
         file.resize(MAX_INPUT + 1, 0);
         file
     };
     for index in 0..MAX_NODES {
-        let required = contents_end(MAX_NODES) + index * MAX_ENTRIES * 20;
+        let bodies = index * MAX_ENTRIES * entry_length(plan.edition);
+        let required = contents_end(MAX_NODES) + bodies;
         let row = row_faults(plan.rows()[index], None)[0];
         let offset = offset_faults(required as u32)[16];
         let mut entry = plan.nodes[index].entries[63];
         entry.kind = 0;
-        let mut file = encode(&plan).unwrap();
-        put_entry(&mut file, index, 63, &entry);
+        let mut file = encode(plan).unwrap();
+        put_entry(plan.edition, &mut file, index, 63, &entry);
         for (file, due) in [
-            (with_row(&plan, index, &row), Refusal::at_row(ROW, index)),
+            (with_row(plan, index, &row), Refusal::at_row(ROW, index)),
             (
-                with_offset(&plan, index, offset),
+                with_offset(plan, index, offset),
                 Refusal::at_row(OFFSET, index),
             ),
             (file, Refusal::plain(LENGTH)),
@@ -141,8 +174,7 @@ fn faults_before_the_length() {
 #[test]
 fn long_buffers() {
     let mut tally = Tally::default();
-    let plan = full_plan(&mut rng(322));
-    for plan in [one(&cases::p().entries), plan] {
+    for plan in plans(322) {
         let file = encode(&plan).unwrap();
         let (rows, entries) = (plan.rows(), plan.entries());
         let words = entries.len() * ENTRY_WORDS;
@@ -158,7 +190,8 @@ fn long_buffers() {
                 compare::read(&mut tally, &file, row_room, word_room);
             }
             compare::map(&mut tally, &file, plan.nodes[0].number, more);
-            let _ = compare::write(&mut tally, &rows, &entries, more);
+            let edition = plan.edition.number();
+            let _ = compare::write(&mut tally, edition, &rows, &entries, more);
         }
         let text = list(&file);
         for room in [65_536, 131_072, 1 << 24] {
@@ -171,7 +204,7 @@ fn long_buffers() {
 #[test]
 fn no_such_node_and_no_room() {
     let mut tally = Tally::default();
-    let file = encode(&full_plan(&mut rng(323))).unwrap();
+    let file = encode(&full_plan(&mut rng(323), Edition::Second)).unwrap();
     for number in [0, 99, 101, 256 + 100, u16::MAX] {
         for room in [0, 1, 63, 64] {
             compare::map(&mut tally, &file, number, room);
@@ -228,8 +261,8 @@ const TICKS: [u64; 12] = [
     u32::MAX as u64,
 ];
 
-/// Every combination of these as C, T, D and B, in a file, for the writer and
-/// in a session.
+/// Every combination of these as C, T, D and B, in files of both editions, for
+/// the writer and in a session.
 #[test]
 fn ticks_at_the_limits() {
     let mut tally = Tally::default();
@@ -251,14 +284,13 @@ fn ticks_at_the_limits() {
 /// Whether the entry is accepted; compares checking, reading, mapping, listing,
 /// writing and inserting it.
 fn ticks(tally: &mut Tally, both: &mut Both, entry: Entry) -> bool {
-    let mut file = cases::file(cases::node(1, &[Entry::task(1, 1, 1, 1)]));
-    file[16..].copy_from_slice(&oracle::file::entry_bytes(&entry));
-    let rows = [cases::node(1, &[entry]).row()];
-    let checked = compare::check(tally, &file).is_ok();
-    compare::read(tally, &file, 1, ENTRY_WORDS);
-    compare::map(tally, &file, 7, 1);
-    compare::list(tally, &file);
-    let written = compare::write(tally, &rows, &[entry], file.len()).is_ok();
+    let [first, second] = Edition::BOTH.map(|edition| in_a_file(tally, edition, entry));
+    let (checked, written) = second;
+    if entry.j == 0 {
+        assert_eq!(first, second, "{entry:?}");
+    } else {
+        assert!(!first.1, "{entry:?}: the first edition has no room for J");
+    }
     let inserted = both.step(tally, &Op::Insert(0, entry), 0).is_ok();
     if inserted {
         let _ = both.step(tally, &Op::Time(0, 0, 0), 0);
@@ -267,4 +299,55 @@ fn ticks(tally: &mut Tally, both: &mut Both, entry: Entry) -> bool {
     }
     assert_eq!((written, inserted), (checked, checked), "{entry:?}");
     checked
+}
+
+/// Whether a file of this entry is accepted, and whether the entry is written;
+/// compares checking, reading, mapping and listing too.
+fn in_a_file(tally: &mut Tally, edition: Edition, entry: Entry) -> (bool, bool) {
+    let nodes = vec![cases::node(1, &[Entry::task(1, 1, 1, 1)])];
+    let mut file = encode(&Plan { edition, nodes }).unwrap();
+    file[16..].copy_from_slice(&oracle::file::entry_bytes(edition, &entry));
+    let rows = [cases::node(1, &[entry]).row()];
+    let checked = compare::check(tally, &file).is_ok();
+    compare::read(tally, &file, 1, ENTRY_WORDS);
+    compare::map(tally, &file, 7, 1);
+    compare::list(tally, &file);
+    let written = compare::write(tally, edition.number(), &rows, &[entry], file.len());
+    (checked, written.is_ok())
+}
+
+/// Every combination of C, D and J around their limits: J is accepted exactly up
+/// to D - C.
+#[test]
+fn jitter_at_the_limits() {
+    let mut tally = Tally::default();
+    let mut both = Both::of(&words_of(&Session::open(1).unwrap()));
+    let top = MAX_TICKS;
+    let (mut accepted, mut refused) = (0, 0);
+    for (c, d) in [
+        (1, 1),
+        (1, 2),
+        (3, 10),
+        (9, 10),
+        (10, 10),
+        (1, 65_537),
+        (1, top),
+        (top / 2, top),
+        (top - 1, top),
+        (top, top),
+    ] {
+        let near = [0, 1, (d - c).saturating_sub(1), d - c, d - c + 1, d - c + 2];
+        let far = [d, d + 1, top, top + 1, 1 << 31, u64::from(u32::MAX)];
+        for j in near.into_iter().chain(far) {
+            for t in [d, top] {
+                let entry = Entry::task(1, c, t, d).jittered(j);
+                let inside = ticks(&mut tally, &mut both, entry);
+                assert_eq!(inside, j <= d - c, "{entry:?}");
+                accepted += u64::from(inside);
+                refused += u64::from(!inside);
+            }
+        }
+    }
+    assert!(accepted > 60 && refused > 120, "{accepted} {refused}");
+    assert!(tally.met(14) > refused, "{tally}");
 }

@@ -6,7 +6,7 @@ use oracle::compare;
 use oracle::file::encode;
 use oracle::gen::damage::{byte_changes, damage, truncations, Aim, AIMS};
 use oracle::gen::plans;
-use oracle::model::{Entry, Plan};
+use oracle::model::{Edition, Entry, Plan};
 use oracle::options::{rng, times};
 use oracle::rng::Rng;
 use oracle::tally::Tally;
@@ -34,7 +34,7 @@ fn one_fault() {
         assert_due(&mut rng, &mut tally, &[aim], times(300));
     }
     say("one fault", &tally);
-    for number in 1..=8 {
+    for number in (1..=8).chain([14]) {
         assert!(tally.met(number) >= times(300), "{number}: {tally}");
     }
 }
@@ -84,7 +84,7 @@ fn truncated_at_every_length() {
 }
 
 /// Case P, an empty node, and a node with a section.
-fn three_nodes() -> Plan {
+fn three_nodes(edition: Edition) -> Plan {
     let section = Entry {
         kind: 2,
         ..Entry::task(9, 3, 300, 200).blocked(5)
@@ -92,20 +92,25 @@ fn three_nodes() -> Plan {
     let mut nodes = vec![cases::p(), cases::e(), cases::node(1, &[section])];
     nodes[1].number = 300;
     nodes[2].number = 301;
-    Plan { nodes }
+    Plan { edition, nodes }
 }
 
 #[test]
 fn one_byte_changed_at_every_place_to_every_value() {
     let mut tally = Tally::default();
-    let p = cases::file(cases::p());
-    for file in [p, encode(&three_nodes()).unwrap()] {
+    let late = cases::jittered(cases::p(), 2, 12);
+    for file in [
+        cases::file(cases::p()),
+        cases::file(late),
+        encode(&three_nodes(Edition::First)).unwrap(),
+        encode(&three_nodes(Edition::Second)).unwrap(),
+    ] {
         for (_, changed) in byte_changes(&file) {
             compare::file(&mut tally, &changed);
         }
     }
     say("one byte changed", &tally);
-    tally.assert_maps(35_000, 8_000);
+    tally.assert_maps(70_000, 16_000);
     tally.assert_few_left_out(1_000);
 }
 
@@ -128,8 +133,10 @@ fn random_bytes_behind_a_good_head() {
 #[test]
 fn long_files() {
     let mut tally = Tally::default();
-    for length in [41_224, 41_225, 65_535, 65_536, 65_537, 200_000] {
-        for head in [&b"LMP1"[..], b"LMP2"] {
+    for length in [
+        41_224, 41_225, 49_416, 49_417, 65_535, 65_536, 65_537, 200_000,
+    ] {
+        for head in [&b"LMP1"[..], b"LMP2", b"LMP3"] {
             for count in [0, 1, 32, 33] {
                 let mut file = vec![0; length];
                 file[..4].copy_from_slice(head);
@@ -137,8 +144,9 @@ fn long_files() {
                 compare::file(&mut tally, &file);
             }
         }
-        let mut file = cases::file(cases::p());
-        file.resize(length, 0);
-        compare::file(&mut tally, &file);
+        for mut file in [cases::file(cases::p()), cases::second_file(cases::p())] {
+            file.resize(length, 0);
+            compare::file(&mut tally, &file);
+        }
     }
 }

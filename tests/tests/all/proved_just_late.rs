@@ -8,7 +8,7 @@ use oracle::compare::session::Both;
 use oracle::ffi;
 use oracle::gen::buffers::known;
 use oracle::gen::just_late::just_late;
-use oracle::gen::odd::JUST_LATE;
+use oracle::gen::odd::{with_thirds, JUST_LATE};
 use oracle::lent::words_of;
 use oracle::options::{rng, times};
 use oracle::refusal::{Refusal, NO_MAP};
@@ -17,14 +17,14 @@ use oracle::tally::Tally;
 use std::io::Write;
 
 /// With deadlines a tick before the completion time there is no map, and with
-/// deadlines at it there is one.
+/// deadlines at it there is one; also if entries start late.
 #[test]
 fn at_the_completion_time_and_a_tick_before() {
     let (mut rng, mut tally) = (rng(320), Tally::default());
     let mut least = u64::MAX;
-    for round in 0..times(12) {
+    for round in 0..times(16) {
         let early = round % 2;
-        let entries = just_late(&mut rng, early);
+        let entries = just_late(&mut rng, early, round % 4 > 1);
         let last = entries.len() - 1;
         let words = words_of(&Session::holding(64, &entries).unwrap());
         let first = entries.iter().position(|e| e.t == entries[last].t).unwrap();
@@ -45,18 +45,21 @@ fn at_the_completion_time_and_a_tick_before() {
     )
     .expect("output is open");
     assert!(least > 10_000, "{least}");
-    assert_eq!(tally.met(NO_MAP), times(6), "{tally}");
+    assert_eq!(tally.met(NO_MAP), times(8), "{tally}");
 }
 
-/// One full node of each family has no map. The second takes seconds.
+/// One full node of each family has no map, also with J of a third of each
+/// period. The second takes seconds.
 #[test]
 fn full_nodes() {
     for (name, entries) in JUST_LATE {
-        let file = cases::file(cases::node(8, &entries()));
-        let mut levels = known(64);
-        let answer = ffi::map(&file, 7, &mut levels);
-        assert_eq!(answer, Err(Refusal::plain(NO_MAP)), "{name}");
-        assert_eq!(levels, known(64), "{name}");
+        for entries in [entries(), with_thirds(entries())] {
+            let file = cases::file(cases::node(8, &entries));
+            let mut levels = known(64);
+            let answer = ffi::map(&file, 7, &mut levels);
+            assert_eq!(answer, Err(Refusal::plain(NO_MAP)), "{name}");
+            assert_eq!(levels, known(64), "{name}");
+        }
     }
 }
 

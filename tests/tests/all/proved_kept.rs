@@ -12,7 +12,7 @@ fn every_kept_file() {
     for file in &files {
         compare::file(&mut tally, file);
     }
-    assert!(files.len() >= 8, "the samples are there");
+    assert!(files.len() >= 23, "the samples are there");
 }
 
 #[test]
@@ -22,8 +22,7 @@ fn every_kept_sequence() {
     for sequence in &sequences {
         compare::session::sequence(&mut tally, sequence);
     }
-    assert!(
-        tally.met(12) > 0 && tally.met(11) > 0,
-        "case P's sequence is there"
-    );
+    for number in [11, 12, 14] {
+        assert!(tally.met(number) > 0, "case P's sequences are there");
+    }
 }

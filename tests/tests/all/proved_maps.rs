@@ -152,7 +152,7 @@ fn late_by_the_64th_entry() {
             Timing::OnTime { time, .. } => time,
             late => panic!("the block is a map: {late:?}"),
         };
-        entries[63].d = time - 1;
+        entries[63].d = time - 1 + entries[63].j;
         assert!((0..63).all(|i| completion(&entries, &[1; 64], i).is_on_time()));
         for levels in [1, 2, 64] {
             let file = cases::file(cases::node(levels, &entries));

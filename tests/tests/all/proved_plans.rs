@@ -46,6 +46,12 @@ fn tight() {
 }
 
 #[test]
+fn queued() {
+    let tally = compare_plans(318, "twice ahead on a level", 2_000, plans::queued);
+    tally.assert_maps(times(4_000), times(1_200));
+}
+
+#[test]
 fn stations() {
     let tally = compare_plans(203, "stations", 300, plans::station);
     tally.assert_maps(times(3_500), times(3_500));
@@ -103,7 +109,8 @@ fn starred_cases() {
     for case in all.into_iter().chain([cases::e as fn() -> Node]) {
         for levels in 1..=4 {
             let node = Node { levels, ..case() };
-            compare::file(&mut tally, &cases::file(node));
+            compare::file(&mut tally, &cases::file(node.clone()));
+            compare::file(&mut tally, &cases::second_file(node));
         }
         compare::file(&mut tally, &cases::file(case()));
     }

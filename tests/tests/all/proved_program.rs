@@ -8,6 +8,7 @@ use oracle::gen::damage::{damage, AIMS};
 use oracle::gen::listings::long_listing;
 use oracle::gen::plans;
 use oracle::listing::list;
+use oracle::model::Edition;
 use oracle::options::{rng, times};
 use oracle::programs::{root, run};
 use oracle::rng::Rng;
@@ -55,7 +56,7 @@ fn samples() {
         assert!(text == due, "{}", plan.display());
         seen += 1;
     }
-    assert_eq!(seen, 11);
+    assert_eq!(seen, 23);
 }
 
 #[test]
@@ -85,8 +86,10 @@ fn generated_plans() {
 #[test]
 fn the_longest_plan() {
     let mut rng = rng(231);
-    let file = encode(&plans::longest(&mut rng)).unwrap();
-    assert_listed(&pieces(&mut rng, &file, 5_000), Duration::ZERO);
+    for edition in Edition::BOTH {
+        let file = encode(&plans::longest_in(&mut rng, edition)).unwrap();
+        assert_listed(&pieces(&mut rng, &file, 5_000), Duration::ZERO);
+    }
 }
 
 /// Listings of 3,000 to 97,000 bytes, some longer than a pipe takes at once,
@@ -94,8 +97,8 @@ fn the_longest_plan() {
 #[test]
 fn long_listings() {
     let mut longest = 0;
-    for nodes in 1..=32 {
-        let file = encode(&long_listing(nodes)).unwrap();
+    for (nodes, edition) in (1..=32).zip(Edition::BOTH.into_iter().cycle()) {
+        let file = encode(&long_listing(edition, nodes)).unwrap();
         let due = list(&file);
         let (text, ended) = run(&program(), &[&file], Duration::ZERO);
         assert!(ended, "{nodes} nodes");
@@ -132,7 +135,7 @@ fn a_byte_at_a_time() {
 fn long_input() {
     let mut rng = rng(233);
     for length in [
-        41_224, 41_225, 65_535, 65_536, 65_537, 65_538, 65_612, 500_000,
+        41_224, 41_225, 49_416, 49_417, 65_535, 65_536, 65_537, 65_538, 65_612, 500_000,
     ] {
         let p = cases::file(cases::p());
         let mut opening = p.clone();
@@ -141,10 +144,10 @@ fn long_input() {
         offset[12] = 17;
         let mut kind = p.clone();
         kind[18] = 3;
-        let full = encode(&long_listing(32)).unwrap();
+        let [full, late] = Edition::BOTH.map(|edition| encode(&long_listing(edition, 32)).unwrap());
         let mut last_offset = full.clone();
         last_offset[8 + 31 * 8 + 6] ^= 1;
-        for mut file in [p, opening, offset, kind, full, last_offset] {
+        for mut file in [p, opening, offset, kind, full, late, last_offset] {
             file.resize(length, 0);
             assert_listed(&pieces(&mut rng, &file, 9_000), Duration::ZERO);
         }

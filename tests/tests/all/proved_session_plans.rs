@@ -95,7 +95,7 @@ impl Run {
 #[test]
 fn wide() {
     let run = compare_sessions(310, 200, 6, WIDE);
-    run.assert_least([700, 1_200], [2_500, 1_200], 100);
+    run.assert_least([600, 1_200], [2_500, 1_200], 100);
 }
 
 #[test]
@@ -125,7 +125,7 @@ fn at_limits() {
 
 #[test]
 fn many_entries() {
-    let run = compare_sessions(315, 100, 6, MANY);
+    let run = compare_sessions(315, 120, 6, MANY);
     run.assert_least([120, 300], [900, 900], 50);
 }
 

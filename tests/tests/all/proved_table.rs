@@ -4,6 +4,7 @@ use oracle::cases;
 use oracle::ffi::session::Session;
 use oracle::ffi::{check, list, map, write};
 use oracle::file::encode;
+use oracle::lent::SESSION_WORDS;
 use oracle::model::{Entry, Plan};
 use oracle::refusal::Refusal;
 use oracle::words;
@@ -58,15 +59,13 @@ fn example_7_kind_3() {
 #[test]
 fn example_8_c_6_d_5() {
     let entries = [Entry::task(1, 1, 9, 9), Entry::task(2, 5, 9, 5)];
-    let plan = Plan {
-        nodes: vec![cases::node(1, &entries)],
-    };
+    let plan = Plan::first(vec![cases::node(1, &entries)]);
     let mut file = encode(&plan).unwrap();
     file[16 + 20 + 4] = 6;
     assert_eq!(check(&file), Err(Refusal::at_entry(8, 0, 1)));
     let mut entries = words::of_entries(&entries);
-    entries[5 + 1] = 6;
-    let answer = write(&words::of_rows(&plan.rows()), &entries, &mut file);
+    entries[6 + 1] = 6;
+    let answer = write(1, &words::of_rows(&plan.rows()), &entries, &mut file);
     assert_eq!(answer, Err(Refusal::at_entry(8, 0, 1)));
 }
 
@@ -97,7 +96,7 @@ fn example_11_case_f() {
 
 #[test]
 fn example_12_remove_0_when_empty() {
-    let mut session = Session::of(&[0; 322]);
+    let mut session = Session::of(&[0; SESSION_WORDS]);
     session.open(3).unwrap();
     let empty = session.clone();
     assert_eq!(session.remove(0), Err(PLAIN(12)));
@@ -106,7 +105,7 @@ fn example_12_remove_0_when_empty() {
 
 #[test]
 fn example_13_65th_insert() {
-    let mut session = Session::of(&[0; 322]);
+    let mut session = Session::of(&[0; SESSION_WORDS]);
     session.open(3).unwrap();
     let entry = words::entry_words(&Entry::task(1, 1, 900, 900));
     for position in 0..64 {
@@ -117,6 +116,31 @@ fn example_13_65th_insert() {
     assert_eq!(session.insert(0, &entry), Err(PLAIN(13)));
     assert_eq!(session, full);
     assert_eq!((full.levels, full.count), (3, 64));
+}
+
+#[test]
+fn example_14_3_10_10_with_j_8() {
+    let due = Err(Refusal::at_entry(14, 0, 0));
+    let entry = Entry::task(1, 3, 10, 10);
+    let mut file = cases::second_file(cases::node(1, &[entry.jittered(7)]));
+    assert_eq!(check(&file), Ok(()));
+    file[16 + 20] = 8;
+    assert_eq!(check(&file), due);
+    let rows = words::of_rows(&[cases::node(1, &[entry]).row()]);
+    let entry_words = |j| words::entry_words(&entry.jittered(j));
+    assert_eq!(write(2, &rows, &entry_words(8), &mut file), due.map(|()| 0));
+    assert_eq!(write(2, &rows, &entry_words(7), &mut file), Ok(40));
+    // In the first edition no J above zero is written.
+    assert_eq!(write(1, &rows, &entry_words(1), &mut file), due.map(|()| 0));
+    assert_eq!(write(1, &rows, &entry_words(0), &mut file), Ok(36));
+    let mut session = Session::of(&[0; SESSION_WORDS]);
+    session.open(1).unwrap();
+    assert_eq!(session.insert(0, &entry_words(8)), due);
+    assert_eq!(session.insert(0, &entry_words(7)), Ok(()));
+    assert_eq!(session.replace(0, &entry_words(8)), due);
+    session.words[5] = 8;
+    assert_eq!(session.map(&mut [0]).map(|_| ()), due);
+    assert_eq!(session.time(0, 0, 0).map(|_| ()), due);
 }
 
 #[test]

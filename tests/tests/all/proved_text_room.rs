@@ -8,6 +8,7 @@ use oracle::file::encode;
 use oracle::gen::listings::long_listing;
 use oracle::gen::plans;
 use oracle::listing::list;
+use oracle::model::Edition;
 use oracle::options::{rng, times};
 use oracle::tally::Tally;
 
@@ -51,9 +52,11 @@ fn short_texts() {
 fn long_texts() {
     let mut tally = Tally::default();
     for nodes in [1, 16, 31, 32] {
-        assert_kept(&mut tally, &encode(&long_listing(nodes)).unwrap());
+        for edition in Edition::BOTH {
+            assert_kept(&mut tally, &encode(&long_listing(edition, nodes)).unwrap());
+        }
     }
-    let longest = list(&encode(&long_listing(32)).unwrap());
+    let longest = list(&encode(&long_listing(Edition::First, 32)).unwrap());
     assert!(
         (96_000..MOST_TEXT).contains(&longest.len()),
         "{}",

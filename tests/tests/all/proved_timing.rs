@@ -6,14 +6,15 @@ use oracle::cases;
 use oracle::compare;
 use oracle::compare::session::Both;
 use oracle::gen::extremes::{
-    first_group, five_full, high_demand, high_initial_time, many_releases, slow, slow_until, SLOW,
+    far_sums, first_group, five_full, high_demand, high_initial_time, many_releases, slow,
+    slow_and_late, until_the_last, SLOW,
 };
 use oracle::lent::words_of;
 use oracle::model::{Entry, MAX_TICKS};
 use oracle::options::{rng, times};
 use oracle::session::{Op, Reply, Session};
 use oracle::tally::Tally;
-use oracle::timing::{demand, group_levels, initial_time, Timing};
+use oracle::timing::{demand, group_levels, initial_time, limit, Timing};
 use std::io::Write;
 
 fn say(what: String) {
@@ -47,7 +48,8 @@ fn rounds_above_65_535() {
     let (mut late, mut met, mut above_12) = (0, 0, 0);
     for _ in 0..times(120) {
         let fifth = rng.pick(&[1_835, 1_850, 1_900, 2_100, 4_000, 50_000]) + rng.below(9);
-        let entries = slow_until(fifth, rng.below(40), rng.below(2));
+        let slow = rng.pick(&[slow, slow_and_late]);
+        let entries = until_the_last(slow(fifth, rng.below(40)), rng.below(2));
         match time_last(&mut tally, &entries, SLOW) {
             Timing::Late { rounds } => {
                 late = late.max(rounds);
@@ -75,7 +77,7 @@ fn rounds_above_2_to_the_22nd() {
     let mut tally = Tally::default();
     let mut rounds = Vec::new();
     for early in [0, 1] {
-        let entries = slow_until(1_807, 6, early);
+        let entries = until_the_last(slow(1_807, 6), early);
         let timing = time_last(&mut tally, &entries, SLOW);
         assert_eq!(timing.is_on_time(), early == 0);
         rounds.push(timing.rounds());
@@ -203,4 +205,62 @@ fn five_full_entries() {
     compare::map(&mut tally, &file, 7, entries.len());
     compare::list(&mut tally, &file);
     assert_eq!(tally.met(11), 1, "{tally}");
+}
+
+/// Sums t + J + T - 1 of nearly 3,000,000,000, which do not fit 31 bits, on more
+/// urgent levels and on the own level. The demand at the limit is at most the
+/// limit, or a tick more.
+#[test]
+fn sums_near_3_000_000_000() {
+    let (mut rng, mut tally) = (rng(305), Tally::default());
+    let (mut farthest, mut at_the_limit, mut late) = (0, 0, 0);
+    for round in 0..times(400) {
+        let last = rng.count(1, 8);
+        let first = if round % 2 == 0 {
+            last
+        } else {
+            rng.count(0, last)
+        };
+        let entries = far_sums(&mut rng, first, last);
+        let own = limit(&entries[last]);
+        match time_last(&mut tally, &entries, first) {
+            Timing::OnTime { time, .. } => {
+                at_the_limit += u64::from(time + 1 >= own);
+                let sum = |e: &Entry| time + e.j + e.t - 1;
+                farthest = farthest.max(entries.iter().map(sum).max().unwrap_or(0));
+            }
+            Timing::Late { rounds } => late += u64::from(rounds > 0),
+        }
+        let file = cases::file(cases::node(64, &entries));
+        compare::map(&mut tally, &file, 7, entries.len());
+        compare::list(&mut tally, &file);
+    }
+    say(format!(
+        "farthest sum {farthest}; {at_the_limit} at the limit, {late} late; {tally}"
+    ));
+    assert!(farthest > 2_999_999_990, "{farthest}");
+    assert!(
+        at_the_limit > times(100) && late > times(50),
+        "{at_the_limit} {late}"
+    );
+}
+
+/// One entry that may start nearly a period late, and one that ends at 10^9, or
+/// a tick too late: t + J + T - 1 is 2,999,999,998.
+#[test]
+fn the_farthest_sum() {
+    let mut tally = Tally::default();
+    let first = Entry::task(1, 1, MAX_TICKS, MAX_TICKS).jittered(MAX_TICKS - 1);
+    let last = Entry::task(2, 1, MAX_TICKS, MAX_TICKS).blocked(MAX_TICKS - 3);
+    let met = |rounds| Timing::OnTime {
+        time: MAX_TICKS,
+        rounds,
+    };
+    assert_eq!(time_last(&mut tally, &[first, last], 1), met(2));
+    let later = last.blocked(MAX_TICKS - 2);
+    let timing = time_last(&mut tally, &[first, later], 1);
+    assert_eq!(timing, Timing::Late { rounds: 1 });
+    // On the own level it may run twice only for an entry that calls.
+    assert_eq!(time_last(&mut tally, &[first, last.calling(1)], 0), met(2));
+    assert_eq!(time_last(&mut tally, &[first, later], 0), met(1));
 }

@@ -21,10 +21,11 @@ fn assert_due(rng: &mut Rng, tally: &mut Tally, aims: &[PartAim]) {
         words::of_entries(&parts.entries),
     );
     let mut buffer = known(parts.room);
-    let answer = ffi::write(&rows, &entries, &mut buffer);
+    let answer = ffi::write(parts.edition, &rows, &entries, &mut buffer);
     assert_eq!(answer, Err(parts.due), "{aims:?} in {plan:?}");
     assert_eq!(buffer, known(parts.room));
-    let due = compare::write(tally, &parts.rows, &parts.entries, parts.room);
+    let (edition, room) = (parts.edition, parts.room);
+    let due = compare::write(tally, edition, &parts.rows, &parts.entries, room);
     assert_eq!(due, Err(parts.due));
 }
 
@@ -47,33 +48,36 @@ fn one_to_three_faults() {
         }
     }
     writeln!(std::io::stdout(), "\nthe writer's faults: {tally}").expect("output is open");
-    for number in [3, 4, 6, 7, 8, 10] {
+    for number in [2, 3, 4, 6, 7, 8, 10, 14] {
         assert!(tally.met(number) >= times(100), "{number}: {tally}");
     }
 }
 
 /// Words that are not a whole number of entries never fit the rows, and are
-/// refused as 6; checks 3 and 4 come first.
+/// refused as 6; checks 2, 3 and 4 come first.
 #[test]
 fn a_part_of_an_entry() {
     let mut rng = rng(221);
     for _ in 0..times(500) {
         let plan = plans::filled(&mut rng);
         let aim = rng.pick(&PART_AIMS);
-        let parts = match rng.chance(1, 2) {
-            true => damage_parts(&mut rng, &plan, &[aim]).rows,
-            false => plan.rows(),
+        let (edition, parts) = match rng.chance(1, 2) {
+            true => {
+                let parts = damage_parts(&mut rng, &plan, &[aim]);
+                (parts.edition, parts.rows)
+            }
+            false => (plan.edition.number(), plan.rows()),
         };
         let mut entries = words::of_entries(&plan.entries());
         let length = entries.len();
-        let given = rng.pick(&[length - 1, length - 4, length + 1, length + 4]);
+        let given = rng.pick(&[length - 1, length - 4, length - 5, length + 1, length + 4]);
         entries.resize(given, 1);
-        let due = match check_parts(&parts, &plan.entries()) {
+        let due = match check_parts(edition, &parts, &plan.entries()) {
             Err(earlier) if earlier.number < LENGTH => earlier,
             _ => Refusal::plain(LENGTH),
         };
         let mut buffer = known(encode(&plan).unwrap().len());
-        let answer = ffi::write(&words::of_rows(&parts), &entries, &mut buffer);
+        let answer = ffi::write(edition, &words::of_rows(&parts), &entries, &mut buffer);
         assert_eq!(answer, Err(due));
         assert_eq!(buffer, known(buffer.len()));
     }

@@ -27,7 +27,8 @@ fn note_writer(rng: &mut Rng, tally: &mut Tally) {
         let plan = plans::filled(rng);
         let parts = damage_parts(rng, &plan, &[aim]);
         let mut buffer = vec![0; parts.room];
-        let _ = tally.note(write(&parts.rows, &parts.entries, &mut buffer));
+        let (edition, rows) = (parts.edition, &parts.rows);
+        let _ = tally.note(write(edition, rows, &parts.entries, &mut buffer));
     }
 }
 
@@ -64,7 +65,7 @@ fn every_number_is_met() {
         note_session(&mut rng, Course::Short, 30, &mut tally);
     }
     for _ in 0..times(20) {
-        note_session(&mut rng, Course::Growing, 300, &mut tally);
+        note_session(&mut rng, Course::Growing, 400, &mut tally);
     }
     // Not `println!`: the harness hides what passing tests print with it.
     writeln!(std::io::stdout(), "\n{tally}").expect("standard output is open");

@@ -1,9 +1,9 @@
-//! The thirteen examples of the table of refusals, by name.
+//! The examples of the table of refusals, by name.
 
 use oracle::cases;
 use oracle::file::{check, encode, write};
 use oracle::map::map_node;
-use oracle::model::{Entry, Node, Plan};
+use oracle::model::{Entry, Plan};
 use oracle::refusal::Refusal;
 use oracle::session::Session;
 
@@ -57,22 +57,11 @@ fn example_7_kind_3() {
 
 #[test]
 fn example_8_c_6_d_5() {
-    let plan = Plan {
-        nodes: vec![Node {
-            number: 7,
-            levels: 1,
-            entries: vec![Entry::task(1, 1, 9, 9), Entry::task(2, 6, 9, 5)],
-        }],
-    };
+    let entries = |c| [Entry::task(1, 1, 9, 9), Entry::task(2, c, 9, 5)];
+    let plan = |c| Plan::first(vec![cases::node(1, &entries(c))]);
     let refusal = Err(Refusal::at_entry(8, 0, 1));
-    assert_eq!(encode(&plan).map(|_| ()), refusal);
-    let mut file = encode(&Plan {
-        nodes: vec![cases::node(
-            1,
-            &[Entry::task(1, 1, 9, 9), Entry::task(2, 5, 9, 5)],
-        )],
-    })
-    .unwrap();
+    assert_eq!(encode(&plan(6)).map(|_| ()), refusal);
+    let mut file = encode(&plan(5)).unwrap();
     file[16 + 20 + 4] = 6;
     assert_eq!(check(&file), refusal);
 }
@@ -125,20 +114,46 @@ fn example_13_65th_insert() {
 
 #[test]
 fn examples_of_the_writer() {
-    let (rows, entries) = (
-        Plan {
-            nodes: vec![cases::p()],
+    let (rows, entries) = ([cases::p().row()], cases::p().entries);
+    for (edition, file) in [
+        (1, cases::file(cases::p())),
+        (2, cases::second_file(cases::p())),
+    ] {
+        let mut buffer = vec![0xAA; file.len() + 3];
+        let short = file.len() - 1;
+        let mut write = |edition, rows, entries, room| {
+            let answer = write(edition, rows, entries, &mut buffer[..room]);
+            (answer, buffer.clone())
+        };
+        for (answer, number) in [
+            (write(0, &[], &[], short), 2),
+            (write(3, &rows, &entries, short), 2),
+            (write(edition, &[], &[], short), 3),
+            (write(edition, &rows, &entries[1..], short), 6),
+            (write(edition, &rows, &entries, short), 10),
+        ] {
+            assert_eq!(answer.0, Err(PLAIN(number)));
+            assert!(answer.1.iter().all(|&byte| byte == 0xAA));
         }
-        .rows(),
-        cases::p().entries,
-    );
-    let file = cases::file(cases::p());
-    let mut buffer = vec![0xAA; file.len() + 3];
-    let short = file.len() - 1;
-    assert_eq!(write(&[], &[], &mut buffer), Err(PLAIN(3)));
-    assert_eq!(write(&rows, &entries[1..], &mut buffer), Err(PLAIN(6)));
-    assert_eq!(write(&rows, &entries, &mut buffer[..short]), Err(PLAIN(10)));
-    assert!(buffer.iter().all(|&byte| byte == 0xAA));
-    assert_eq!(write(&rows, &entries, &mut buffer), Ok(file.len()));
-    assert_eq!(buffer, [file.as_slice(), &[0xAA; 3]].concat());
+        let (answer, buffer) = write(edition, &rows, &entries, file.len() + 3);
+        assert_eq!(answer, Ok(file.len()));
+        assert_eq!(buffer, [file.as_slice(), &[0xAA; 3]].concat());
+    }
+}
+
+#[test]
+fn example_14_3_10_10_with_j_8() {
+    let node = |j| cases::node(1, &[Entry::task(1, 3, 10, 10).jittered(j)]);
+    let due = Err(Refusal::at_entry(14, 0, 0));
+    assert_eq!(encode(&Plan::second(vec![node(8)])).map(|_| ()), due);
+    assert_eq!(encode(&Plan::first(vec![node(1)])).map(|_| ()), due);
+    let mut file = encode(&Plan::second(vec![node(7)])).unwrap();
+    assert_eq!(check(&file), Ok(()));
+    file[36] = 8;
+    assert_eq!(check(&file), due);
+    let mut session = Session::open(1).unwrap();
+    assert_eq!(session.insert(0, node(8).entries[0]), due);
+    assert_eq!(session.insert(0, node(7).entries[0]), Ok(()));
+    assert_eq!(session.replace(0, node(8).entries[0]), due);
+    assert_eq!(Session::holding(1, &node(8).entries).map(|_| ()), due);
 }

@@ -1,17 +1,31 @@
 //! The completion time test has the properties that docs/SPEC.md states.
 
 use oracle::gen::entries;
+use oracle::gen::jitter::Jitter;
 use oracle::model::Entry;
 use oracle::options::{rng, times};
+use oracle::punctual;
 use oracle::rng::Rng;
-use oracle::timing::{completion, completion_in_group, demand, initial_time, rounds_bound, Timing};
+use oracle::timing::{
+    completion, completion_in_group, demand, initial_time, limit, rounds_bound, Timing,
+};
 
 fn draw(rng: &mut Rng) -> Vec<Entry> {
     let count = rng.count(1, 9);
-    match rng.below(3) {
+    let jitter = jitter(rng);
+    let entries = match rng.below(3) {
         0 => entries::tiny(rng, count),
         1 => entries::scattered(rng, count),
-        _ => entries::wide(rng, count.max(2)),
+        _ => return entries::wide(rng, count.max(2), jitter),
+    };
+    jitter.put(rng, entries)
+}
+
+/// Without jitter in half of the draws.
+fn jitter(rng: &mut Rng) -> Jitter {
+    match rng.chance(1, 2) {
+        true => Jitter::Zero,
+        false => Jitter::draw(rng),
     }
 }
 
@@ -33,10 +47,11 @@ fn completion_time_is_the_least_whose_demand_fits() {
         let entries = draw(&mut rng);
         let levels = draw_levels(&mut rng, entries.len());
         for (i, entry) in entries.iter().enumerate() {
-            let least = (1..=entry.d).find(|&t| demand(&entries, &levels, i, t) <= t);
+            let least = (1..=limit(entry)).find(|&t| demand(&entries, &levels, i, t) <= t);
             match completion(&entries, &levels, i) {
                 Timing::OnTime { time, .. } => {
                     assert_eq!(least, Some(time));
+                    assert!(time + entry.j <= entry.d);
                     on_time += 1;
                 }
                 Timing::Late { .. } => {
@@ -52,11 +67,15 @@ fn completion_time_is_the_least_whose_demand_fits() {
 #[test]
 fn rounds_count_evaluations_and_keep_the_bound() {
     let mut rng = rng(51);
-    let mut highest = 0;
+    let (mut highest, mut above) = (0, 0);
     for _ in 0..times(3_000) {
         let count = rng.count(1, 16);
         let entries = match rng.below(2) {
-            0 => entries::realistic(&mut rng, count),
+            0 => {
+                let jitter = jitter(&mut rng);
+                let entries = entries::realistic(&mut rng, count);
+                jitter.put(&mut rng, entries)
+            }
             _ => draw(&mut rng),
         };
         let levels = draw_levels(&mut rng, entries.len());
@@ -65,9 +84,34 @@ fn rounds_count_evaluations_and_keep_the_bound() {
             assert_eq!(rounds, evaluations(&entries, &levels, i));
             assert!(rounds <= rounds_bound(&entries, &levels, i));
             highest = highest.max(rounds);
+            above += u64::from(rounds > punctual::rounds_bound(&entries, &levels, i));
         }
     }
     assert!(highest > 10, "{highest}");
+    // The bound without J is too low.
+    assert!(above >= times(5), "{above}");
+}
+
+/// The bound takes J of the other entries, and is met.
+#[test]
+fn the_bound_counts_jitter() {
+    let entries = [
+        Entry::task(1, 1, 10, 10).jittered(3),
+        Entry::task(2, 1, 10, 10).jittered(9),
+        Entry::task(3, 1, 12, 10).jittered(2),
+    ];
+    // 1 + (⌈13 / 10⌉ - 1) + (⌈19 / 10⌉ - 1), whatever its own J.
+    assert_eq!(rounds_bound(&entries, &[1, 1, 1], 2), 3);
+    assert_eq!(rounds_bound(&entries, &[1, 2, 3], 2), 3);
+    assert_eq!(rounds_bound(&entries, &[1, 2, 3], 1), 2);
+    assert_eq!(rounds_bound(&entries, &[1, 2, 3], 0), 1);
+    let late = [
+        Entry::task(1, 1, 10, 10).jittered(9),
+        Entry::task(2, 2, 10, 10),
+    ];
+    let met = Timing::OnTime { time: 4, rounds: 2 };
+    assert_eq!(completion(&late, &[1, 2], 1), met);
+    assert_eq!(rounds_bound(&late, &[1, 2], 1), 2);
 }
 
 /// How often the demand is evaluated.
@@ -77,7 +121,7 @@ fn evaluations(entries: &[Entry], levels: &[u8], i: usize) -> u64 {
         let next = demand(entries, levels, i, t);
         (next != t).then_some(next)
     });
-    times.take_while(|&t| t <= entries[i].d).count() as u64
+    times.take_while(|&t| t <= limit(&entries[i])).count() as u64
 }
 
 #[test]

@@ -2,17 +2,18 @@
 //! comparison of speed is worth nothing if the answers are wrong. Answers,
 //! refusals with their places, and every lent buffer are compared.
 
-use oracle::file::{self, encode};
+use oracle::file::{self, encode, longest};
 use oracle::gen::budget;
 use oracle::gen::buffers::known;
 use oracle::gen::damage::{damage, truncations, AIMS};
+use oracle::gen::jitter::most;
 use oracle::gen::listings::long_listing;
 use oracle::gen::ops::sequence;
 use oracle::gen::plans;
 use oracle::lent;
 use oracle::listing;
 use oracle::map::map_node;
-use oracle::model::{Entry, Plan, Row};
+use oracle::model::{Edition, Entry, Plan, Row};
 use oracle::options::{rng, times};
 use oracle::refusal::{Refusal, BUFFER};
 use oracle::rng::Rng;
@@ -62,7 +63,7 @@ fn compare_read(bytes: &[u8], row_room: usize, word_room: usize) {
     let due = file::read(bytes, &mut due_rows, &mut due_entries);
     let (mut rows, mut entries) = (words::known(row_room), words::known(word_room));
     assert_eq!(tuned::read(bytes, &mut rows, &mut entries), due);
-    let (row_count, entry_count) = due.unwrap_or((0, 0));
+    let (row_count, entry_count, _) = due.unwrap_or((0, 0, Edition::First));
     let due_rows = words::of_rows(&due_rows[..row_count]);
     assert_eq!(rows, begun(due_rows, words::known(row_room)));
     let due_entries = words::of_entries(&due_entries[..entry_count]);
@@ -93,11 +94,11 @@ fn compare_list(bytes: &[u8]) {
     }
 }
 
-fn compare_write(rows: &[Row], entries: &[Entry], room: usize) {
+fn compare_write(edition: u32, rows: &[Row], entries: &[Entry], room: usize) {
     let (mut buffer, mut due_buffer) = (known(room), known(room));
-    let due = file::write(rows, entries, &mut due_buffer);
+    let due = file::write(edition, rows, entries, &mut due_buffer);
     let (row_words, words) = (words::of_rows(rows), words::of_entries(entries));
-    let answer = tuned::write(&row_words, &words, &mut buffer);
+    let answer = tuned::write(edition, &row_words, &words, &mut buffer);
     assert_eq!(answer, due, "{rows:?} {entries:?}");
     assert_eq!(buffer, due_buffer, "{rows:?} {entries:?}");
 }
@@ -127,9 +128,12 @@ fn plans_of_every_kind() {
             let plan = draw(&mut rng);
             let file = encode(&plan).expect("generators give good plans");
             compare_file(&mut tally, &file);
+            let (edition, rows, entries) = (plan.edition, plan.rows(), plan.entries());
             for room in rooms(file.len()) {
-                compare_write(&plan.rows(), &plan.entries(), room);
+                compare_write(edition.number(), &rows, &entries, room);
             }
+            let room = longest(Edition::Second);
+            compare_write(edition.other().number(), &rows, &entries, room);
         }
     }
     tally.assert_maps(times(1_500), times(1_000));
@@ -146,7 +150,7 @@ fn refused_files() {
             compare_file(&mut tally, &damage(&mut rng, &plan, &[aim, second]).file);
         }
     }
-    for number in 1..=8 {
+    for number in (1..=8).chain([14]) {
         assert!(tally.met(number) > times(100), "{number}: {tally}");
     }
     let file = encode(&plans::small(&mut rng)).expect("a good plan");
@@ -163,7 +167,8 @@ fn refused_plans() {
         let plan = plans::filled(&mut rng);
         let (mut rows, mut entries) = (plan.rows(), plan.entries());
         let (row, entry) = (rng.index(rows.len()), rng.index(entries.len()));
-        match rng.below(8) {
+        let mut edition = plan.edition.number();
+        match rng.below(10) {
             0 => rows.clear(),
             1 => rows.resize(33, rows[0]),
             2 => rows[row].levels = rng.pick(&[0, 65, 255]),
@@ -171,7 +176,9 @@ fn refused_plans() {
             4 => rows[row].number = rng.pick(&[0, 7, u16::MAX]),
             5 => entries.truncate(entry),
             6 => entries[entry].kind = rng.pick(&[0, 2, 3, 255]),
-            _ => entries[entry].c = rng.pick(&[0, entries[entry].d + 1]),
+            7 => entries[entry].c = rng.pick(&[0, entries[entry].d + 1]),
+            8 => entries[entry].j = rng.pick(&[1, most(&entries[entry]) + 1]),
+            _ => edition = rng.pick(&[0, 1, 3, u32::MAX]),
         }
         if rng.chance(1, 2) {
             let entry = rng.index(entries.len().max(1));
@@ -179,14 +186,16 @@ fn refused_plans() {
                 entry.b = rng.pick(&[1_000_000_000, 1_000_000_001]);
             }
         }
-        compare_write(&rows, &entries, 1_000);
+        compare_write(edition, &rows, &entries, 1_000);
     }
 }
 
 #[test]
 fn long_texts() {
     for nodes in [1, 32] {
-        compare_list(&encode(&long_listing(nodes)).expect("a good plan"));
+        for edition in Edition::BOTH {
+            compare_list(&encode(&long_listing(edition, nodes)).expect("a good plan"));
+        }
     }
 }
 
@@ -212,7 +221,7 @@ fn sessions() {
             assert_eq!(buffer, due_buffer, "{}", lent());
         }
     }
-    for number in [4, 7, 8, 10, 11, 12, 13] {
+    for number in [4, 7, 8, 10, 11, 12, 13, 14] {
         assert!(tally.met(number) > times(10), "{number}: {tally}");
     }
 }

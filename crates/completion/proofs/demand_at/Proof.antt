@@ -4,7 +4,7 @@ use borrow.Author.Needs.{needs}
 use Rattle.task_model.specs.Limits.{mostTicks}
 use Rattle.node_words.proofs.Entries.{all-fewer}
 use Rattle.completion.proofs.Bounds.{mostInterferences}
-use Rattle.completion.proofs.Words.{words-times, words-parts, higher-level-small, same-level-small}
+use Rattle.completion.proofs.Words.{words-hold, words-parts, higher-level-small, same-level-small}
 use Rattle.completion.proofs.demand_at.Statement.{statement}
 use Rattle.completion.proofs.demand_at.Tie as tie
 
@@ -26,8 +26,8 @@ higher-level-sum-requires c κs =
 few-own : (c : tie.After-struct-known) → c .before .entry-at .result .wcet ≤ mostTicks
 few-own c =
     let s = c .before .before in
-    let h = words-times _ _ (s .pre .0) (s .args .i) (omega arith) _ (c .before .entry-at .ensures) in
-    omega arith
+    let h = words-hold _ _ (s .pre .0) (s .args .i) (omega arith) _ (c .before .entry-at .ensures) in
+    omega (arith, h .times)
 
 few-higher : (c : tie.After-higher-level-sum) → c .higher-level-sum .result ≤ mostInterferences
 few-higher c =

@@ -26,7 +26,7 @@ entry-at-requires c κs = omega arith
 higher-level-interference-requires : tie.Need-higher-level-interference-requires Inv-loop μ-loop
 higher-level-interference-requires c κs =
     let p = c .before .before .before .pre in
-    (rw (c .entry-at .ensures) (all-at _ _ (p .0) _ (c .before .loop-test .taken) .times), p .1 .1)
+    (rw (c .entry-at .ensures) (all-at _ _ (p .0) _ (c .before .loop-test .taken)), p .1 .1)
 
 -- the interference of the entry at hand
 module _ (c : tie.After-higher-level-interference Inv-loop μ-loop) where
@@ -42,7 +42,7 @@ module _ (c : tie.After-higher-level-interference Inv-loop μ-loop) where
   few : c .higher-level-interference .result ≤ mostInterference
   few =
       rw shared
-      (higher-level-most _ (all-at _ _ (at-start .pre .0) _ (c .before .before .loop-test .taken) .times) _ (omega arith))
+      (higher-level-most _ (all-at _ _ (at-start .pre .0) _ (c .before .before .loop-test .taken)) _ (omega arith))
 
 add-sum : tie.Need-add-sum Inv-loop μ-loop
 add-sum c = omega (arith, few c)

@@ -5,6 +5,10 @@ use Rattle.completion.proofs.Releases.{releases-one}
 use Rattle.completion.proofs.releases_in.Statement.{statement}
 use Rattle.completion.proofs.releases_in.Tie as tie
 
+-- t, J and T are at most 10^9 each
+add-late : tie.Need-add-late
+add-late c = omega (arith, c .before .pre .0 .times, c .before .pre .0 .jitter)
+
 returns : tie.Need-returns
 returns c = sym (releases-one _ (omega arith) _ (omega arith) (c .if1 .taken))
 
@@ -22,4 +26,4 @@ unfolding releases ceilDiv
 returns-2 c = refl
 
 pub releases-in-spec : {M : Type 1} → statement M
-releases-in-spec = tie.close (tie.spec returns sub-result add-result div-result returns-2)
+releases-in-spec = tie.close (tie.spec add-late returns sub-result add-result div-result returns-2)

@@ -17,6 +17,12 @@ cast-if1 c = search needs
 mul-if1 : tie.Need-mul-if1
 mul-if1 c = omega (arith, product (c .before .args .e .period) (c .before .args .calls) (omega arith) (omega arith))
 
+add-if1 : tie.Need-add-if1
+add-if1 c = let h = c .before .before .pre .0 in omega (arith, h .times, h .jitter)
+
+cast-if1-2 : tie.Need-cast-if1-2
+cast-if1-2 c = search needs
+
 cast-result : tie.Need-cast-result
 cast-result c = search needs
 
@@ -25,19 +31,19 @@ add-result c = search needs
 
 mul-result : tie.Need-mul-result
 mul-result c =
-    let a = c .before .before .before .args in
+    let a = c .before .before .before .before .args in
     omega (arith, product (a .e .wcet) (a .calls + 1) (omega arith) (omega arith))
 
 returns : tie.Need-returns
 returns c =
-    sym (same-level-limit _ (c .before .before .before .pre .0) _ _ (c .before .if1 .taken))
+    sym (same-level-limit _ (c .before .before .before .before .pre .0) _ _ (c .before .if1 .taken))
 
 higher-level-interference-requires : tie.Need-higher-level-interference-requires
 higher-level-interference-requires c κs = search needs
 
 returns-2 : tie.Need-returns-2
 returns-2 c =
-    c .higher-level-interference .ensures ∙ sym (same-level-all _ (c .before .before .before .pre .0) _ _ (c .before .if1 .left))
+    c .higher-level-interference .ensures ∙ sym (same-level-all _ (c .before .before .before .before .pre .0) _ _ (c .before .if1 .left))
 
 pub same-level-interference-spec : {M : Type 1} → statement M
 same-level-interference-spec =
@@ -45,6 +51,8 @@ same-level-interference-spec =
     (tie.spec
     cast-if1
     mul-if1
+    add-if1
+    cast-if1-2
     cast-result
     add-result
     mul-result

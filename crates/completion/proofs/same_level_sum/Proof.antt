@@ -30,7 +30,7 @@ entry-at-requires c κs = omega arith
 same-level-interference-requires : tie.Need-same-level-interference-requires Inv-loop μ-loop
 same-level-interference-requires c κs =
     let p = c .before .before .before .pre in
-    (rw (c .entry-at .ensures) (all-at _ _ (p .0) _ (c .before .loop-test .taken) .times), p .1 .1)
+    (rw (c .entry-at .ensures) (all-at _ _ (p .0) _ (c .before .loop-test .taken)), p .1 .1)
 
 -- the interference of the entry at hand
 module _ (c : tie.After-same-level-interference Inv-loop μ-loop) where
@@ -46,7 +46,7 @@ module _ (c : tie.After-same-level-interference Inv-loop μ-loop) where
 
   few : c .same-level-interference .result ≤ mostInterference
   few =
-      let h = all-at _ _ (at-start .pre .0) _ (c .before .before .loop-test .taken) .times in
+      let h = all-at _ _ (at-start .pre .0) _ (c .before .before .loop-test .taken) in
       rw shared (le-trans (same-level-most _ h _ _) (higher-level-most _ h _ (omega arith)))
 
 add-sum : tie.Need-add-sum Inv-loop μ-loop

@@ -10,7 +10,7 @@ use Rattle.completion.specs.Demand.{demandWith}
 use Rattle.completion.specs.Group.{groupLevel}
 use Rattle.completion.specs.Test.{Completion, testFrom, testWith, roundsIn, roundsBound}
 use Rattle.completion.proofs.Iteration.{loop-late, loop-done, loop-next}
-use Rattle.completion.proofs.Words.{words-times, words-limit, words-due, words-up, words-begin, words-test}
+use Rattle.completion.proofs.Words.{words-hold, words-limit, words-due, words-up, words-begin, words-test}
 use Rattle.completion.proofs.Theorems.{timing-right}
 use Rattle.completion.proofs.test_with.Statement.{statement}
 use Rattle.completion.proofs.test_with.Tie as tie
@@ -31,7 +31,7 @@ entry-at-requires : tie.Need-entry-at-requires Inv-loop μ-loop
 entry-at-requires c κs = omega arith
 
 limit-of-requires : tie.Need-limit-of-requires Inv-loop μ-loop
-limit-of-requires c κs = words-times _ _ (c .before .pre .0) _ (omega arith) _ (c .entry-at .ensures)
+limit-of-requires c κs = words-hold _ _ (c .before .pre .0) _ (omega arith) _ (c .entry-at .ensures)
 
 cast-limit : tie.Need-cast-limit Inv-loop μ-loop
 cast-limit c = search needs

@@ -8,6 +8,7 @@ use Rattle.node_words.specs.Words.{entriesOf}
 use Rattle.node_words.proofs.Entries.{length-entries}
 use Rattle.level_map.specs.declared.Start.{Start}
 use Rattle.level_map.specs.declared.Start.the-variants.{At, Nowhere}
+use Rattle.completion.specs.Test.{completionTest}
 use Rattle.level_map.specs.Map.{maps, firstOf, passTest, theMap}
 use Rattle.level_map.specs.Groups.{added, GroupPasses, LeastStart}
 use Rattle.level_map.proofs.Exact.{GroupTest}
@@ -31,7 +32,7 @@ test c = nodeTest (entriesOf (c .args .words .now) (c .args .count)) (c .pre .0)
 
 first : (c : tie.Start Inv-loop μ-loop)
     → theMap (entriesOf (c .args .words .now) (c .args .count)) (c .args .most)
-    ≡ firstOf (passTest (entriesOf (c .args .words .now) (c .args .count))) (maps (c .args .most) (c .args .count))
+    ≡ firstOf (passTest completionTest (entriesOf (c .args .words .now) (c .args .count))) (maps (c .args .most) (c .args .count))
 first c = map-first _ _ (length-entries _ 0 _) _
 
 loop-holds : tie.Need-loop-holds Inv-loop μ-loop

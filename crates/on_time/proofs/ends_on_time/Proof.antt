@@ -9,7 +9,7 @@ use Rattle.node_words.proofs.Entries.{all-fewer}
 use Rattle.completion.specs.Demand.{initialTimeWith}
 use Rattle.completion.specs.Group.{groupLevel}
 use Rattle.completion.specs.Test.{limit}
-use Rattle.completion.proofs.Words.{words-times, words-limit, words-due, words-begin, wcet-small}
+use Rattle.completion.proofs.Words.{words-hold, words-limit, words-due, words-begin, wcet-small}
 use Rattle.on_time.proofs.Early.{initial-runs, late-initial, on-time-at, not-earlier, runs-below}
 use Rattle.on_time.proofs.ends_on_time.Statement.{statement}
 use Rattle.on_time.proofs.ends_on_time.Tie as tie
@@ -18,7 +18,7 @@ entry-at-requires : tie.Need-entry-at-requires
 entry-at-requires c κs = search needs
 
 limit-of-requires : tie.Need-limit-of-requires
-limit-of-requires c κs = words-times _ _ (c .before .pre .0) _ (omega arith) _ (c .entry-at .ensures)
+limit-of-requires c κs = words-hold _ _ (c .before .pre .0) _ (omega arith) _ (c .entry-at .ensures)
 
 -- the entry's limit, and where its test starts
 module _ (c : tie.After-limit-of) where

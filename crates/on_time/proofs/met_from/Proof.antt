@@ -8,7 +8,7 @@ use Rattle.node_words.specs.Words.{entriesOf}
 use Rattle.completion.specs.Demand.{demandWith}
 use Rattle.completion.specs.Group.{groupLevel}
 use Rattle.completion.specs.Test.{limit}
-use Rattle.completion.proofs.Words.{words-times, words-limit, words-due, words-up}
+use Rattle.completion.proofs.Words.{words-hold, words-limit, words-due, words-up}
 use Rattle.on_time.proofs.Early.{late-after, on-time-at}
 use Rattle.on_time.proofs.met_from.Statement.{statement}
 use Rattle.on_time.proofs.met_from.Tie as tie
@@ -27,7 +27,7 @@ entry-at-requires : tie.Need-entry-at-requires Inv-loop μ-loop
 entry-at-requires c κs = omega arith
 
 limit-of-requires : tie.Need-limit-of-requires Inv-loop μ-loop
-limit-of-requires c κs = words-times _ _ (c .before .pre .0) _ (omega arith) _ (c .entry-at .ensures)
+limit-of-requires c κs = words-hold _ _ (c .before .pre .0) _ (omega arith) _ (c .entry-at .ensures)
 
 cast-limit : tie.Need-cast-limit Inv-loop μ-loop
 cast-limit c = search needs

@@ -5,7 +5,7 @@ use borrow.Author.Needs.{needs}
 use Rattle.node_words.specs.Words.{entriesOf}
 use Rattle.on_time.specs.StartBound.{lateByRuns, pastLast, startBound}
 use Rattle.completion.proofs.Bounds.{mostRuns}
-use Rattle.completion.proofs.Words.{words-times, wcet-small}
+use Rattle.completion.proofs.Words.{words-hold, wcet-small}
 use Rattle.on_time.proofs.StartBound.{last-none, last-found, last-kept, runs-late, runs-fit}
 use Rattle.on_time.proofs.start_bound.Statement.{statement}
 use Rattle.on_time.proofs.start_bound.Tie as tie
@@ -46,7 +46,7 @@ at-loop-2 c = c .before .before .before .before .before
 
 limit-of-requires : tie.Need-limit-of-requires Inv-loop μ-loop
 limit-of-requires c κs =
-    words-times _ _ (at-start c .pre .0) _ (omega arith) _ (c .before .entry-at .ensures)
+    words-hold _ _ (at-start c .pre .0) _ (omega arith) _ (c .before .entry-at .ensures)
 
 cast-if1-2 : tie.Need-cast-if1-2 Inv-loop μ-loop
 cast-if1-2 c = search needs

@@ -31,13 +31,13 @@ told : (c : tie.After-check-rows) (o : Checked) → c .check-rows .result ≡ o
 told c o p = sym (c .check-rows .ensures) ∙ ap outcome p
 
 returns : tie.Need-returns
-returns c = plan-ensures (c .before .before .before .args .rows .now) (c .before .before .before .args .entries .now) (sym (writer-count _ _ _ (count-false _ (λ h1 h2. omega (arith, length-map (c .before .before .before .args .rows .now) rowOf)))))
+returns c = plan-ensures (c .before .before .before .args .edition) (c .before .before .before .args .rows .now) (c .before .before .before .args .entries .now) (sym (writer-count _ _ _ _ (count-false _ (λ h1 h2. omega (arith, length-map (c .before .before .before .args .rows .now) rowOf)))))
 
 cast-if2 : tie.Need-cast-if2
 cast-if2 c = search needs
 
 returns-2 : tie.Need-returns-2
-returns-2 c = plan-ensures (at-start-2 c .args .rows .now) (at-start-2 c .args .entries .now) (sym (writer-count _ _ _ (count-false _ (λ h1 h2. omega (arith, length-map (at-start-2 c .args .rows .now) rowOf)))))
+returns-2 c = plan-ensures (at-start-2 c .args .edition) (at-start-2 c .args .rows .now) (at-start-2 c .args .entries .now) (sym (writer-count _ _ _ _ (count-false _ (λ h1 h2. omega (arith, length-map (at-start-2 c .args .rows .now) rowOf)))))
 
 check-rows-requires : tie.Need-check-rows-requires
 check-rows-requires c κs = search needs
@@ -50,9 +50,9 @@ enum-told-2 c = search needs
 
 returns-3 : tie.Need-returns-3
 returns-3 c =
-    plan-ensures (at-start (c .before .before) .args .rows .now) (at-start (c .before .before) .args .entries .now)
+    plan-ensures (at-start (c .before .before) .args .edition) (at-start (c .before .before) .args .rows .now) (at-start (c .before .before) .args .entries .now)
     (ap outcome (c .enum-told2 .given .1)
-    ∙ sym (writer-tally _ _ _ (counted (c .before .before)) _ (told (c .before .before) _ (c .enum-told2 .given .1))))
+    ∙ sym (writer-tally _ _ _ _ (counted (c .before .before)) _ (told (c .before .before) _ (c .enum-told2 .given .1))))
 
 check-nodes-requires : tie.Need-check-nodes-requires
 check-nodes-requires c κs = omega (arith, tally-holds _ _ (told (c .before .before) _ (c .enum-told .given .1)) .1)
@@ -61,9 +61,9 @@ returns-4 : tie.Need-returns-4
 returns-4 c =
     let n = tally-holds _ _ (told (c .before .before .before) _ (c .before .enum-told .given .1)) .1 in
     let e : length (at-start (c .before .before .before) .args .entries .now) / entrySize ≡ entryCount (map rowOf (at-start (c .before .before .before) .args .rows .now)) = omega arith in
-    plan-ensures (at-start (c .before .before .before) .args .rows .now) (at-start (c .before .before .before) .args .entries .now)
+    plan-ensures (at-start (c .before .before .before) .args .edition) (at-start (c .before .before .before) .args .rows .now) (at-start (c .before .before .before) .args .entries .now)
     (rw (← e) at (c .check-nodes .ensures)
-    ∙ sym (writer-nodes _ _ _ (counted (c .before .before .before)) (told (c .before .before .before) _ (c .before .enum-told .given .1))))
+    ∙ sym (writer-nodes _ _ _ _ (counted (c .before .before .before)) (told (c .before .before .before) _ (c .before .enum-told .given .1))))
 
 pub check-plan-spec : {M : Type 1} → statement M
 check-plan-spec =

@@ -14,12 +14,13 @@ mod stations;
 
 use measure::Table;
 use oracle::ffi;
-use oracle::file::encode;
+use oracle::file::{edition_of, encode};
 use oracle::gen::entries;
 use oracle::gen::plans;
+use oracle::model::{Edition, Entry};
 use oracle::rng::Rng;
 use rows::{Checking, Listing, Mapping, Reading, Writing};
-use stations::{mapped_entries, one_node, station};
+use stations::{mapped_entries, one_node, station, Starts};
 
 /// The longest possible listing.
 const MOST_TEXT: usize = 115_625;
@@ -28,27 +29,55 @@ const COUNT: usize = 12;
 
 fn files(table: &mut Table) {
     let mut rng = Rng::new(7);
-    for count in [8, 16, 32, 64] {
-        let mut file = || one_node(&mapped_entries(&mut rng, count, 64), 64);
-        table.row(&Mapping {
-            name: format!("map a node of {count} entries"),
-            files: (0..16).map(|_| file()).collect(),
-        });
-    }
-    let file = &encode(&plans::longest(&mut rng)).expect("a good plan");
-    let what = "the longest plan, 32 nodes of 64 entries";
-    table.row(&Checking { file, what });
-    table.row(&Reading { file, what });
-    table.row(&Writing::of(file, what));
+    maps(table, &mut rng, Starts::Punctual);
+    longest(table, &mut rng, Edition::First);
     let any = [1, 4, 8, 16, 32].map(|nodes| station(nodes, || entries::many(&mut rng, COUNT)));
     let mapped =
-        [1, 4, 8, 16, 32].map(|nodes| station(nodes, || mapped_entries(&mut rng, COUNT, 16)));
+        [1, 4, 8, 16, 32].map(|nodes| station(nodes, || drawn(&mut rng, Starts::Punctual)));
     for file in any.iter().chain(&mapped) {
         table.row(&listing(file, Room::Any));
     }
     for file in [&any[0], &mapped[0], &mapped[4]] {
         table.row(&listing(file, Room::Exact));
     }
+}
+
+/// The same with entries that start late, in the second edition.
+fn late_files(table: &mut Table) {
+    let mut rng = Rng::new(9);
+    maps(table, &mut rng, Starts::Late);
+    longest(table, &mut rng, Edition::Second);
+    for nodes in [1, 32] {
+        let file = station(nodes, || drawn(&mut rng, Starts::Late));
+        table.row(&listing(&file, Room::Any));
+    }
+}
+
+/// The entries of a node of a station with a map.
+fn drawn(rng: &mut Rng, starts: Starts) -> Vec<Entry> {
+    mapped_entries(rng, starts, COUNT, 16)
+}
+
+fn maps(table: &mut Table, rng: &mut Rng, starts: Starts) {
+    for count in [8, 16, 32, 64] {
+        let mut file = || one_node(&mapped_entries(rng, starts, count, 64), 64);
+        table.row(&Mapping {
+            name: format!("map a node of {count} entries{}", starts.name()),
+            files: (0..16).map(|_| file()).collect(),
+        });
+    }
+}
+
+/// Checking, reading and writing the longest plan of an edition.
+fn longest(table: &mut Table, rng: &mut Rng, edition: Edition) {
+    let file = &encode(&plans::longest_in(rng, edition)).expect("a good plan");
+    let what = match edition {
+        Edition::First => "the longest plan, 32 nodes of 64 entries",
+        Edition::Second => "the longest plan of the second edition, 32 nodes of 64 entries",
+    };
+    table.row(&Checking { file, what });
+    table.row(&Reading { file, what });
+    table.row(&Writing::of(file, what));
 }
 
 /// How long a lent buffer is.
@@ -77,8 +106,14 @@ fn listing(file: &[u8], room: Room) -> Listing {
         Room::Any => ("", MOST_TEXT),
         Room::Exact => (", into a buffer of just its text", length),
     };
+    let late = match edition_of(file) {
+        Some(Edition::Second) => Starts::Late.name(),
+        _ => "",
+    };
     Listing {
-        name: format!("list a station of {nodes} of {COUNT} entries, {maps} with a map{into}"),
+        name: format!(
+            "list a station of {nodes} of {COUNT} entries{late}, {maps} with a map{into}"
+        ),
         file: file.to_vec(),
         room,
     }
@@ -94,6 +129,8 @@ fn main() {
     let mut table = Table::new(&arguments);
     files(&mut table);
     sessions::rows(&mut table);
+    late_files(&mut table);
+    sessions::late_rows(&mut table);
     odd::rounds(&mut Table::of_long_calls(&arguments), 8);
     if arguments.is_empty() {
         odd::families();

@@ -10,7 +10,8 @@ use crate::rows::{Listing, Mapping};
 use crate::stations::one_node;
 use crate::MOST_TEXT;
 use oracle::file::encode;
-use oracle::gen::odd::{full_plan, many_rounds, Family, FAMILIES, JUST_LATE};
+use oracle::gen::odd::{full_plan, many_rounds, with_thirds, FAMILIES, JUST_LATE, LATE_STARTS};
+use oracle::model::Entry;
 use oracle::plain;
 use oracle::programs::run_within;
 use std::env;
@@ -37,8 +38,18 @@ pub fn families() {
     }
 }
 
-fn all() -> Vec<Family> {
-    FAMILIES.into_iter().chain(JUST_LATE).collect()
+/// Every family, and each once more with J of a third of its periods.
+fn all() -> Vec<(String, Vec<Entry>)> {
+    let families = || FAMILIES.into_iter().chain(JUST_LATE);
+    let as_they_are = families().chain([LATE_STARTS]);
+    let late = families().map(|(name, entries)| {
+        let name = format!("{name}, each entry with jitter");
+        (name, with_thirds(entries()))
+    });
+    as_they_are
+        .map(|(name, entries)| (name.to_string(), entries()))
+        .chain(late)
+        .collect()
 }
 
 /// How long a listing takes, and how many nodes it reports as done.
@@ -62,7 +73,7 @@ fn in_child(who: &str, family: usize, limit: u64) -> (String, usize) {
 /// The child process: lists a plan of a family and prints the seconds.
 pub fn child(who: &str, family: &str) {
     let family: usize = family.parse().expect("the place of a family");
-    let file = encode(&full_plan(&all()[family].1())).expect("a good plan");
+    let file = encode(&full_plan(&all()[family].1)).expect("a good plan");
     let mut text = vec![0; MOST_TEXT];
     let best = match who {
         "proved" => best_of(|_| assert!(Proved::list(&file, &mut text).is_some())),

@@ -2,6 +2,7 @@
 
 use oracle::ffi;
 use oracle::ffi::session::Session;
+use oracle::model::Edition;
 use oracle::plain;
 use oracle::timing::Timing;
 use oracle::tuned;
@@ -13,8 +14,9 @@ pub type Entry = [u32; ENTRY_WORDS];
 /// One of the three planners. A refused call answers `false` or `None`.
 pub trait Planner {
     fn check(file: &[u8]) -> bool;
-    fn read(file: &[u8], rows: &mut [u32], words: &mut [u32]) -> Option<(usize, usize)>;
-    fn write(rows: &[u32], words: &[u32], file: &mut [u8]) -> Option<usize>;
+    /// How many rows and entries, and the edition.
+    fn read(file: &[u8], rows: &mut [u32], words: &mut [u32]) -> Option<(usize, usize, u32)>;
+    fn write(edition: u32, rows: &[u32], words: &[u32], file: &mut [u8]) -> Option<usize>;
     fn map(file: &[u8], number: u16, levels: &mut [u8]) -> Option<usize>;
     fn list(file: &[u8], text: &mut [u8]) -> Option<usize>;
     fn insert(session: &mut Session, position: usize, entry: &Entry) -> bool;
@@ -32,12 +34,12 @@ impl Planner for Proved {
         ffi::check(file).is_ok()
     }
 
-    fn read(file: &[u8], rows: &mut [u32], words: &mut [u32]) -> Option<(usize, usize)> {
-        ffi::read(file, rows, words).ok()
+    fn read(file: &[u8], rows: &mut [u32], words: &mut [u32]) -> Option<(usize, usize, u32)> {
+        ffi::read(file, rows, words).ok().map(numbered)
     }
 
-    fn write(rows: &[u32], words: &[u32], file: &mut [u8]) -> Option<usize> {
-        ffi::write(rows, words, file).ok()
+    fn write(edition: u32, rows: &[u32], words: &[u32], file: &mut [u8]) -> Option<usize> {
+        ffi::write(edition, rows, words, file).ok()
     }
 
     fn map(file: &[u8], number: u16, levels: &mut [u8]) -> Option<usize> {
@@ -73,12 +75,12 @@ impl Planner for Tuned {
         tuned::check(file).is_ok()
     }
 
-    fn read(file: &[u8], rows: &mut [u32], words: &mut [u32]) -> Option<(usize, usize)> {
-        tuned::read(file, rows, words).ok()
+    fn read(file: &[u8], rows: &mut [u32], words: &mut [u32]) -> Option<(usize, usize, u32)> {
+        tuned::read(file, rows, words).ok().map(numbered)
     }
 
-    fn write(rows: &[u32], words: &[u32], file: &mut [u8]) -> Option<usize> {
-        tuned::write(rows, words, file).ok()
+    fn write(edition: u32, rows: &[u32], words: &[u32], file: &mut [u8]) -> Option<usize> {
+        tuned::write(edition, rows, words, file).ok()
     }
 
     fn map(file: &[u8], number: u16, levels: &mut [u8]) -> Option<usize> {
@@ -114,12 +116,12 @@ impl Planner for Plain {
         plain::check(file)
     }
 
-    fn read(file: &[u8], rows: &mut [u32], words: &mut [u32]) -> Option<(usize, usize)> {
+    fn read(file: &[u8], rows: &mut [u32], words: &mut [u32]) -> Option<(usize, usize, u32)> {
         plain::read(file, rows, words)
     }
 
-    fn write(rows: &[u32], words: &[u32], file: &mut [u8]) -> Option<usize> {
-        plain::write(rows, words, file)
+    fn write(edition: u32, rows: &[u32], words: &[u32], file: &mut [u8]) -> Option<usize> {
+        plain::write(edition, rows, words, file)
     }
 
     fn map(file: &[u8], number: u16, levels: &mut [u8]) -> Option<usize> {
@@ -152,4 +154,9 @@ fn on_time(timing: Timing) -> Option<(u32, u32)> {
         Timing::OnTime { time, rounds } => Some((time as u32, rounds as u32)),
         Timing::Late { .. } => None,
     }
+}
+
+/// What was read, with the number of the edition.
+fn numbered((rows, entries, edition): (usize, usize, Edition)) -> (usize, usize, u32) {
+    (rows, entries, edition.number())
 }

@@ -3,7 +3,12 @@
 use crate::measure::Row;
 use crate::planner::Planner;
 use oracle::ffi;
+use oracle::model::{MAX_ENTRIES, MAX_NODES};
+use oracle::words::ENTRY_WORDS;
 use std::hint::black_box;
+
+/// Words of the entries of the longest plan.
+const MOST_WORDS: usize = MAX_NODES * MAX_ENTRIES * ENTRY_WORDS;
 
 /// Mapping node 7 of several files, because nodes differ in cost.
 pub struct Mapping {
@@ -61,8 +66,8 @@ pub struct Reading<'a> {
     pub what: &'a str,
 }
 
-/// A plan in words, and how many rows and entries were read.
-type InWords = (Vec<u32>, Vec<u32>, Option<(usize, usize)>);
+/// A plan in words, how many rows and entries were read, and the edition.
+type InWords = (Vec<u32>, Vec<u32>, Option<(usize, usize, u32)>);
 
 impl Row for Reading<'_> {
     type Lent = InWords;
@@ -72,7 +77,7 @@ impl Row for Reading<'_> {
     }
 
     fn lent(&self) -> InWords {
-        (vec![0; 32], vec![0; 10_240], None)
+        (vec![0; MAX_NODES], vec![0; MOST_WORDS], None)
     }
 
     fn call<P: Planner>(&self, (rows, words, read): &mut InWords) {
@@ -82,6 +87,7 @@ impl Row for Reading<'_> {
 
 /// Writing a plan that was read from a file.
 pub struct Writing<'a> {
+    edition: u32,
     rows: Vec<u32>,
     words: Vec<u32>,
     length: usize,
@@ -91,11 +97,13 @@ pub struct Writing<'a> {
 impl<'a> Writing<'a> {
     /// Writing the plan of a file.
     pub fn of(file: &[u8], what: &'a str) -> Writing<'a> {
-        let (mut rows, mut words) = (vec![0; 32], vec![0; 10_240]);
-        let (nodes, entries) = ffi::read(file, &mut rows, &mut words).expect("a good plan");
+        let (mut rows, mut words) = (vec![0; MAX_NODES], vec![0; MOST_WORDS]);
+        let read = ffi::read(file, &mut rows, &mut words);
+        let (nodes, entries, edition) = read.expect("a good plan");
         rows.truncate(nodes);
-        words.truncate(entries * 5);
+        words.truncate(entries * ENTRY_WORDS);
         Writing {
+            edition: edition.number(),
             rows,
             words,
             length: file.len(),
@@ -116,7 +124,7 @@ impl Row for Writing<'_> {
     }
 
     fn call<P: Planner>(&self, (file, written): &mut Self::Lent) {
-        *written = P::write(black_box(&self.rows), &self.words, file);
+        *written = P::write(self.edition, black_box(&self.rows), &self.words, file);
     }
 }
 

@@ -2,7 +2,7 @@
 
 use crate::measure::{Row, Table};
 use crate::planner::{Entry, Plain, Planner, Proved, Tuned};
-use crate::stations::mapped_entries;
+use crate::stations::{mapped_entries, Starts};
 use oracle::ffi::session::Session;
 use oracle::gen::entries;
 use oracle::lent::words_of;
@@ -13,20 +13,30 @@ use std::hint::black_box;
 
 type Draw = fn(&mut Rng, usize) -> Vec<model::Entry>;
 
-/// All rows.
+/// All rows without jitter.
 pub fn rows(table: &mut Table) {
     let mut rng = Rng::new(8);
     for count in [8, 32, 63] {
         table.row(&Changes::new(&mut rng, count));
     }
+    timings_and_maps(table, &mut rng, Starts::Punctual);
+}
+
+/// Timing and mapping entries that start late.
+pub fn late_rows(table: &mut Table) {
+    timings_and_maps(table, &mut Rng::new(10), Starts::Late);
+}
+
+fn timings_and_maps(table: &mut Table, rng: &mut Rng, starts: Starts) {
     let draws: [(&str, Draw); 2] = [("mixed", entries::mixed), ("usual", entries::realistic)];
     for (periods, draw) in draws {
         for count in [8, 32, 64] {
-            table.row(&Timing::new(&mut rng, count, periods, draw));
+            let draw = |rng: &mut Rng| starts.of(draw(rng, count));
+            table.row(&Timing::new(rng, count, periods, starts, draw));
         }
     }
     for count in [8, 16, 32, 64] {
-        table.row(&Mapping::new(&mut rng, count));
+        table.row(&Mapping::new(rng, starts, count));
     }
 }
 
@@ -95,14 +105,22 @@ struct Timing {
     sessions: Vec<Session>,
     count: usize,
     periods: &'static str,
+    starts: Starts,
 }
 
 impl Timing {
-    fn new(rng: &mut Rng, count: usize, periods: &'static str, draw: Draw) -> Timing {
+    fn new(
+        rng: &mut Rng,
+        count: usize,
+        periods: &'static str,
+        starts: Starts,
+        draw: impl Fn(&mut Rng) -> Vec<model::Entry>,
+    ) -> Timing {
         let row = Timing {
-            sessions: (0..16).map(|_| session(8, &draw(rng, count))).collect(),
+            sessions: (0..16).map(|_| session(8, &draw(rng))).collect(),
             count,
             periods,
+            starts,
         };
         let mut times = row.lent();
         row.call::<Proved>(&mut times);
@@ -116,8 +134,8 @@ impl Row for Timing {
     type Lent = Vec<[Option<(u32, u32)>; 3]>;
 
     fn name(&self) -> String {
-        let (count, periods) = (self.count, self.periods);
-        format!("time the last of {count} entries with {periods} periods in a session")
+        let (count, periods, late) = (self.count, self.periods, self.starts.name());
+        format!("time the last of {count} entries with {periods} periods in a session{late}")
     }
 
     fn parts(&self) -> usize {
@@ -143,14 +161,16 @@ impl Row for Timing {
 struct Mapping {
     sessions: Vec<Session>,
     count: usize,
+    starts: Starts,
 }
 
 impl Mapping {
-    fn new(rng: &mut Rng, count: usize) -> Mapping {
-        let draw = |_| session(64, &mapped_entries(rng, count, 64));
+    fn new(rng: &mut Rng, starts: Starts, count: usize) -> Mapping {
+        let draw = |_| session(64, &mapped_entries(rng, starts, count, 64));
         Mapping {
             sessions: (0..16).map(draw).collect(),
             count,
+            starts,
         }
     }
 }
@@ -159,7 +179,11 @@ impl Row for Mapping {
     type Lent = Vec<(Option<usize>, [u8; 64])>;
 
     fn name(&self) -> String {
-        format!("map a session of {} entries", self.count)
+        format!(
+            "map a session of {} entries{}",
+            self.count,
+            self.starts.name()
+        )
     }
 
     fn parts(&self) -> usize {

@@ -2,28 +2,56 @@
 
 use oracle::file::encode;
 use oracle::gen::entries;
+use oracle::gen::odd::with_thirds;
 use oracle::model::{Entry, Node, Plan};
 use oracle::plain;
 use oracle::rng::Rng;
 
+/// Entries that are measured: punctual ones, or those with J of a third of
+/// their period, cut to D - C.
+#[derive(Clone, Copy, PartialEq, Eq)]
+pub enum Starts {
+    Punctual,
+    Late,
+}
+
+impl Starts {
+    /// The entries with their J.
+    pub fn of(self, entries: Vec<Entry>) -> Vec<Entry> {
+        match self {
+            Starts::Punctual => entries,
+            Starts::Late => with_thirds(entries),
+        }
+    }
+
+    /// The end of a row's name.
+    pub fn name(self) -> &'static str {
+        match self {
+            Starts::Punctual => "",
+            Starts::Late => ", each with jitter",
+        }
+    }
+}
+
 /// `count` entries that have a map with at most `levels` levels.
-pub fn mapped_entries(rng: &mut Rng, count: usize, levels: u8) -> Vec<Entry> {
+pub fn mapped_entries(rng: &mut Rng, starts: Starts, count: usize, levels: u8) -> Vec<Entry> {
     loop {
-        let entries = entries::many(rng, count);
+        let entries = starts.of(entries::many(rng, count));
         if plain::map(&one_node(&entries, levels), 7, &mut [0; 64]).is_some() {
             return entries;
         }
     }
 }
 
-/// The file of a plan of one node, with the number 7.
+/// The file of a plan of one node, with the number 7, of the first edition if
+/// every J is 0.
 pub fn one_node(entries: &[Entry], levels: u8) -> Vec<u8> {
     let node = Node {
         number: 7,
         levels,
         entries: entries.to_vec(),
     };
-    encode(&Plan { nodes: vec![node] }).expect("a good plan")
+    encode(&Plan::of(vec![node])).expect("a good plan")
 }
 
 /// The file of a station of `nodes` nodes with 16 levels each.
@@ -35,5 +63,5 @@ pub fn station(nodes: u16, mut draw: impl FnMut() -> Vec<Entry>) -> Vec<u8> {
             entries: draw(),
         })
         .collect();
-    encode(&Plan { nodes }).expect("a good plan")
+    encode(&Plan::of(nodes)).expect("a good plan")
 }

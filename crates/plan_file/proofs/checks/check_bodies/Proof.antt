@@ -1,50 +1,37 @@
-use mathlib.Core.Path.{_∙_, sym, ap}
+use Prim.Native.Nat.{_*_}
+use mathlib.Core.Path.{_≡_, _∙_, sym, ap}
 use native.Mathlib.Omega.{arith}
-use Rattle.refusals.specs.Refusals.{outcome}
-use Rattle.plan_file.proofs.Bodies.{whole-accepted}
 use borrow.Author.Needs.{needs}
+use Rattle.refusals.specs.Refusals.{outcome}
+use Rattle.task_model.specs.Limits.{EntryHolds}
+use Rattle.task_model.specs.Checks.{entryCheck}
+use Rattle.task_model.proofs.Theorems.{entry-accepted}
+use Rattle.plan_file.specs.Plan.{entryCount}
+use Rattle.plan_file.specs.Encoding.{entryLength}
+use Rattle.plan_file.specs.Decoding.{rowsFrom}
+use Rattle.plan_file.proofs.Encoding.{entries-counted}
+use Rattle.plan_file.proofs.Bodies.{whole-accepted}
 use Rattle.plan_file.proofs.checks.check_bodies.Statement.{statement}
 use Rattle.plan_file.proofs.checks.check_bodies.Tie as tie
 
-mul-start : tie.Need-mul-start
-mul-start c = search needs
-
-add-start : tie.Need-add-start
-add-start c = search needs
-
-sub-check-body : tie.Need-sub-check-body
-sub-check-body c = search needs
+-- the file holds as many entries as its rows count
+counted : (c : tie.After-entries-in)
+    → c .entries-in .result ≡ entryCount (rowsFrom (c .before .before .args .file .now) 0 (c .before .before .args .nodes))
+counted c = entries-counted (c .before .before .args .edition) _ _ _ _ (c .before .before .pre) (c .entries-in .ensures)
 
 check-body-requires : tie.Need-check-body-requires
-check-body-requires c κs = search needs
-
-enum-told : tie.Need-enum-told
-enum-told c = search needs
+check-body-requires c κs = omega (arith, ap (λ n. n * entryLength (c .before .before .args .edition)) (counted c))
 
 returns : tie.Need-returns
 returns c =
     let told = ap outcome (c .enum-told .given .1) in
-    told ∙ sym (whole-accepted _ _ _ _ _ (sym (c .before .before .check-body .ensures) ∙ told) (omega arith))
-
-enum-told-2 : tie.Need-enum-told-2
-enum-told-2 c = search needs
-
-check-by-row-requires : tie.Need-check-by-row-requires
-check-by-row-requires c κs = search needs
-
-returns-2 : tie.Need-returns-2
-returns-2 c = search needs
+    told
+    ∙ sym
+    (whole-accepted entryCheck EntryHolds entry-accepted _ _
+    ((rw (counted (c .before .before .before)) at (sym (c .before .before .check-body .ensures))) ∙ told))
 
 pub check-bodies-spec : {M : Type 1} → statement M
 check-bodies-spec =
-    tie.close
-    (tie.spec
-    mul-start
-    add-start
-    sub-check-body
-    check-body-requires
-    enum-told
-    returns
-    enum-told-2
-    check-by-row-requires
-    returns-2)
+    tie.close (tie.spec
+    (λ c. search needs) (λ c. search needs) (λ c. search needs) (λ c κs. search needs) check-body-requires (λ c. search needs) returns
+    (λ c. search needs) (λ c κs. search needs) (λ c. search needs))

@@ -4,6 +4,7 @@ use native.Mathlib.Omega.{arith}
 use lib.ListN.{length, drop}
 use borrow.Author.Needs.{needs}
 use Rattle.refusals.specs.Refusals.{outcome}
+use Rattle.task_model.specs.Checks.{entryCheck}
 use Rattle.plan_file.specs.Decoding.{rowsFrom, entriesAt}
 use Rattle.plan_file.specs.Encoding.{entryLength, bodiesStart}
 use Rattle.plan_file.specs.Plan.{entryCount}
@@ -14,108 +15,77 @@ use Rattle.plan_file.proofs.checks.check_by_row.Statement.{statement}
 use Rattle.plan_file.proofs.checks.check_by_row.Tie as tie
 
 abbrev Inv-loop : tie.InvT-loop
-Inv-loop file nodes start₀ row₀ start row =
+Inv-loop edition file nodes size start₀ row₀ start row =
     (row ≤ nodes)
-    × (start + entryCount (drop row (rowsFrom file 0 nodes)) * entryLength ≤ length file)
-    × (bodies (entriesAt file) start row (drop row (rowsFrom file 0 nodes))
-    ≡ bodies (entriesAt file) (bodiesStart nodes) 0 (rowsFrom file 0 nodes))
+    × (start + entryCount (drop row (rowsFrom file 0 nodes)) * entryLength edition ≤ length file)
+    × (bodies entryCheck (entriesAt edition file) start row (drop row (rowsFrom file 0 nodes))
+    ≡ bodies entryCheck (entriesAt edition file) (bodiesStart nodes) 0 (rowsFrom file 0 nodes))
 
 abbrev μ-loop : tie.MeasureT-loop
-μ-loop file nodes start₀ row₀ start row = nodes - row
-
-mul-start : tie.Need-mul-start Inv-loop μ-loop
-mul-start c = search needs
-
-add-start : tie.Need-add-start Inv-loop μ-loop
-add-start c = omega arith
+μ-loop edition file nodes size start₀ row₀ start row = nodes - row
 
 loop-holds : tie.Need-loop-holds Inv-loop μ-loop
-loop-holds c = (omega arith, c .before .pre, refl)
-
-row-at-requires : tie.Need-row-at-requires Inv-loop μ-loop
-row-at-requires c κs = search needs
+loop-holds c = (omega arith, c .before .before .pre, refl)
 
 -- places that the needs look back to
 abbrev at-start : tie.After-row-at Inv-loop μ-loop → tie.Start Inv-loop μ-loop
-at-start c = c .before .before .before .before
+at-start c = c .before .before .before .before .before
+
+abbrev at-loop : tie.After-row-at Inv-loop μ-loop → tie.At-loop Inv-loop μ-loop
+at-loop c = c .before .before
+
+abbrev after-entry-bytes : tie.After-row-at Inv-loop μ-loop → tie.After-entry-bytes Inv-loop μ-loop
+after-entry-bytes c = c .before .before .before
 
 abbrev after-row-at : tie.After-enum-told2 Inv-loop μ-loop → tie.After-row-at Inv-loop μ-loop
 after-row-at c = c .before .before .before .before
 
-abbrev at-loop : tie.After-enum-told2 Inv-loop μ-loop → tie.At-loop Inv-loop μ-loop
-at-loop c = c .before .before .before .before .before .before
-
 abbrev after-row-at-2 : tie.After-enum-told Inv-loop μ-loop → tie.After-row-at Inv-loop μ-loop
 after-row-at-2 c = c .before .before .before .before
 
-abbrev at-loop-2 : tie.After-enum-told Inv-loop μ-loop → tie.At-loop Inv-loop μ-loop
-at-loop-2 c = c .before .before .before .before .before .before
-
 at-row : (c : tie.After-row-at Inv-loop μ-loop)
-    → AtHand (rowsFrom (at-start c .args .file .now) 0 (at-start c .args .nodes)) (c .before .before .loop .row) (c .row-at .result)
+    → AtHand (rowsFrom (at-start c .args .file .now) 0 (at-start c .args .nodes)) (at-loop c .loop .row) (c .row-at .result)
 at-row c = file-row _ _ _ _ (c .before .loop-test .taken) (c .row-at .ensures)
 
-cast-count : tie.Need-cast-count Inv-loop μ-loop
-cast-count c = search needs
+-- the bytes of the entries from the row on: the row's, and the others
+bytes-here : (c : tie.After-row-at Inv-loop μ-loop)
+    → let rows = rowsFrom (at-start c .args .file .now) 0 (at-start c .args .nodes) in
+    let size = entryLength (at-start c .args .edition) in
+    entryCount (drop (at-loop c .loop .row) rows) * size ≡ (c .row-at .result .count + entryCount (drop (at-loop c .loop .row + 1) rows)) * size
+bytes-here c = ap (λ n. n * entryLength (at-start c .args .edition)) (count-here (at-row c))
 
-check-body-requires : tie.Need-check-body-requires Inv-loop μ-loop
-check-body-requires c κs = omega (arith, count-here (at-row (c .before)))
-
-enum-told : tie.Need-enum-told Inv-loop μ-loop
-enum-told c = search needs
-
-enum-told-2 : tie.Need-enum-told-2 Inv-loop μ-loop
-enum-told-2 c = search needs
+-- and the size is the edition's
+sized : (c : tie.After-row-at Inv-loop μ-loop)
+    → c .row-at .result .count * after-entry-bytes c .entry-bytes .result ≡ c .row-at .result .count * entryLength (at-start c .args .edition)
+sized c = ap (λ s. c .row-at .result .count * s) (after-entry-bytes c .entry-bytes .ensures)
 
 returns : tie.Need-returns Inv-loop μ-loop
 returns c =
+    let k = after-row-at c in
     let told = ap outcome (c .enum-told2 .given .1) in
     told
-    ∙ sym (bodies-here (entries-run _) (at-row (after-row-at c)) _ _ refl _ (sym (c .before .before .check-body .ensures) ∙ told))
-    ∙ at-loop c .loop .inv .2
-
-mul-start-2 : tie.Need-mul-start-2 Inv-loop μ-loop
-mul-start-2 c = search needs
-
-add-start-2 : tie.Need-add-start-2 Inv-loop μ-loop
-add-start-2 c = omega (arith, count-here (at-row (after-row-at-2 c)))
-
-add-row : tie.Need-add-row Inv-loop μ-loop
-add-row c = search needs
-
-loop-less : tie.Need-loop-less Inv-loop μ-loop
-loop-less c = omega arith
+    ∙ sym (bodies-here entryCheck (entries-run _ _) (at-row k) _ _ refl _ (sym (c .before .before .check-body .ensures) ∙ told))
+    ∙ at-loop k .loop .inv .2
 
 loop-again : tie.Need-loop-again Inv-loop μ-loop
 loop-again c =
-    let row = at-row (after-row-at-2 c) in (
+    let k = after-row-at-2 c in (
       omega arith,
-      omega (arith, count-here row),
-      sym (bodies-here (entries-run _) row _ _ refl _ (sym (c .before .before .check-body .ensures) ∙ ap outcome (c .enum-told .given .1)))
-          ∙ at-loop-2 c .loop .inv .2,
+      omega (arith, bytes-here k, sized k),
+      sym
+          (bodies-here entryCheck (entries-run _ _) (at-row k) _ _ (omega (arith, sized k)) _
+          (sym (c .before .before .check-body .ensures) ∙ ap outcome (c .enum-told .given .1)))
+          ∙ at-loop k .loop .inv .2,
     )
 
 returns-2 : tie.Need-returns-2 Inv-loop μ-loop
-returns-2 c = sym (bodies-end (entries-run _) _ _ _ (run-none (rows-run _) _ _ _ (c .loop-test .left))) ∙ c .before .loop .inv .2
+returns-2 c =
+    sym (bodies-end entryCheck (entries-run _ _) _ _ _ (run-none (rows-run _) _ _ _ (c .loop-test .left))) ∙ c .before .loop .inv .2
 
 pub check-by-row-spec : {M : Type 1} → statement M
 check-by-row-spec =
-    tie.close
-    (tie.spec
-    Inv-loop
-    μ-loop
-    mul-start
-    add-start
-    loop-holds
-    row-at-requires
-    cast-count
-    check-body-requires
-    enum-told
-    enum-told-2
-    returns
-    mul-start-2
-    add-start-2
-    add-row
-    loop-less
-    loop-again
-    returns-2)
+    tie.close (tie.spec
+    Inv-loop μ-loop (λ c κs. search needs) (λ c. search needs) (λ c. omega arith) loop-holds (λ c κs. search needs) (λ c. search needs)
+    (λ c κs. omega (arith, bytes-here (c .before))) (λ c. search needs) (λ c. search needs) returns
+    (λ c. omega (arith, bytes-here (after-row-at-2 c), sized (after-row-at-2 c)))
+    (λ c. omega (arith, bytes-here (after-row-at-2 c), sized (after-row-at-2 c))) (λ c. search needs) (λ c. omega arith) loop-again returns-2)

@@ -8,6 +8,7 @@ use borrow.Author.Needs.{needs}
 use Rattle.node_words.specs.Words.{entrySize, entriesFrom}
 use Rattle.refusals.specs.Refusals.{outcome}
 use Rattle.plan_file.specs.Plan.{entryCount, rowOf}
+use Rattle.plan_file.specs.Check.{writtenCheck}
 use Rattle.byte_words.proofs.Runs.{AtHand}
 use Rattle.plan_file.proofs.Contents.{words-entries-run, memory-row, memory-none}
 use Rattle.plan_file.proofs.Rows.{bodies, count-here, bodies-here, bodies-end}
@@ -15,13 +16,14 @@ use Rattle.plan_file.proofs.checks.check_nodes.Statement.{statement}
 use Rattle.plan_file.proofs.checks.check_nodes.Tie as tie
 
 abbrev Inv-loop : tie.InvT-loop
-Inv-loop rows words first₀ row₀ first row =
+Inv-loop edition rows words first₀ row₀ first row =
     (row ≤ length rows)
     × ((first + entryCount (drop row (map rowOf rows))) * entrySize ≤ length words)
-    × (bodies (entriesFrom words) first row (drop row (map rowOf rows)) ≡ bodies (entriesFrom words) 0 0 (map rowOf rows))
+    × (bodies (writtenCheck edition) (entriesFrom words) first row (drop row (map rowOf rows))
+    ≡ bodies (writtenCheck edition) (entriesFrom words) 0 0 (map rowOf rows))
 
 abbrev μ-loop : tie.MeasureT-loop
-μ-loop rows words first₀ row₀ first row = length rows - row
+μ-loop edition rows words first₀ row₀ first row = length rows - row
 
 loop-holds : tie.Need-loop-holds Inv-loop μ-loop
 loop-holds c = (omega arith, (rw zero-add (c .before .before .pre)), refl)
@@ -61,8 +63,8 @@ at-row c = memory-row (at-start c .args .rows .now) _ _ (c .before .before .loop
 cast-count : tie.Need-cast-count Inv-loop μ-loop
 cast-count c = search needs
 
-check-entries-requires : tie.Need-check-entries-requires Inv-loop μ-loop
-check-entries-requires c κs = omega (arith, count-here (at-row (c .before)))
+check-written-requires : tie.Need-check-written-requires Inv-loop μ-loop
+check-written-requires c κs = omega (arith, count-here (at-row (c .before)))
 
 enum-told : tie.Need-enum-told Inv-loop μ-loop
 enum-told c = search needs
@@ -74,7 +76,7 @@ returns : tie.Need-returns Inv-loop μ-loop
 returns c =
     let told = ap outcome (c .enum-told2 .given .1) in
     told
-    ∙ sym (bodies-here (words-entries-run _) (at-row (after-row-of c)) _ _ refl _ (sym (c .before .before .check-entries .ensures) ∙ told))
+    ∙ sym (bodies-here (writtenCheck _) (words-entries-run _) (at-row (after-row-of c)) _ _ refl _ (sym (c .before .before .check-written .ensures) ∙ told))
     ∙ at-loop c .loop .inv .2
 
 add-first : tie.Need-add-first Inv-loop μ-loop
@@ -91,12 +93,12 @@ loop-again c =
     let row = at-row (after-row-of-2 c) in (
       omega arith,
       omega (arith, count-here row),
-      sym (bodies-here (words-entries-run _) row _ _ (omega arith) _ (sym (c .before .before .check-entries .ensures) ∙ ap outcome (c .enum-told .given .1)))
+      sym (bodies-here (writtenCheck _) (words-entries-run _) row _ _ (omega arith) _ (sym (c .before .before .check-written .ensures) ∙ ap outcome (c .enum-told .given .1)))
           ∙ at-loop-2 c .loop .inv .2,
     )
 
 returns-2 : tie.Need-returns-2 Inv-loop μ-loop
-returns-2 c = sym (bodies-end (words-entries-run _) _ _ _ (memory-none (at-start-2 c .args .rows .now) _ (c .loop-test .left))) ∙ c .before .loop .inv .2
+returns-2 c = sym (bodies-end (writtenCheck _) (words-entries-run _) _ _ _ (memory-none (at-start-2 c .args .rows .now) _ (c .loop-test .left))) ∙ c .before .loop .inv .2
 
 pub check-nodes-spec : {M : Type 1} → statement M
 check-nodes-spec =
@@ -109,7 +111,7 @@ check-nodes-spec =
     shared-slice-read-row-of
     row-of-requires
     cast-count
-    check-entries-requires
+    check-written-requires
     enum-told
     enum-told-2
     returns

@@ -1,6 +1,6 @@
 use mathlib.Core.Path.{_∙_, ap, sym}
 use Rattle.plan_file.specs.Answers.{readGives}
-use Rattle.planner_c.specs.Returned.{sizedPlan}
+use Rattle.planner_c.specs.Returned.{given, sizedPlan}
 use borrow.Author.Needs.{needs}
 use Rattle.planner_c.proofs.plan_files.maiplur_read.Statement.{statement}
 use Rattle.planner_c.proofs.plan_files.maiplur_read.Tie as tie
@@ -10,6 +10,9 @@ read-plan-requires c κs = search needs
 
 enum-known-read : tie.Need-enum-known-read
 enum-known-read c = search needs
+
+edition-number-requires : tie.Need-edition-number-requires
+edition-number-requires c κs = search needs
 
 give-requires : tie.Need-give-requires
 give-requires c κs = search needs
@@ -28,7 +31,7 @@ same-length-2 c = search needs
 
 -- places that the needs look back to
 abbrev after-read-plan : tie.After-give → tie.After-read-plan
-after-read-plan c = c .before .before .before .before .before .before .before .before .before
+after-read-plan c = c .before .before .before .before .before .before .before .before .before .before
 
 abbrev after-read-plan-2 : tie.After-refuse → tie.After-read-plan
 after-read-plan-2 c = c .before .before .before .before .before .before .before .before .before
@@ -36,7 +39,9 @@ after-read-plan-2 c = c .before .before .before .before .before .before .before 
 returns : tie.Need-returns
 returns c =
     let e = after-read-plan c .read-plan .ensures in (
-      c .give .ensures ∙ ap sizedPlan (sym (ap readGives (c .before .before .before .read .given .1)) ∙ e .0 .answer),
+      c .give .ensures
+          ∙ ap (given _ _) (c .before .before .edition-number .ensures)
+          ∙ ap sizedPlan (sym (ap readGives (c .before .before .before .before .read .given .1)) ∙ e .0 .answer),
       (rw (e .0 .answer) at (e .0 .rowsThere), (rw (e .0 .answer) at (e .0 .wordsThere), rw (e .0 .answer) at (e .1))),
     )
 
@@ -59,6 +64,7 @@ maiplur-read-spec =
     (tie.spec
     read-plan-requires
     enum-known-read
+    edition-number-requires
     give-requires
     enum-known-read-2
     refuse-requires

@@ -32,7 +32,7 @@ returns : tie.Need-returns
 returns c =
     let e = c .before .before .enum-told .given .1 in
     let r = after-rounds c .rounds .ensures in
-    c .give .ensures ∙ ap (given 0) (r ∙ ap (λ t. roundsIn (completion t)) e) ∙ sym (ap (λ t. givenTime (completion t)) e)
+    c .give .ensures ∙ ap (λ n. given 0 n 0) (r ∙ ap (λ t. roundsIn (completion t)) e) ∙ sym (ap (λ t. givenTime (completion t)) e)
 
 cast-give : tie.Need-cast-give
 cast-give c = search needs
@@ -46,7 +46,7 @@ returns-2 c =
     let e = c .before .before .before .t .given .1 in
     let r = after-rounds-2 c .rounds .ensures in
     c .give2 .ensures
-    ∙ ap (given (c .before .before .before .t .given .0 .0)) (r ∙ ap (λ t. roundsIn (completion t)) e)
+    ∙ ap (λ n. given (c .before .before .before .t .given .0 .0) n 0) (r ∙ ap (λ t. roundsIn (completion t)) e)
     ∙ sym (ap (λ t. givenTime (completion t)) e)
 
 pub give-time-spec : {M : Type 1} → statement M

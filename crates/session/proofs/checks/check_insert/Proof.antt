@@ -1,7 +1,7 @@
 use mathlib.Core.Path.{_∙_, sym}
 use native.Mathlib.Omega.{arith}
 use Rattle.node_words.proofs.Entries.{length-entries}
-use Rattle.session.specs.Operations.{lentCheck}
+use Rattle.session.specs.Operations.{lentCheck, lentCheckBy}
 use Rattle.session.proofs.Checking.{lent-refused, lent-accepted, insert-outside, insert-full, insert-entry}
 use borrow.Author.Needs.{needs}
 use Rattle.session.proofs.checks.check_insert.Statement.{statement}
@@ -24,21 +24,21 @@ abbrev after-check-words-2 : tie.After-check-entry → tie.After-check-words
 after-check-words-2 c = c .before .before .before .before .before
 
 returns-2 : tie.Need-returns-2
-unfolding lentCheck
+unfolding lentCheckBy
 returns-2 c =
     let a = at-start c .args in
     let n = length-entries (a .words .now) 0 (a .count) in
     lent-accepted _ _ _ (c .before .before .before .check-words .ensures) (c .before .enum-told .given .1) (sym (insert-outside _ _ _ (omega arith)))
 
 returns-3 : tie.Need-returns-3
-unfolding lentCheck
+unfolding lentCheckBy
 returns-3 c =
     let a = at-start-2 c .args in
     let n = length-entries (a .words .now) 0 (a .count) in
     lent-accepted _ _ _ (after-check-words c .check-words .ensures) (c .before .before .enum-told .given .1) (sym (insert-full _ _ _ (omega arith) (omega arith)))
 
 returns-4 : tie.Need-returns-4
-unfolding lentCheck
+unfolding lentCheckBy
 returns-4 c =
     let a = at-start-3 c .args in
     let n = length-entries (a .words .now) 0 (a .count) in
@@ -46,7 +46,7 @@ returns-4 c =
     (c .check-entry .ensures ∙ sym (insert-entry _ _ _ (omega arith) (omega arith)))
 
 pub check-insert-spec : {M : Type 1} → statement M
-unfolding lentCheck
+unfolding lentCheckBy
 check-insert-spec =
     tie.close (tie.spec
     (λ c κs. search needs) (λ c. search needs) (λ c. search needs)
