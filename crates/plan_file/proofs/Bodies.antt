@@ -45,7 +45,8 @@ each-part P es h c d j l =
     (h (d + j) (omega (arith, length-take c (drop d es), length-drop d es)))
 
 -- node by node, where the check of one entry accepts exactly what P says
-module _ (check : ℕ → ℕ → Entry → Outcome) (P : Entry → Type 0) (one : (row p : ℕ) (e : Entry) → check row p e ≡ accepted ↔ P e) where
+module _ (check : ℕ → ℕ → Entry → Outcome) (P : Entry → Type 0)
+    (one : (row p : ℕ) (e : Entry) → check row p e ≡ accepted ↔ P e) where
   pub nodes-accepted : (k : ℕ) (rs : List Row) (es : List Entry)
       → ((i : ℕ) → i < length rs → Each P (take (rowIn rs i .count) (drop (entryCount (take i rs)) es)))
       → nodesBy check k rs es ≡ accepted
@@ -72,7 +73,8 @@ module _ (check : ℕ → ℕ → Entry → Outcome) (P : Entry → Type 0) (one
       (nodes-each (suc k) rs (drop (r .count) es) (both-accepted (entriesBy (check k) 0 (take (r .count) es)) _ a .1) i (omega arith))
 
   -- and so is every entry, where the rows count them all
-  pub nodes-all : (k : ℕ) (rs : List Row) (es : List Entry) → nodesBy check k rs es ≡ accepted → length es ≤ entryCount rs → Each P es
+  pub nodes-all : (k : ℕ) (rs : List Row) (es : List Entry) → nodesBy check k rs es ≡ accepted → length es ≤ entryCount rs
+      → Each P es
   unfolding nodesBy entryCount
   nodes-all k [] es a l j h = absurd (omega arith)
   nodes-all k (r ∷ rs) es a l j h =
@@ -84,5 +86,6 @@ module _ (check : ℕ → ℕ → Entry → Outcome) (P : Entry → Type 0) (one
       (λ t.
       let e : c + (j - c) ≡ j = omega (arith, ltb-false j c t) in
       rw (getD-drop c es (j - c) noEntry, e) at
-      (nodes-all (suc k) rs (drop c es) (q .1) (omega (arith, length-drop c es)) (j - c) (omega (arith, ltb-false j c t, length-drop c es))))
+      (nodes-all (suc k) rs (drop c es) (q .1) (omega (arith, length-drop c es)) (j - c)
+      (omega (arith, ltb-false j c t, length-drop c es))))
       (true-or-false (ltb j c))

@@ -60,8 +60,15 @@ unfolding headerBytes low
 header-stored First o e nodes = rw e
 header-stored Second o e nodes = rw e
 
+-- as many entries as there are, or fewer, lie inside
+pub entries-inside : (ed : Edition) (total start m n : ℕ) → total ≡ start + m * entryLength ed → n ≤ m
+    → start + n * entryLength ed ≤ total
+entries-inside First total start m n e h = omega arith
+entries-inside Second total start m n e h = omega arith
+
 -- how many entries the bytes after a start hold
-pub entries-counted : (ed : Edition) (total start m n : ℕ) → total ≡ start + m * entryLength ed → n ≡ (total - start) / entryLength ed → n ≡ m
+pub entries-counted : (ed : Edition) (total start m n : ℕ) → total ≡ start + m * entryLength ed
+    → n ≡ (total - start) / entryLength ed → n ≡ m
 entries-counted First total start m n e p = omega arith
 entries-counted Second total start m n e p = omega arith
 

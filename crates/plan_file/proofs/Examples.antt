@@ -1,5 +1,5 @@
--- Case P as a file of the first edition, a node with a release jitter as one of the second, and the examples of the table of
--- refusals.
+-- Case P as a file of the first edition, a node with a release jitter as one of the second, and the examples of the table
+-- of refusals.
 use Prim.Native.Nat.{ℕ}
 use mathlib.Core.Path.{_≡_, refl}
 use mathlib.Core.List.{List, [], _∷_, _++_}

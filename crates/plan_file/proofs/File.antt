@@ -10,7 +10,7 @@ use Rattle.plan_file.specs.declared.Row.{Row}
 use Rattle.plan_file.specs.Plan.{entryCount}
 use Rattle.plan_file.specs.Encoding.{entryLength, bodiesStart}
 use Rattle.plan_file.specs.Decoding.{editionOf, nodeCount, rowsIn, entriesIn}
-use Rattle.plan_file.specs.Check.{headerBy, headerCheck, contentsCheck, layoutCheck, nodesBy, fileCheck}
+use Rattle.plan_file.specs.Check.{headerCheck, contentsCheck, layoutCheck, nodesBy, fileCheck}
 use Rattle.refusals.proofs.Outcomes.{both-accepted, demanded}
 use Rattle.plan_file.proofs.Header.{HeaderHolds, header-holds}
 

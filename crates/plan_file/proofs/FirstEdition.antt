@@ -4,7 +4,7 @@ use mathlib.Core.Path.{_≡_, refl, ap₂}
 use mathlib.Core.Bool.{Bool, true, false, _||_}
 use mathlib.Core.List.{List, [], _∷_}
 use native.Mathlib.Omega.{arith}
-use lib.ListN.{length, take, drop, length-take, length-drop}
+use lib.ListN.{take, drop, length-take, length-drop}
 use lib.Seq.{getD-take, getD-drop}
 use Rattle.refusals.specs.Refusals.{Outcome, _andThen_}
 use Rattle.task_model.specs.declared.Entry.{Entry}
@@ -26,8 +26,8 @@ use Rattle.plan_file.proofs.Memory.{entries-at-edition}
 
 -- two checks of one entry that agree on all entries at hand find the same
 module _ (P : Entry → Type 0) where
-  entries-same : (c d : ℕ → Entry → Outcome) → ((p : ℕ) (e : Entry) → P e → c p e ≡ d p e) → (p : ℕ) (es : List Entry) → Each P es
-      → entriesBy c p es ≡ entriesBy d p es
+  entries-same : (c d : ℕ → Entry → Outcome) → ((p : ℕ) (e : Entry) → P e → c p e ≡ d p e)
+      → (p : ℕ) (es : List Entry) → Each P es → entriesBy c p es ≡ entriesBy d p es
   unfolding entriesBy
   entries-same c d same p [] h = refl
   entries-same c d same p (e ∷ es) h =
@@ -59,8 +59,8 @@ first-edition f p =
       edition-first f p,
       p,
       or-false (openingTest First f),
-      nodes-same (EditionFits First) entryCheck punctualCheck (λ row p e z. entry-punctual e z row p) 0 (rowsIn f) (entriesAt First f k n)
-          (entries-at-edition First f k n),
+      nodes-same (EditionFits First) entryCheck punctualCheck (λ row p e z. entry-punctual e z row p) 0 (rowsIn f)
+          (entriesAt First f k n) (entries-at-edition First f k n),
     )
 
 -- Its plan is that of the first edition.

@@ -75,7 +75,9 @@ module _ (f : List ℕ) where
   opens-edition p =
       ⊎-elim
       (λ q. rw (edition-second q) q)
-      (λ q. rw (edition-first q) (⊎-elim (λ s. s) (λ s. absurd (true≢false (sym (sym (opens-else s ∙ q) ∙ p)))) (true-or-false (openingTest First f))))
+      (λ q.
+      rw (edition-first q)
+      (⊎-elim (λ s. s) (λ s. absurd (true≢false (sym p ∙ opens-else s ∙ q))) (true-or-false (openingTest First f))))
       (true-or-false (openingTest Second f))
 
   pub opens-known : (ed : Edition) → Opens ed f → opensTest f ≡ true

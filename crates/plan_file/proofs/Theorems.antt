@@ -6,17 +6,18 @@ use mathlib.Core.Logic.{_↔_, ⊎-elim}
 use mathlib.Core.List.{List, [], _∷_, map, append-nil}
 use native.Mathlib.Omega.{arith}
 use lib.ListN.{length, getD, take, replicate}
-use lib.Dec.{ltb}
+use lib.Dec.{ltb, eqb}
 use borrow.Author.Tests.{eq-eqb, lt-ltb, ltb-true}
 use Rattle.task_model.specs.declared.Entry.{Entry}
-use Rattle.refusals.specs.Refusals.{at, accepted, refused}
-use Rattle.task_model.specs.Limits.{mostTicks, mostLevels, mostEntries, entryAt, NodeHolds}
+use Rattle.refusals.specs.Refusals.{at, accepted, refused, mustHold}
+use Rattle.task_model.specs.Limits.{mostTicks, mostLevels, mostEntries, entryAt, KindHolds, TimesHold, JitterHolds, NodeHolds}
 use Rattle.task_model.specs.Checks.{kindTest, timesTest, jitterTest, entryCheck, entriesBy, sizeTest}
 use Rattle.node_words.specs.Words.{entrySize, entryFrom, wordsOf, entriesOf, WordsFit}
 use Rattle.node_words.proofs.Words.{read-entries, entries-fit, length-words as length-words-of}
 use Rattle.node_words.proofs.Entries.{length-entries}
 use Rattle.task_model.proofs.Tests.{true-or-false}
-use Rattle.refusals.proofs.Outcomes.{not-both, then-accepted, mustHold-accepts, mustHold-refuses}
+use Rattle.task_model.proofs.Theorems.{entry-accepted, entry-jitter}
+use Rattle.refusals.proofs.Outcomes.{either, not-both, then-refused, then-accepted, mustHold-accepts, mustHold-refuses}
 use Rattle.plan_file.specs.declared.Edition.{Edition}
 use Rattle.plan_file.specs.declared.Edition.the-variants.{First, Second}
 use Rattle.plan_file.specs.declared.Row.{Row}
@@ -33,7 +34,7 @@ use Rattle.plan_file.proofs.Contents.{length-rows, length-entries-at}
 use Rattle.plan_file.proofs.Encoding.{length-encoding}
 use Rattle.plan_file.proofs.Header.{header-holds}
 use Rattle.plan_file.proofs.File.{file-layout, file-holds}
-use Rattle.plan_file.proofs.WriterChecks.{writer-holds, count-true, writer-nodes, nodes-written}
+use Rattle.plan_file.proofs.WriterChecks.{writer-holds, count-true, writer-nodes, nodes-written, first-refuses, first-jitter}
 use Rattle.plan_file.proofs.Memory.{entries-at-edition}
 use Rattle.plan_file.proofs.Encoded.{same-bytes}
 use Rattle.plan_file.proofs.Nodes.{contents-rows}
@@ -65,10 +66,11 @@ plan-accepted f a =
     (mustHold-accepts _ _ (eq-eqb (entryCount (rowsIn f) * entrySize) (entryCount (rowsIn f) * entrySize) refl)))
     ∙ nodes-written ed 0 (rowsIn f) (entriesIn f) (h .bodies) (entries-at-edition ed f _ _)
 
--- A list of bytes is accepted as a file exactly if it is the encoding, in some edition, of a plan within the writer's checks
--- for that edition.
+-- A list of bytes is accepted as a file exactly if it is the encoding, in some edition, of a plan within the writer's
+-- checks for that edition.
 pub accepted-exactly : (f : List ℕ)
-    → (Bytes f × (fileCheck f ≡ accepted)) ↔ ((ed : Edition) × (p : Plan) × PlanFits p × (planCheck ed p ≡ accepted) × (encoding ed p ≡ f))
+    → (Bytes f × (fileCheck f ≡ accepted))
+    ↔ ((ed : Edition) × (p : Plan) × PlanFits p × (planCheck ed p ≡ accepted) × (encoding ed p ≡ f))
 accepted-exactly f = (
   λ h. (editionOf f, planIn f, plan-fits f (h .0), plan-accepted f (h .1), same-bytes f (h .0) (h .1)),
   λ h. (rw (← h .4) (bytes-encoding (h .0) (h .1)), (rw (← h .4) (encoding-accepted (h .0) (h .1) (h .3) (h .2)))),
@@ -100,6 +102,42 @@ words-limits ed rs ws =
           ∙ holds-accepted ed (planOf rs ws) (h .0) (h .1),
     )
 
+positive : (n : ℕ) → (n ≡ 0 → ⊥) → 0 < n
+positive zero h = absurd (h refl)
+positive (suc n) h = omega arith
+
+-- An entry that is to be written in the first edition is refused as 14 exactly if its kind and its times hold and its J is
+-- above zero. So an entry with times that do not hold never gives 14.
+module _ (row position : ℕ) (e : Entry) where
+  jitter-broken : writtenCheck First row position e ≡ refused (at 14 row position)
+      → KindHolds e × TimesHold e × (0 < e .jitter)
+  unfolding writtenCheck
+  jitter-broken p =
+      ⊎-elim
+      (λ a.
+      let h = entry-accepted row position e .0 a in
+      let t : mustHold (eqb (e .jitter) 0) (at 14 row position) ≡ refused (at 14 row position) =
+      sym (then-accepted (entryCheck row position e) _ a) ∙ p in
+      (h .kind, h .times, positive (e .jitter) (λ z. not-both (mustHold-accepts _ _ (eq-eqb (e .jitter) 0 z)) t)))
+      (λ q.
+      let h = entry-jitter row position e .0 (q .1 ∙ sym (then-refused (entryCheck row position e) _ (q .0) (q .1)) ∙ p) in
+      (h .0, h .1, positive (e .jitter) (λ z. h .2 (omega arith))))
+      (either (entryCheck row position e))
+
+  pub written-jitter : writtenCheck First row position e ≡ refused (at 14 row position)
+      ↔ (KindHolds e × TimesHold e × (0 < e .jitter))
+  written-jitter = (
+    jitter-broken,
+    λ h.
+        ⊎-elim
+        (λ a. first-jitter row position e a (h .2))
+        (λ q.
+        let late : JitterHolds e → ⊥ =
+        λ j. not-both (entry-accepted row position e .1 (record { kind = h .0; times = h .1; jitter = j })) (q .1) in
+        first-refuses row position e _ (entry-jitter row position e .1 (h .0, h .1, late)))
+        (either (entryCheck row position e)),
+  )
+
 -- Every plan that is read from a file of the first edition has J zero throughout.
 pub first-punctual : (f : List ℕ) → editionOf f ≡ First → (j : ℕ) → j < length (planIn f .entries)
     → entryAt (planIn f .entries) j .jitter ≡ 0
@@ -112,7 +150,8 @@ pub first-nodes-punctual : (f : List ℕ) → editionOf f ≡ First → (i j : �
     → entryAt (nodeOfRow (planIn f) i .entries) j .jitter ≡ 0
 unfolding nodeOfRow
 first-nodes-punctual f e i =
-    each-part (EditionFits First) (planIn f .entries) (first-punctual f e) (rowIn (rowsIn f) i .count) (entryCount (take i (rowsIn f)))
+    each-part (EditionFits First) (planIn f .entries) (first-punctual f e) (rowIn (rowsIn f) i .count)
+    (entryCount (take i (rowsIn f)))
 
 -- What the reader fills holds the plan of the file.
 pub read-holds : (f : List ℕ) → Bytes f
@@ -156,7 +195,8 @@ write-read-memory ed rs ws hr hw a =
 
 -- Each node of an accepted file is within every limit of a node.
 pub nodes-hold : (f : List ℕ) → fileCheck f ≡ accepted → (i : ℕ) → i < nodeCount f → NodeHolds (nodeOfRow (planIn f) i)
-nodes-hold f a i h = plan-holds (editionOf f) (planIn f) (plan-accepted f a) .0 .nodes i (omega (arith, length-rows f 0 (nodeCount f)))
+nodes-hold f a i h =
+    plan-holds (editionOf f) (planIn f) (plan-accepted f a) .0 .nodes i (omega (arith, length-rows f 0 (nodeCount f)))
 
 -- The fields of a row are bytes of the file: node number (2), levels (1), entry count (1), offset (4).
 pub row-fields : (f : List ℕ) → Bytes f → (i k : ℕ) → k ≡ headerLength + i * rowLength
@@ -219,7 +259,8 @@ pub finds : (f : List ℕ) → fileCheck f ≡ accepted → (number i : ℕ) →
     → (findCheck f number ≡ accepted) × (nodeFound f number ≡ nodeOfRow (planIn f) i)
 unfolding findCheck
 finds f a number i h e =
-    let r = found-at 0 0 (rowsIn f) (contents-rows (entryLength (editionOf f)) f 0 0 _ (rowsIn f) (file-holds f a .contents)) number i h e in (
+    let rows = contents-rows (entryLength (editionOf f)) f 0 0 _ (rowsIn f) (file-holds f a .contents) in
+    let r = found-at 0 0 (rowsIn f) rows number i h e in (
       rw (a, r, lt-ltb i (length (rowsIn f)) h),
       rw r,
     )

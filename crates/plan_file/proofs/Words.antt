@@ -31,7 +31,8 @@ heldWords First = 5
 heldWords Second = entrySize
 
 -- the bytes of an entry are those of the words that the edition holds
-pub entry-bytes : (ed : Edition) (ws : List ℕ) → entrySize ≤ length ws → entryBytes ed (entryFrom ws 0) ≡ bytesOf (take (heldWords ed) ws)
+pub entry-bytes : (ed : Edition) (ws : List ℕ) → entrySize ≤ length ws
+    → entryBytes ed (entryFrom ws 0) ≡ bytesOf (take (heldWords ed) ws)
 unfolding entryBytes fieldBytes entryFrom bytesOf
 entry-bytes ed [] l = absurd (omega arith)
 entry-bytes ed (a ∷ []) l = absurd (omega arith)
@@ -51,14 +52,16 @@ bodies-cons ws n l p =
     let e : suc n * entrySize ≡ entrySize + n * entrySize = omega arith in
     rw (entries-cons ws n, e, take-add entrySize (n * entrySize) ws, bytes-append) (rw (entry-bytes Second ws l, p))
 
-pub bodies-bytes : (n : ℕ) (ws : List ℕ) → n * entrySize ≤ length ws → bodiesBytes Second (entriesOf ws n) ≡ bytesOf (take (n * entrySize) ws)
+pub bodies-bytes : (n : ℕ) (ws : List ℕ) → n * entrySize ≤ length ws
+    → bodiesBytes Second (entriesOf ws n) ≡ bytesOf (take (n * entrySize) ws)
 unfolding bodiesBytes entriesFrom bytesOf
 bodies-bytes zero ws l = refl
 bodies-bytes (suc n) ws l =
     bodies-cons ws n (omega arith) (bodies-bytes n (drop entrySize ws) (omega (arith, length-drop entrySize ws)))
 
 pub words-first : (f : List ℕ) (k : ℕ)
-    → wordAt f k ∷ wordAt f (k + 4) ∷ wordAt f (k + 8) ∷ wordAt f (k + 12) ∷ wordAt f (k + 16) ∷ 0 ∷ [] ≡ entryWordsAt First f k
+    → wordAt f k ∷ wordAt f (k + 4) ∷ wordAt f (k + 8) ∷ wordAt f (k + 12) ∷ wordAt f (k + 16) ∷ 0 ∷ []
+    ≡ entryWordsAt First f k
 unfolding wordsFrom
 words-first f k =
     let e8 : k + 4 + 4 ≡ k + 8 = omega arith in
@@ -67,7 +70,8 @@ words-first f k =
     rw (e8, e12, e16)
 
 pub words-second : (f : List ℕ) (k : ℕ)
-    → wordAt f k ∷ wordAt f (k + 4) ∷ wordAt f (k + 8) ∷ wordAt f (k + 12) ∷ wordAt f (k + 16) ∷ wordAt f (k + 20) ∷ [] ≡ entryWordsAt Second f k
+    → wordAt f k ∷ wordAt f (k + 4) ∷ wordAt f (k + 8) ∷ wordAt f (k + 12) ∷ wordAt f (k + 16) ∷ wordAt f (k + 20) ∷ []
+    ≡ entryWordsAt Second f k
 unfolding wordsFrom
 words-second f k =
     let e8 : k + 4 + 4 ≡ k + 8 = omega arith in

@@ -77,7 +77,8 @@ module _ (ed : Edition) (rows : List Row) (entries : List Entry) (words : ℕ) w
       record { some = n .0; few = n .1; rowsHold = t .0; counts = t .1; nodes = p2 .1 }
 
 -- an entry that is to be written is accepted exactly if it is within the limits and the edition has a place for it
-pub written-accepted : (ed : Edition) (row p : ℕ) (e : Entry) → writtenCheck ed row p e ≡ accepted ↔ (EntryHolds e × EditionFits ed e)
+pub written-accepted : (ed : Edition) (row p : ℕ) (e : Entry)
+    → writtenCheck ed row p e ≡ accepted ↔ (EntryHolds e × EditionFits ed e)
 unfolding writtenCheck
 written-accepted First row p e = (
   λ a. let q = both-accepted (entryCheck row p e) _ a in (entry-accepted row p e .0 (q .0), eqb-true _ _ (demanded _ _ (q .1))),
@@ -101,7 +102,8 @@ module _ (row p : ℕ) (e : Entry) where
 
 -- so the writer's check of entries is that of a file, and that the edition has a place for each
 module _ (ed : Edition) (k : ℕ) (rs : List Row) (es : List Entry) where
-  pub nodes-written : nodesBy entryCheck k rs es ≡ accepted → Each (EditionFits ed) es → nodesBy (writtenCheck ed) k rs es ≡ accepted
+  pub nodes-written : nodesBy entryCheck k rs es ≡ accepted → Each (EditionFits ed) es
+      → nodesBy (writtenCheck ed) k rs es ≡ accepted
   nodes-written a fits =
       nodes-accepted (writtenCheck ed) _ (written-accepted ed) k rs es
       (λ i h j l. (

@@ -27,7 +27,8 @@ use Rattle.plan_file.proofs.Encoding.{bodies-append, length-bodies, len
 
 module _ (ed : Edition) (ws : List ℕ) (i : ℕ) (h : i * entrySize + entrySize ≤ length ws) where
   -- entries as bytes, and one more
-  bodies-more : bodiesBytes ed (entriesOf ws i) ++ bytesOf (take (heldWords ed) (drop (i * entrySize) ws)) ≡ bodiesBytes ed (entriesOf ws (i + 1))
+  bodies-more : bodiesBytes ed (entriesOf ws i) ++ bytesOf (take (heldWords ed) (drop (i * entrySize) ws))
+      ≡ bodiesBytes ed (entriesOf ws (i + 1))
   unfolding bodiesBytes
   bodies-more =
       let run = words-entries-run ws in
@@ -84,7 +85,13 @@ module _ (ed : Edition) (rs ws : List ℕ) where
       let k = contentsBytes (entryLength ed) (bodiesStart (length rs)) (map rowOf rs) in
       let b = bodiesBytes ed (entriesOf ws (length ws / entrySize)) in
       let n : length (h ++ k) ≡ bodiesStart (length rs) =
-      length-append h k ∙ omega (arith, length-header ed (length rs), length-contents (entryLength ed) (bodiesStart (length rs)) (map rowOf rs), length-map rs rowOf) in
+      length-append h k
+      ∙ omega (
+        arith,
+        length-header ed (length rs),
+        length-contents (entryLength ed) (bodiesStart (length rs)) (map rowOf rs),
+        length-map rs rowOf,
+      ) in
       rw (over-next d 0 headerLength h k (length-header ed (length rs)) (omega arith))
       (ap (λ i. over (over d 0 (h ++ k)) i b) (sym (zero-add (bodiesStart (length rs))))
       ∙ over-next d 0 (bodiesStart (length rs)) (h ++ k) b n (omega arith)

@@ -1,4 +1,3 @@
-use Prim.Native.Nat.{_*_}
 use mathlib.Core.Path.{_≡_, _∙_, sym, ap}
 use native.Mathlib.Omega.{arith}
 use borrow.Author.Needs.{needs}
@@ -7,9 +6,8 @@ use Rattle.task_model.specs.Limits.{EntryHolds}
 use Rattle.task_model.specs.Checks.{entryCheck}
 use Rattle.task_model.proofs.Theorems.{entry-accepted}
 use Rattle.plan_file.specs.Plan.{entryCount}
-use Rattle.plan_file.specs.Encoding.{entryLength}
 use Rattle.plan_file.specs.Decoding.{rowsFrom}
-use Rattle.plan_file.proofs.Encoding.{entries-counted}
+use Rattle.plan_file.proofs.Encoding.{entries-counted, entries-inside}
 use Rattle.plan_file.proofs.Bodies.{whole-accepted}
 use Rattle.plan_file.proofs.checks.check_bodies.Statement.{statement}
 use Rattle.plan_file.proofs.checks.check_bodies.Tie as tie
@@ -20,7 +18,8 @@ counted : (c : tie.After-entries-in)
 counted c = entries-counted (c .before .before .args .edition) _ _ _ _ (c .before .before .pre) (c .entries-in .ensures)
 
 check-body-requires : tie.Need-check-body-requires
-check-body-requires c κs = omega (arith, ap (λ n. n * entryLength (c .before .before .args .edition)) (counted c))
+check-body-requires c κs =
+    let start = c .before .before in entries-inside (start .args .edition) _ _ _ _ (start .pre) (omega (arith, counted c))
 
 returns : tie.Need-returns
 returns c =
