@@ -16,9 +16,9 @@
  * docs/SPEC.md defines the terms, what is computed, and the order of each call's checks.
  *
  * maiplur_list and maiplur_session_time make every round of the completion time test, and an entry can have up to 10^9
- * rounds. A station's plan is listed in less than a millisecond. But one node of 64 levels with the tasks (C/T/D, with r and
- * B 0) 1/2/2, 1/3/3, 1/7/7, 1/43/43, 1/1807/1807 and 59 of 1/1000000000/1000000000 took half a minute, so a plan of 32 such
- * nodes would take a quarter of an hour. The search for a map skips most rounds, but a node whose entries miss their
+ * rounds. A station's plan is listed in less than a millisecond. But one node of 64 levels with the tasks (C/T/D, with r, B
+ * and J 0) 1/2/2, 1/3/3, 1/7/7, 1/43/43, 1/1807/1807 and 59 of 1/1000000000/1000000000 took half a minute, so a plan of 32
+ * such nodes would take a quarter of an hour. The search for a map skips most rounds, but a node whose entries miss their
  * deadlines by little can take a second or two (docs/BENCHMARKS.md). A running call cannot be stopped: a caller that takes
  * plans from others should make it in a process of its own.
  */
@@ -65,7 +65,7 @@ enum {
  *
  *   C  the longest run (worst-case execution time)            1 <= C <= D
  *   T  the period                                             D <= T <= 1,000,000,000
- *   D  the deadline, counted from the release                 C <= D <= T
+ *   D  the deadline, counted from the start of the period     C <= D <= T
  *   B  how long less urgent work can block it                 0 <= B <= 1,000,000,000
  *   J  how late a job may start after its period does         0 <= J <= D - C
  *   r  the remote sections that it calls in a period          0 <= r <= 15 for a task, 0 for a section
@@ -150,8 +150,8 @@ uint32_t maiplur_session_remove(maiplur_session *session, size_t position, size_
 uint32_t maiplur_session_replace(maiplur_session *session, size_t position, const uint32_t entry[6], size_t values[3]);
 
 /* Times the entry at `i` in the group from `first` to `last`; the entries before the group are more urgent. Values: the
- * completion time, or 0 if the entry is late (no completion time is 0), and the rounds. Refuses anything but first <= i <=
- * last with `last` in the list (12).
+ * completion time, without the entry's own J, or 0 if the entry is late (no completion time is 0), and the rounds. Refuses
+ * anything but first <= i <= last with `last` in the list (12).
  */
 uint32_t maiplur_session_time(const maiplur_session *session, size_t first, size_t last, size_t i, size_t values[3]);
 

@@ -1,7 +1,7 @@
 //! The cases of docs/SPEC.md, each as a node with number 7.
 
 use crate::file::encode;
-use crate::model::{Entry, Node, Plan};
+use crate::model::{Edition, Entry, Node, Plan, SECTION};
 
 /// The listing of case P.
 pub const P_LISTING: &str = "\
@@ -104,6 +104,18 @@ pub fn v() -> Node {
 /// Case E: an empty node.
 pub fn e() -> Node {
     node(3, &[])
+}
+
+/// Case P, an empty node, and a node with a section.
+pub fn three_nodes(edition: Edition) -> Plan {
+    let section = Entry {
+        kind: SECTION,
+        ..Entry::task(9, 3, 300, 200).blocked(5)
+    };
+    let mut nodes = vec![p(), e(), node(1, &[section])];
+    nodes[1].number = 300;
+    nodes[2].number = 301;
+    Plan { edition, nodes }
 }
 
 /// The node with release jitter `j` on the entry at `position`.

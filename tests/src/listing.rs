@@ -9,6 +9,8 @@ use std::fmt::Write;
 
 /// The longest input that the program reads as a plan.
 pub const MAX_INPUT: usize = 65_536;
+/// Bytes that suffice for every listing.
+pub const MOST_TEXT: usize = 115_625;
 
 /// What the program prints for this standard input.
 pub fn list(input: &[u8]) -> String {

@@ -72,7 +72,7 @@ fn change_edition(file: &mut [u8]) {
 
 /// Sets J of an entry of the second edition to D - C, or a tick more or less.
 fn change_jitter(rng: &mut Rng, file: &mut [u8]) {
-    if file.len() < HEAD_BYTES {
+    if file.len() < HEAD_BYTES || edition_of(file) != Some(Edition::Second) {
         return;
     }
     let bodies = contents_end(usize::from(file[4])).min(file.len());
@@ -119,5 +119,9 @@ fn lay_out(file: &mut Vec<u8>) {
         put_word(file, at + 4, offset as u32);
         offset += usize::from(file[at + 3].min(64)) * length;
     }
-    file.resize(offset, 1);
+    // Bytes of 1 are a good entry if its J is 0.
+    file.truncate(offset);
+    let bodies = contents_end(nodes);
+    let in_entry = (file.len()..offset).map(|at| (at - bodies) % length);
+    file.extend(in_entry.map(|at| u8::from(at < FIRST_ENTRY)));
 }

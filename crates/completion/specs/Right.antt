@@ -10,7 +10,7 @@ use Rattle.completion.specs.Demand.{demandWith}
 use Rattle.completion.specs.Test.{Completion, on-time, limit, isOnTime, roundsIn, roundsBound}
 
 -- `time` is the least t whose demand, with the blocking b, is at most t. It is at least 1 and at most the entry's limit,
--- which is its deadline. The demand at `time` equals `time`.
+-- which is D - J. The demand at `time` equals `time`.
 pub record LeastTime (b : ℕ) (es : List Entry) (level : ℕ → ℕ) (i time : ℕ) : Type 0 where
   pub some : 1 ≤ time
   pub due : time ≤ limit (entryAt es i)

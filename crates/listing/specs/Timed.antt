@@ -11,7 +11,7 @@ use Rattle.listing.specs.Lines.{entryLine}
 use Rattle.listing.specs.Listing.{entryText}
 
 -- The entry at i has a line with its completion time and its rounds under the map m. Both are right: the time is the least,
--- and at most the deadline; the rounds are within their bound.
+-- and at most D - J; the rounds are within their bound.
 pub record TimedLine (es : List Entry) (m : List ℕ) (i : ℕ) : Type 0 where
   pub time : ℕ
   pub rounds : ℕ

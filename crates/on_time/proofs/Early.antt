@@ -34,6 +34,13 @@ ceil-least x f t h l =
     div-lt-iff-lt-mul {k = f} {x = x + (f - 1)} {y = t + 1} h .1 (omega (arith, add-mul t 1 f, mul-comm t f, one-mul f)) in
     omega arith
 
+-- and from there on every product is enough
+pub ceil-enough : (x f y : ℕ) → 1 ≤ f → (x + (f - 1)) / f ≤ y → x ≤ f * y
+ceil-enough x f y h l =
+    let above : x + (f - 1) < (y + 1) * f =
+    div-lt-iff-lt-mul {k = f} {x = x + (f - 1)} {y = y + 1} h .0 (omega arith) in
+    omega (arith, above, add-mul y 1 f, mul-comm y f, one-mul f)
+
 module _ (ws : List ℕ) (n : ℕ) (all : AllHold (entriesOf ws n)) (first last i : ℕ) (hf : first ≤ i) (hi : i ≤ last) (hl : last < n)
     (b d : ℕ) (due : limit (entryAt (entriesOf ws n) i) ≡ d) where
   known : last < length (entriesOf ws n)

@@ -113,7 +113,11 @@ fn completion_bound(words: &NodeWords, first: usize, limit: u32, initial: u64) -
         → fullUtilisation * (initial - sumTo (λ j. recurringWcet limit (entryOf (now (words .entry)) j)) first)
         + sumTo (λ j. recurringJitter limit (entryOf (now (words .entry)) j)) first
         ≤ (fullUtilisation - sumTo (λ j. recurringUtilisation limit (entryOf (now (words .entry)) j)) first) * t
-        → x ≤ t) ⌝ }
+        → x ≤ t)
+        × (x ≤ limit
+        → fullUtilisation * (initial - sumTo (λ j. recurringWcet limit (entryOf (now (words .entry)) j)) first)
+        + sumTo (λ j. recurringJitter limit (entryOf (now (words .entry)) j)) first
+        ≤ (fullUtilisation - sumTo (λ j. recurringUtilisation limit (entryOf (now (words .entry)) j)) first) * x) ⌝ }
 {
     let r = recurring_sum(words, first, limit);
     let spare = spare_utilisation(r.utilisation);
@@ -188,7 +192,7 @@ pub fn ends_on_time(
     met_from(words, count, first, last, i, blocking, begin)
 }
 
-// One past the last entry i < end with D < B + runs, or 0, where `runs` is the sum of C before `end`. That entry is late in
+// One past the last entry i < end with D - J < B + runs, or 0, where `runs` is the sum of C before `end`. That entry is late in
 // every group that ends just before `end` and contains it.
 pub fn start_bound(words: &NodeWords, count: usize, end: usize, runs: u64) -> usize
     requires { ⌜ AllHold (entriesOf (now words) count) ⌝ ∗ ⌜ (end ≤ count) × (count ≤ mostEntries) ⌝

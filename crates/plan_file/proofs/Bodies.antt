@@ -1,18 +1,20 @@
 -- Laws of checking entries one by one and node by node, by any check of one entry.
-use Prim.Native.Nat.{ℕ, zero, suc, _+_, _-_, _≤_, _<_}
-use mathlib.Core.Path.{_≡_, _∙_, refl}
+use Prim.Native.Nat.{ℕ, zero, suc, _+_, _*_, _-_, _≤_, _<_}
+use mathlib.Core.Path.{_≡_, _∙_, refl, sym, ap}
 use mathlib.Core.Logic.{_↔_, ⊎-elim}
+use mathlib.Core.Bool.{Bool, true, false, false≢true}
 use mathlib.Core.List.{List, [], _∷_}
 use native.Mathlib.Omega.{arith}
 use native.Mathlib.Numerals.{add-one}
+use native.Mathlib.Nat.{add-zero, add-assoc, zero-mul, suc-mul}
 use lib.ListN.{length, take, drop, length-take, length-drop}
 use lib.Seq.{getD-take, getD-drop, drop-drop}
 use lib.Dec.{ltb}
 use borrow.Author.Tests.{ltb-true, ltb-false}
 use Rattle.task_model.specs.declared.Entry.{Entry}
-use Rattle.refusals.specs.Refusals.{Outcome, accepted, refused, _andThen_}
-use Rattle.task_model.specs.Checks.{entriesBy}
-use Rattle.task_model.specs.Limits.{noEntry, entryAt}
+use Rattle.refusals.specs.Refusals.{Numbered, Outcome, accepted, refused, _andThen_}
+use Rattle.task_model.specs.Checks.{entryCheck, entriesBy, entriesCheck}
+use Rattle.task_model.specs.Limits.{noEntry, entryAt, EntryHolds, AllHold}
 use Rattle.task_model.proofs.Tests.{true-or-false}
 use Rattle.task_model.proofs.Laws.{entries-next, entries-stop}
 use Rattle.task_model.proofs.Theorems.{each-accepted}
@@ -20,7 +22,12 @@ use Rattle.plan_file.specs.declared.Row.{Row}
 use Rattle.plan_file.specs.Check.{nodesBy}
 use Rattle.plan_file.specs.Find.{rowIn}
 use Rattle.plan_file.specs.Plan.{entryCount}
-use Rattle.byte_words.proofs.Runs.{AtHand}
+use Rattle.byte_words.proofs.Runs.{AtHand, run-length, run-get, run-hand, run-none}
+use Rattle.plan_file.specs.declared.Edition.{Edition}
+use Rattle.plan_file.specs.declared.Edition.the-variants.{First, Second}
+use Rattle.plan_file.specs.Encoding.{entryLength}
+use Rattle.plan_file.specs.Decoding.{entryIn, entriesAt}
+use Rattle.plan_file.proofs.Contents.{entries-run}
 use Rattle.refusals.proofs.Outcomes.{both-accepted, then-accepted}
 
 -- the entries of one body from position `j` on
@@ -33,6 +40,93 @@ module _ (check : ℕ → Entry → Outcome) where
   pub body-end : (j : ℕ) (es : List Entry) → es ≡ [] → entriesBy check j es ≡ accepted
   unfolding entriesBy
   body-end j es e = rw e
+
+-- A loop over the entries of a body in a file has come to a position, at byte `k`, and accepted those before.
+abbrev pub Come : Edition → List ℕ → ℕ → ℕ → ℕ → ℕ → ℕ → Type 0
+Come ed f row start count k position =
+    (k ≡ start + position * entryLength ed)
+    × (position ≤ count)
+    × (entriesCheck row position (drop position (entriesAt ed f start count)) ≡ entriesCheck row 0 (entriesAt ed f start count))
+
+pub come-first : (ed : Edition) (f : List ℕ) (row start count : ℕ) → Come ed f row start count start 0
+come-first ed f row start count = (rw (zero-mul, add-zero), omega arith, refl)
+
+-- the place of the next entry
+next-place : (ed : Edition) (start k position : ℕ) → k ≡ start + position * entryLength ed
+    → k + entryLength ed ≡ start + (position + 1) * entryLength ed
+next-place ed start k position e =
+    ap (λ x. x + entryLength ed) e ∙ rw (add-one position, suc-mul position (entryLength ed)) (add-assoc start _ _)
+
+-- the entry at a position is inside
+pub come-inside : (ed : Edition) (start count k position n : ℕ) → k ≡ start + position * entryLength ed → position < count
+    → start + count * entryLength ed ≤ n → k + entryLength ed ≤ n
+come-inside First start count k position n e h l = omega arith
+come-inside Second start count k position n e h l = omega arith
+
+module _ (ed : Edition) (f : List ℕ) (row start count k position : ℕ) (come : Come ed f row start count k position) where
+  -- the entry there
+  at-entry : (e : Entry) → position < count → e ≡ entryIn ed f k → AtHand (entriesAt ed f start count) position e
+  at-entry e h q = run-hand (entries-run ed f) start count position k e h (come .0) q
+
+  pub come-stop : (e : Entry) (r : Numbered) → position < count → e ≡ entryIn ed f k → entryCheck row position e ≡ refused r
+      → refused r ≡ entriesCheck row 0 (entriesAt ed f start count)
+  come-stop e r h q p = sym (body-here (entryCheck row) (at-entry e h q) (refused r) p) ∙ come .2
+
+  pub come-next : (e : Entry) → position < count → e ≡ entryIn ed f k → entryCheck row position e ≡ accepted
+      → Come ed f row start count (k + entryLength ed) (position + 1)
+  come-next e h q p = (
+    next-place ed start k position (come .0),
+    omega arith,
+    sym (body-here (entryCheck row) (at-entry e h q) accepted p) ∙ come .2,
+  )
+
+  pub come-end : count ≤ position → accepted ≡ entriesCheck row 0 (entriesAt ed f start count)
+  come-end h = sym (body-end (entryCheck row) position _ (run-none (entries-run ed f) start count position h)) ∙ come .2
+
+-- a test that answers whether a fact holds
+pub says-no : {A : Type 0} → (A → ⊥) → (false ≡ true) ↔ A
+says-no n = (λ p. absurd (false≢true p), λ a. absurd (n a))
+
+pub says-yes : {A : Type 0} → A → (true ≡ true) ↔ A
+says-yes a = (λ p. a, λ q. refl)
+
+pub said-no : {A : Type 0} {b : Bool} → (b ≡ true) ↔ A → b ≡ false → A → ⊥
+said-no i p a = false≢true (sym p ∙ i .1 a)
+
+-- A loop over entries in a file has come to a position, at byte `k`, and those before are within the limits.
+abbrev pub Held : Edition → List ℕ → ℕ → ℕ → ℕ → ℕ → Type 0
+Held ed f start count k position =
+    (k ≡ start + position * entryLength ed)
+    × (position ≤ count)
+    × ((j : ℕ) → j < position → EntryHolds (entryIn ed f (start + j * entryLength ed)))
+
+pub held-first : (ed : Edition) (f : List ℕ) (start count : ℕ) → Held ed f start count start 0
+held-first ed f start count = (rw (zero-mul, add-zero), omega arith, λ j h. absurd (omega arith))
+
+module _ (ed : Edition) (f : List ℕ) (start count k position : ℕ) (held : Held ed f start count k position) where
+  -- entry `j` of all
+  entry-there : (j : ℕ) → j < count → entryAt (entriesAt ed f start count) j ≡ entryIn ed f (start + j * entryLength ed)
+  entry-there j h = run-get (entries-run ed f) start count j noEntry h
+
+  pub held-stop : (e : Entry) → position < count → e ≡ entryIn ed f k → (EntryHolds e → ⊥) → AllHold (entriesAt ed f start count) → ⊥
+  held-stop e h q n all =
+      n (rw (q, held .0, ← entry-there position h) (all position (omega (arith, run-length (entries-run ed f) start count))))
+
+  pub held-next : (e : Entry) → position < count → e ≡ entryIn ed f k → EntryHolds e
+      → Held ed f start count (k + entryLength ed) (position + 1)
+  held-next e h q holds = (
+    next-place ed start k position (held .0),
+    omega arith,
+    λ j l.
+        ⊎-elim (λ t. held .2 j (ltb-true j position t))
+        (λ t. let z : j ≡ position = omega (arith, ltb-false j position t) in rw (z, ← held .0, ← q) holds)
+        (true-or-false (ltb j position)),
+  )
+
+  pub held-end : count ≤ position → AllHold (entriesAt ed f start count)
+  held-end h j l =
+      let i : j < count = omega (arith, run-length (entries-run ed f) start count) in
+      rw (entry-there j i) (held .2 j (omega arith))
 
 -- every entry of a list is as P says
 abbrev pub Each : (Entry → Type 0) → List Entry → Type 0

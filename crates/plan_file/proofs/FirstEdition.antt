@@ -1,24 +1,27 @@
 -- The check of every file that does not open with the second edition's bytes is the check of before.
 use Prim.Native.Nat.{ℕ, suc, _+_}
-use mathlib.Core.Path.{_≡_, refl, ap₂}
+use mathlib.Core.Path.{_≡_, _∙_, refl, ap, ap₂}
 use mathlib.Core.Bool.{Bool, true, false, _||_}
 use mathlib.Core.List.{List, [], _∷_}
 use native.Mathlib.Omega.{arith}
 use lib.ListN.{take, drop, length-take, length-drop}
 use lib.Seq.{getD-take, getD-drop}
-use Rattle.refusals.specs.Refusals.{Outcome, _andThen_}
+use borrow.Author.Tests.{eq-eqb}
+use Rattle.refusals.specs.Refusals.{at, Outcome, accepted, refused, _andThen_, mustHold}
 use Rattle.task_model.specs.declared.Entry.{Entry}
 use Rattle.task_model.specs.Limits.{noEntry}
 use Rattle.task_model.specs.Checks.{entryCheck, entriesBy}
 use Rattle.task_model.specs.WithoutJitter.{punctualCheck}
 use Rattle.task_model.proofs.WithoutJitter.{entry-punctual}
+use Rattle.task_model.specs.WithoutJitter.{Punctual}
+use Rattle.plan_file.specs.declared.Edition.{Edition}
 use Rattle.plan_file.specs.declared.Edition.the-variants.{First, Second}
 use Rattle.plan_file.specs.declared.Row.{Row}
 use Rattle.plan_file.specs.Plan.{entryCount}
 use Rattle.plan_file.specs.Encoding.{bodiesStart}
 use Rattle.plan_file.specs.Decoding.{openingTest, nodeCount, rowsIn, entriesAt, planIn}
-use Rattle.plan_file.specs.Check.{nodesBy, fileCheck}
-use Rattle.plan_file.specs.FirstEdition.{firstEditionCheck, firstEditionPlan}
+use Rattle.plan_file.specs.Check.{nodesBy, fileCheck, writtenCheck, writerCheck}
+use Rattle.plan_file.specs.FirstEdition.{firstEditionCheck, firstEditionPlan, firstWriterCheck}
 use Rattle.plan_file.specs.Limits.{EditionFits}
 use Rattle.plan_file.proofs.Tests.{edition-first}
 use Rattle.plan_file.proofs.Bodies.{Each}
@@ -66,3 +69,21 @@ first-edition f p =
 -- Its plan is that of the first edition.
 pub first-plan : (f : List ℕ) → openingTest Second f ≡ false → planIn f ≡ firstEditionPlan f
 first-plan f p = rw (edition-first f p)
+
+then-nothing : (o : Outcome) → o andThen accepted ≡ o
+then-nothing accepted = refl
+then-nothing (refused r) = refl
+
+-- An entry that is to be written, with J 0, has the check of before in both editions.
+pub written-punctual : (ed : Edition) (row p : ℕ) (e : Entry) → e .jitter ≡ 0 → writtenCheck ed row p e ≡ punctualCheck row p e
+unfolding writtenCheck
+written-punctual First row p e z =
+    rw (eq-eqb (e .jitter) 0 z) (then-nothing (entryCheck row p e) ∙ entry-punctual e z row p)
+written-punctual Second row p e z = entry-punctual e z row p
+
+-- And so has a plan whose every J is 0.
+pub writer-punctual : (ed : Edition) (rows : List Row) (es : List Entry) (words : ℕ) → Punctual es
+    → writerCheck ed rows es words ≡ firstWriterCheck rows es words
+unfolding writerCheck firstWriterCheck
+writer-punctual ed rows es words h =
+    rw (nodes-same (EditionFits First) (writtenCheck ed) punctualCheck (written-punctual ed) 0 rows es h)

@@ -1,6 +1,7 @@
 -- Laws of rows, whether of a file or in memory: their checks and the contents, row by row.
 use Prim.Native.Nat.{ℕ, _+_, _*_}
-use mathlib.Core.Path.{_≡_, _∙_, sym, ap}
+use mathlib.Core.Path.{_≡_, _∙_, refl, sym, ap}
+use mathlib.Core.Logic.{⊎-elim}
 use mathlib.Core.Bool.{Bool}
 use mathlib.Core.List.{List, [], _∷_, _++_}
 use native.Mathlib.Omega.{arith}
@@ -9,10 +10,12 @@ use lib.ListN.{length, take, drop, length-drop}
 use lib.Seq.{take-add, length-take-le}
 use lib.Dec.{eqb}
 use Rattle.node_words.specs.Words.{entrySize}
-use Rattle.refusals.specs.Refusals.{at, Outcome, accepted, _andThen_, mustHold}
-use Rattle.refusals.proofs.Outcomes.{then-assoc}
+use Rattle.refusals.specs.Refusals.{at, Outcome, accepted, refused, _andThen_, mustHold}
+use Rattle.refusals.proofs.Outcomes.{either, then-assoc}
 use Rattle.task_model.specs.declared.Entry.{Entry}
-use Rattle.task_model.specs.Checks.{entriesBy}
+use Rattle.task_model.specs.Limits.{AllHold}
+use Rattle.task_model.specs.Checks.{entryCheck, entriesBy, entriesCheck}
+use Rattle.task_model.proofs.Theorems.{entries-accepted}
 use Rattle.plan_file.specs.declared.Row.{Row}
 use Rattle.plan_file.specs.Plan.{entryCount}
 use Rattle.plan_file.specs.Encoding.{rowLength, rowBytes, contentsBytes}
@@ -94,3 +97,12 @@ module _ (check : ℕ → ℕ → Entry → Outcome) {step : ℕ} {item : ℕ �
   pub bodies-end : (k i : ℕ) (rs : List Row) → rs ≡ [] → bodies check entries k i rs ≡ accepted
   unfolding nodesBy
   bodies-end k i rs e = rw e
+
+-- a row with an entry that is not within the limits gives the refusal
+pub bodies-stop : {step : ℕ} {item : ℕ → Entry} {entries : ℕ → ℕ → List Entry} → Run step item entries
+    → {rows : List Row} {i : ℕ} {r : Row} → AtHand rows i r → (k : ℕ) → (AllHold (entries k (r .count)) → ⊥)
+    → entriesCheck i 0 (entries k (r .count)) ≡ bodies entryCheck entries k i (drop i rows)
+bodies-stop run {i} h k n =
+    ⊎-elim (λ a. absurd (n (entries-accepted i 0 _ .0 a)))
+    (λ q. q .1 ∙ sym (bodies-here entryCheck run h k _ refl (refused (q .0)) (q .1)))
+    (either _)

@@ -1,17 +1,18 @@
 -- Laws of words and the fields that they hold.
-use Prim.Native.Nat.{ℕ, zero, suc, _+_, _*_, _≤_, _<_}
+use Prim.Native.Nat.{ℕ, zero, suc, _+_, _*_, _/_, _%_, _≤_, _<_}
 use mathlib.Core.Path.{_≡_, _∙_, refl, sym}
 use mathlib.Core.List.{List, [], _∷_, _++_, append-assoc, append-nil}
 use native.Mathlib.Omega.{arith}
-use lib.ListN.{length, take, drop, length-drop}
+use lib.ListN.{length, getD, take, drop, length-drop}
 use lib.Seq.{take-add, drop-at}
+use Rattle.task_model.specs.declared.Entry.{Entry}
 use Rattle.node_words.specs.Words.{entrySize, entryFrom, entriesFrom, entriesOf}
 use Rattle.node_words.proofs.Words.{entries-cons, entry-front}
 use Rattle.plan_file.specs.declared.Edition.{Edition}
 use Rattle.plan_file.specs.declared.Edition.the-variants.{First, Second}
 use Rattle.plan_file.specs.Plan.{rowWord, rowOf}
 use Rattle.plan_file.specs.Encoding.{entryLength, rowBytes, fieldBytes, entryBytes, bodiesBytes}
-use Rattle.byte_words.specs.Bytes.{low, wordAt, wordsFrom, bytesOf}
+use Rattle.byte_words.specs.Bytes.{Bytes, low, wordAt, wordsFrom, bytesOf}
 use Rattle.byte_words.proofs.Words.{head-bytes, words-run, length-words, bytes-append}
 use Rattle.byte_words.proofs.Runs.{run-split}
 use Rattle.plan_file.specs.Decoding.{entryWordsAt, entriesAt}
@@ -59,6 +60,35 @@ bodies-bytes zero ws l = refl
 bodies-bytes (suc n) ws l =
     bodies-cons ws n (omega arith) (bodies-bytes n (drop entrySize ws) (omega (arith, length-drop entrySize ws)))
 
+-- the fields in the first word of an entry
+module _ (f : List ℕ) (b : Bytes f) (k : ℕ) where
+  head-number : wordAt f k % 65536 ≡ getD f k 0 + getD f (k + 1) 0 * 256
+  unfolding wordAt
+  head-number = omega (arith, b k, b (k + 1), b (k + 2), b (k + 3))
+
+  head-kind : wordAt f k / 65536 % 256 ≡ getD f (k + 2) 0
+  unfolding wordAt
+  head-kind = omega (arith, b k, b (k + 1), b (k + 2), b (k + 3))
+
+  head-calls : wordAt f k / 16777216 % 256 ≡ getD f (k + 3) 0
+  unfolding wordAt
+  head-calls = omega (arith, b k, b (k + 1), b (k + 2), b (k + 3))
+
+  -- an entry that has the fields of these bytes, and any J
+  pub byte-entry : (e : Entry) → e .number ≡ getD f k 0 + getD f (k + 1) 0 * 256 → e .kind ≡ getD f (k + 2) 0
+      → e .calls ≡ getD f (k + 3) 0
+      → e .wcet ≡ wordAt f (k + 4)
+      → e .period ≡ wordAt f (k + 8)
+      → e .deadline ≡ wordAt f (k + 12)
+      → e .blocking ≡ wordAt f (k + 16)
+      → e ≡ entryFrom (wordsFrom f k 5 ++ (e .jitter ∷ [])) 0
+  unfolding entryFrom wordsFrom
+  byte-entry e n kind calls c t d b =
+      let e8 : k + 4 + 4 ≡ k + 8 = omega arith in
+      let e12 : k + 8 + 4 ≡ k + 12 = omega arith in
+      let e16 : k + 12 + 4 ≡ k + 16 = omega arith in
+      rw (e8, e12, e16, head-number, head-kind, head-calls, ← n, ← kind, ← calls, ← c, ← t, ← d, ← b)
+
 pub words-first : (f : List ℕ) (k : ℕ)
     → wordAt f k ∷ wordAt f (k + 4) ∷ wordAt f (k + 8) ∷ wordAt f (k + 12) ∷ wordAt f (k + 16) ∷ 0 ∷ []
     ≡ entryWordsAt First f k
@@ -79,6 +109,11 @@ words-second f k =
     let e16 : k + 12 + 4 ≡ k + 16 = omega arith in
     let e20 : k + 16 + 4 ≡ k + 20 = omega arith in
     rw (e8, e12, e16, e20)
+
+-- five words and J
+pub words-jitter : (f : List ℕ) (k : ℕ) → wordsFrom f k 5 ++ (wordAt f (k + 20) ∷ []) ≡ entryWordsAt Second f k
+unfolding wordsFrom
+words-jitter f k = let e : k + 4 + 4 + 4 + 4 + 4 ≡ k + 20 = omega arith in rw e
 
 -- the entries that lie in a file of the second edition are those that its words hold
 pub entries-in-words : (f : List ℕ) (k n : ℕ) → entriesAt Second f k n ≡ entriesOf (wordsFrom f k (n * entrySize)) n

@@ -1,14 +1,19 @@
 -- The check of a plan file as it was before there was a second edition and entries had a release jitter. The theorem
 -- `first-edition` says that every file that does not open with the second edition's bytes has this check.
-use Prim.Native.Nat.{ℕ}
+use Prim.Native.Nat.{ℕ, _*_}
 use mathlib.Core.List.{List}
-use Rattle.refusals.specs.Refusals.{Outcome, _andThen_}
+use lib.ListN.{length}
+use lib.Dec.{eqb}
+use Rattle.refusals.specs.Refusals.{at, Outcome, _andThen_, mustHold}
+use Rattle.task_model.specs.declared.Entry.{Entry}
 use Rattle.task_model.specs.WithoutJitter.{punctualCheck}
 use Rattle.plan_file.specs.declared.Edition.the-variants.{First}
 use Rattle.plan_file.specs.Plan.{Plan, entryCount}
 use Rattle.plan_file.specs.Encoding.{bodiesStart}
 use Rattle.plan_file.specs.Decoding.{openingTest, nodeCount, rowsIn, entriesAt}
-use Rattle.plan_file.specs.Check.{nodesBy, headerBy, layoutCheck}
+use Rattle.node_words.specs.Words.{entrySize}
+use Rattle.plan_file.specs.declared.Row.{Row}
+use Rattle.plan_file.specs.Check.{countTest, rowsCheck, nodesBy, headerBy, layoutCheck}
 
 -- The plan in a file of the first edition: 20 bytes an entry, and J 0.
 abbrev pub firstEditionPlan : List ℕ → Plan
@@ -24,3 +29,11 @@ firstEditionCheck f =
     headerBy (openingTest First f) f
     andThen layoutCheck 20 f 0 0 (bodiesStart (nodeCount f)) (rowsIn f)
     andThen nodesBy punctualCheck 0 (rowsIn f) (firstEditionPlan f .entries)
+
+-- The writer: the node count (3), 4 row by row, as many entries as the rows count (6), then 7 and 8 entry by entry.
+unfoldable pub firstWriterCheck : List Row → List Entry → ℕ → Outcome
+firstWriterCheck rows entries words =
+    mustHold (countTest (length rows)) (at 3 0 0)
+    andThen rowsCheck 0 0 rows
+    andThen mustHold (eqb words (entryCount rows * entrySize)) (at 6 0 0)
+    andThen nodesBy punctualCheck 0 rows entries

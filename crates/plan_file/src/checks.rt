@@ -10,6 +10,7 @@ use super::editions::entries_in;
 use super::editions::entry_bytes;
 use super::editions::opens;
 use super::node_count;
+use super::read::entry_in;
 use super::read::first_entry;
 use super::read::row_of;
 use super::read::second_entry;
@@ -23,13 +24,16 @@ use refusals::Refusal;
 use task_model::MOST_ENTRIES;
 use task_model::MOST_LEVELS;
 use task_model::check_entry;
+use task_model::entry_holds;
 ghost use mathlib.Core.Path.{_≡_};
 ghost use mathlib.Core.List.{map};
 ghost use lib.ListN.{length};
-ghost use mathlib.Core.Bool.{_&&_};
+ghost use mathlib.Core.Bool.{true, _&&_};
+ghost use mathlib.Core.Logic.{_↔_};
 ghost use lib.Dec.{eqb};
 ghost use Prim.Native.Nat.{_+_, _*_, _≤_};
 ghost use Rattle.refusals.specs.Refusals.{outcome, at, _andThen_, mustHold};
+ghost use Rattle.task_model.specs.Limits.{AllHold};
 ghost use Rattle.task_model.specs.Checks.{entryCheck, entriesBy, entriesCheck};
 ghost use Rattle.node_words.specs.Words.{entrySize, entriesFrom};
 ghost use Rattle.plan_file.specs.Plan.{mostNodes, entryCount, rowOf};
@@ -144,53 +148,72 @@ pub(crate) fn check_layout(edition: Edition, file: &[u8], nodes: usize) -> Check
     Checked::Accepted
 }
 
-// Checks the entries of one body of the first edition (7 and 8; J is 0).
-fn check_first_body(file: &[u8], row: usize, start: usize, count: usize) -> Checked
+// Whether entries of the first edition, from byte `start` of a file on, are all within the limits.
+fn first_hold(file: &[u8], start: usize, count: usize) -> bool
     requires { ⌜ start + count * entryLength Edition.First ≤ length (now file) ⌝ }
-    ensures { λ a. ⌜ outcome a ≡ entriesCheck row 0 (entriesAt Edition.First (now (file .entry)) start count) ⌝ }
+    ensures { λ a. ⌜ (a ≡ true) ↔ AllHold (entriesAt Edition.First (now (file .entry)) start count) ⌝ }
 {
     let mut k = start;
     let mut position: usize = 0;
     while position < count {
         let e = first_entry(file, k);
-        let found = check_entry(row, position, e);
-        let Checked::Accepted = found else {
-            return found;
-        };
+        if !entry_holds(e) {
+            return false;
+        }
         k += FIRST_ENTRY_BYTES;
         position += 1;
     }
-    Checked::Accepted
+    true
 }
 
-// Checks the entries of one body of the second edition (7, 8 and 14).
-fn check_second_body(file: &[u8], row: usize, start: usize, count: usize) -> Checked
+// The same for the second edition.
+fn second_hold(file: &[u8], start: usize, count: usize) -> bool
     requires { ⌜ start + count * entryLength Edition.Second ≤ length (now file) ⌝ }
-    ensures { λ a. ⌜ outcome a ≡ entriesCheck row 0 (entriesAt Edition.Second (now (file .entry)) start count) ⌝ }
+    ensures { λ a. ⌜ (a ≡ true) ↔ AllHold (entriesAt Edition.Second (now (file .entry)) start count) ⌝ }
 {
     let mut k = start;
     let mut position: usize = 0;
     while position < count {
         let e = second_entry(file, k);
-        let found = check_entry(row, position, e);
-        let Checked::Accepted = found else {
-            return found;
-        };
+        if !entry_holds(e) {
+            return false;
+        }
         k += SECOND_ENTRY_BYTES;
         position += 1;
     }
-    Checked::Accepted
+    true
 }
 
-// Checks the entries of one body. The loops are one for each edition, so that none tests the edition at every entry.
+// Whether `count` entries, from byte `start` of a file on, are all within the limits. The loops are one for each edition and
+// keep no place of a refusal, because every accepted file goes through them.
+fn all_hold(edition: Edition, file: &[u8], start: usize, count: usize) -> bool
+    requires { ⌜ start + count * entryLength edition ≤ length (now file) ⌝ }
+    ensures { λ a. ⌜ (a ≡ true) ↔ AllHold (entriesAt edition (now (file .entry)) start count) ⌝ }
+{
+    match edition {
+        Edition::First => first_hold(file, start, count),
+        Edition::Second => second_hold(file, start, count),
+    }
+}
+
+// Checks the entries of one body.
 fn check_body(edition: Edition, file: &[u8], row: usize, start: usize, count: usize) -> Checked
     requires { ⌜ start + count * entryLength edition ≤ length (now file) ⌝ }
     ensures { λ a. ⌜ outcome a ≡ entriesCheck row 0 (entriesAt edition (now (file .entry)) start count) ⌝ }
 {
-    match edition {
-        Edition::First => check_first_body(file, row, start, count),
-        Edition::Second => check_second_body(file, row, start, count),
+    let size = entry_bytes(edition);
+    let mut k = start;
+    let mut position: usize = 0;
+    while position < count {
+        let e = entry_in(edition, file, k);
+        let found = check_entry(row, position, e);
+        let Checked::Accepted = found else {
+            return found;
+        };
+        k += size;
+        position += 1;
     }
+    Checked::Accepted
 }
 
 // Checks the entries of every body, row by row.
@@ -207,18 +230,17 @@ fn check_by_row(edition: Edition, file: &[u8], nodes: usize) -> Checked
     while row < nodes {
         let r = row_at(file, row);
         let count = r.count as usize;
-        let found = check_body(edition, file, row, start, count);
-        let Checked::Accepted = found else {
-            return found;
-        };
+        if !all_hold(edition, file, start, count) {
+            return check_body(edition, file, row, start, count);
+        }
         start += count * size;
         row += 1;
     }
     Checked::Accepted
 }
 
-// Checks the entries of every body. It first checks them all as one body, because a single loop is the quickest way through
-// an accepted file. Only if that fails, it goes row by row to find the place of the refusal.
+// Checks the entries of every body. It first tests them all as one body, because a single loop is the quickest way through
+// an accepted file. Only if that fails, it goes row by row, to find the place of the refusal.
 pub(crate) fn check_bodies(edition: Edition, file: &[u8], nodes: usize) -> Checked
     requires { ⌜ length (now file) ≡ bodiesStart nodes + entryCount (rowsFrom (now file) 0 nodes) * entryLength edition ⌝ }
     ensures { λ a.
@@ -228,9 +250,8 @@ pub(crate) fn check_bodies(edition: Edition, file: &[u8], nodes: usize) -> Check
 {
     let start = HEADER_BYTES + nodes * ROW_BYTES;
     let count = entries_in(edition, file.len() - start);
-    let whole = check_body(edition, file, 0, start, count);
-    if let Checked::Accepted = whole {
-        return whole;
+    if all_hold(edition, file, start, count) {
+        return Checked::Accepted;
     }
     check_by_row(edition, file, nodes)
 }

@@ -5,19 +5,20 @@ use super::HEADER_BYTES;
 use super::ROW_BYTES;
 use super::Row;
 use byte_words::copy_words;
+use byte_words::wide;
 use byte_words::word_at;
 use node_words::ENTRY_WORDS;
-use node_words::entry_with;
 use node_words::store_entry;
 use task_model::Entry;
 ghost use mathlib.Core.Path.{_≡_};
-ghost use mathlib.Core.List.{map};
+ghost use mathlib.Core.List.{[], _∷_, _++_, map};
 ghost use lib.ListN.{length};
 ghost use Prim.Native.Nat.{_+_, _*_, _≤_, _<_};
 ghost use Rattle.plan_file.specs.Plan.{rowWord, rowOf};
 ghost use Rattle.plan_file.specs.Encoding.{entryLength, bodiesStart};
 ghost use Rattle.plan_file.specs.Decoding.{rowsFrom, entryIn, entriesAt};
-ghost use Rattle.node_words.specs.Words.{entrySize, wordsOf};
+ghost use Rattle.node_words.specs.Words.{entrySize, entryFrom, wordsOf};
+ghost use Rattle.byte_words.specs.Bytes.{wordsFrom};
 ghost use Rattle.byte_words.specs.Buffers.{over};
 
 // The row that a word holds.
@@ -31,19 +32,30 @@ pub(crate) fn row_of(word: u32) -> Row
     }
 }
 
+// The entry in the 20 bytes that both editions have, from byte `k` on, with this jitter. Kind and calls are single bytes, so
+// that checking an entry takes no word apart.
+fn entry_at(file: &[u8], k: usize, jitter: u32) -> Entry
+    requires { ⌜ k + entryLength Edition.First ≤ length (now file) ⌝ }
+    ensures { λ e. ⌜ e ≡ entryFrom (wordsFrom (now (file .entry)) k 5 ++ (jitter ∷ [])) 0 ⌝ }
+{
+    Entry {
+        number: (wide(file[k]) + wide(file[k + 1]) * 256) as u16,
+        kind: file[k + 2],
+        calls: file[k + 3],
+        wcet: word_at(file, k + 4),
+        period: word_at(file, k + 8),
+        deadline: word_at(file, k + 12),
+        blocking: word_at(file, k + 16),
+        jitter,
+    }
+}
+
 // The entry in a file of the first edition from byte `k` on.
 pub(crate) fn first_entry(file: &[u8], k: usize) -> Entry
     requires { ⌜ k + entryLength Edition.First ≤ length (now file) ⌝ }
     ensures { λ e. ⌜ e ≡ entryIn Edition.First (now (file .entry)) k ⌝ }
 {
-    entry_with(
-        word_at(file, k),
-        word_at(file, k + 4),
-        word_at(file, k + 8),
-        word_at(file, k + 12),
-        word_at(file, k + 16),
-        0,
-    )
+    entry_at(file, k, 0)
 }
 
 // The entry in a file of the second edition from byte `k` on.
@@ -51,14 +63,18 @@ pub(crate) fn second_entry(file: &[u8], k: usize) -> Entry
     requires { ⌜ k + entryLength Edition.Second ≤ length (now file) ⌝ }
     ensures { λ e. ⌜ e ≡ entryIn Edition.Second (now (file .entry)) k ⌝ }
 {
-    entry_with(
-        word_at(file, k),
-        word_at(file, k + 4),
-        word_at(file, k + 8),
-        word_at(file, k + 12),
-        word_at(file, k + 16),
-        word_at(file, k + 20),
-    )
+    entry_at(file, k, word_at(file, k + 20))
+}
+
+// The entry in a file of an edition from byte `k` on.
+pub(crate) fn entry_in(edition: Edition, file: &[u8], k: usize) -> Entry
+    requires { ⌜ k + entryLength edition ≤ length (now file) ⌝ }
+    ensures { λ e. ⌜ e ≡ entryIn edition (now (file .entry)) k ⌝ }
+{
+    match edition {
+        Edition::First => first_entry(file, k),
+        Edition::Second => second_entry(file, k),
+    }
 }
 
 // Copies the rows of a file, without their offsets, to a buffer's start.

@@ -150,7 +150,7 @@ module _ (s : Session) (h : Sound s) (first last i : ℕ) where
       (sound-checks (asking (timing first last i)) s h ∙ time-else (nodeIn s) first last i out)
 
 -- What timing answers is right, whatever the session holds: the completion time is the least, an entry is late exactly if
--- there is none up to its deadline, and the rounds are within their bound.
+-- there is none up to D - J, and the rounds are within their bound.
 pub time-right : (s : Session) (first last i : ℕ) (o : Completion) → timeAnswer (nodeIn s) first last i ≡ gives o
     → RightTiming (nodeIn s .entries) (groupLevel first last) i o
 time-right s first last i o p =
@@ -192,7 +192,7 @@ module _ (s : Session) (h : Sound s) where
       (left (mapAnswer (nodeIn s) (length buffer)) (mapOf (nodeIn s)) buffer)
   map-best-or-none buffer = own-best (nodeIn s) within-checks buffer
 
--- A session as 322 words: each form is the inverse of the other.
+-- A session as 386 words: each form is the inverse of the other.
 pub words-inverse : (w : List ℕ) → length w ≡ sessionSize → wordsIn (sessionIn w) ≡ w
 words-inverse w h = words-back w h
 

@@ -1,16 +1,64 @@
 -- Laws of the limits and the checks: from a test's result to facts about numbers, and from a check's outcome to limits.
-use Prim.Native.Nat.{ℕ, suc, _-_, _≤_}
-use mathlib.Core.Path.{_≡_}
+use Prim.Native.Nat.{ℕ, suc, _+_, _*_, _-_, _≤_, _<_}
+use mathlib.Core.Path.{_≡_, _∙_, sym}
 use mathlib.Core.Bool.{true, false}
+use mathlib.Core.Logic.{⊎-elim}
 use mathlib.Core.List.{List, _∷_}
 use lib.ListN.{length}
-use lib.Dec.{leb}
-use borrow.Author.Tests.{leb-true, le-leb}
-use Rattle.task_model.proofs.Tests.{and-true, decided}
+use native.Mathlib.Omega.{arith}
+use lib.Dec.{leb, eqb}
+use borrow.Author.Tests.{leb-true, leb-false, le-leb, lt-leb, eqb-true, eqb-false, ne-eqb}
+use Rattle.task_model.proofs.Tests.{and-true, true-or-false, decided}
 use Rattle.task_model.specs.declared.Entry.{Entry}
 use Rattle.refusals.specs.Refusals.{Numbered, at, Outcome, accepted, refused}
 use Rattle.task_model.specs.Limits.{mostTicks, mostLevels, mostEntries, Node, TimesHold, JitterHolds}
-use Rattle.task_model.specs.Checks.{kindTest, timesTest, jitterTest, entryCheck, entriesBy, entriesCheck, sizeTest, nodeCheckBy, nodeCheck}
+use Rattle.task_model.specs.Checks.{kindTest, timesTest, jitterTest, entryTest, entryCheck, entriesBy, entriesCheck, sizeTest, nodeCheckBy, nodeCheck}
+
+-- 7
+module _ (kind calls : ℕ) where
+  pub task-calls : kind ≡ 1 → calls ≤ 15 → kindTest kind calls ≡ true
+  unfolding kindTest
+  task-calls k h = rw (k, le-leb calls 15 h)
+
+  pub task-over : kind ≡ 1 → 15 < calls → kindTest kind calls ≡ false
+  unfolding kindTest
+  task-over k h = rw (k, lt-leb calls 15 h)
+
+  pub section-alone : kind ≡ 2 → calls ≡ 0 → kindTest kind calls ≡ true
+  unfolding kindTest
+  section-alone k h = rw (k, h)
+
+  pub section-calls : kind ≡ 2 → (calls ≡ 0 → ⊥) → kindTest kind calls ≡ false
+  unfolding kindTest
+  section-calls k h = rw (k, ne-eqb calls 0 h)
+
+  pub no-kind : (kind ≡ 1 → ⊥) → (kind ≡ 2 → ⊥) → kindTest kind calls ≡ false
+  unfolding kindTest
+  no-kind h k = rw (ne-eqb kind 1 h, ne-eqb kind 2 k)
+
+  -- the test as one sum, from kind 1 on
+  task-sum : kind ≡ 1 → leb (15 * kind + calls) 30 ≡ kindTest kind calls
+  task-sum k =
+      ⊎-elim (λ l. let c = leb-true calls 15 l in le-leb (15 * kind + calls) 30 (omega arith) ∙ sym (task-calls k c))
+      (λ l. let c = leb-false calls 15 l in lt-leb (15 * kind + calls) 30 (omega arith) ∙ sym (task-over k c))
+      (true-or-false (leb calls 15))
+
+  section-sum : kind ≡ 2 → leb (15 * kind + calls) 30 ≡ kindTest kind calls
+  section-sum k =
+      ⊎-elim (λ l. let c = eqb-true calls 0 l in le-leb (15 * kind + calls) 30 (omega arith) ∙ sym (section-alone k c))
+      (λ l. let c = eqb-false calls 0 l in lt-leb (15 * kind + calls) 30 (omega arith) ∙ sym (section-calls k c))
+      (true-or-false (eqb calls 0))
+
+  other-sum : 2 < kind → leb (15 * kind + calls) 30 ≡ kindTest kind calls
+  other-sum h = lt-leb (15 * kind + calls) 30 (omega arith) ∙ sym (no-kind (λ k. omega arith) (λ k. omega arith))
+
+  pub calls-sum : 1 ≤ kind → leb (15 * kind + calls) 30 ≡ kindTest kind calls
+  calls-sum h =
+      ⊎-elim (λ k. task-sum (eqb-true kind 1 k))
+      (λ k. let n = eqb-false kind 1 k in
+      ⊎-elim (λ q. section-sum (eqb-true kind 2 q)) (λ q. let m = eqb-false kind 2 q in other-sum (omega arith))
+      (true-or-false (eqb kind 2)))
+      (true-or-false (eqb kind 1))
 
 -- 8
 module _ (e : Entry) where
@@ -72,6 +120,20 @@ sizes-hold p =
     let p1 = and-true _ _ p in
     let p2 = and-true _ _ (p1 .0) in
     (leb-true _ _ (p2 .0), leb-true _ _ (p2 .1), leb-true _ _ (p1 .1))
+
+-- the three tests
+module _ (e : Entry) where
+  pub test-kind : kindTest (e .kind) (e .calls) ≡ false → entryTest e ≡ false
+  unfolding entryTest
+  test-kind p = rw p
+
+  pub test-times : kindTest (e .kind) (e .calls) ≡ true → timesTest e ≡ false → entryTest e ≡ false
+  unfolding entryTest
+  test-times k p = rw (k, p)
+
+  pub test-rest : kindTest (e .kind) (e .calls) ≡ true → timesTest e ≡ true → entryTest e ≡ jitterTest e
+  unfolding entryTest
+  test-rest k p = rw (k, p)
 
 -- 7, then 8, then 14
 module _ (row position : ℕ) (e : Entry) where

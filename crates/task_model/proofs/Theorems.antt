@@ -12,7 +12,7 @@ use Rattle.refusals.proofs.Outcomes.{either, not-both}
 use Rattle.task_model.specs.declared.Entry.{Entry}
 use Rattle.refusals.specs.Refusals.{Numbered, at, Outcome, accepted, refused}
 use Rattle.task_model.specs.Limits.{mostLevels, mostEntries, Node, entryAt, KindHolds, TimesHold, JitterHolds, EntryHolds, AllHold, NodeHolds}
-use Rattle.task_model.specs.Checks.{kindTest, timesTest, jitterTest, entryCheck, entriesBy, entriesCheck, sizeTest, nodeCheck}
+use Rattle.task_model.specs.Checks.{kindTest, timesTest, jitterTest, entryTest, entryCheck, entriesBy, entriesCheck, sizeTest, nodeCheck}
 use Rattle.task_model.proofs.Tests.{and-true, true-or-false, decided}
 use Rattle.task_model.proofs.Laws.{
   times-true,
@@ -69,6 +69,17 @@ data Found (row position : ℕ) (e : Entry) : Type 0 where
 -- a test that says false contradicts the fact that makes it true
 failed : {A : Type 0} {b : Bool} → b ≡ false → (A → b ≡ true) → A → ⊥
 failed p f h = true≢false (sym (f h) ∙ p)
+
+-- The tests of an entry are true exactly if it is within every limit.
+pub entry-tested : (e : Entry) → entryTest e ≡ true ↔ EntryHolds e
+unfolding entryTest
+entry-tested e = (
+  λ p.
+      let p1 = and-true _ _ p in
+      let p2 = and-true _ _ (p1 .0) in
+      record { kind = kind-hold e (p2 .0); times = times-hold e (p2 .1); jitter = jitter-hold e (p1 .1) },
+  λ h. rw (kind-true e (h .kind), times-true e (h .times), jitter-true e (h .jitter)),
+)
 
 module _ (row position : ℕ) (e : Entry) where
   found : Found row position e

@@ -23,6 +23,10 @@ timesTest e =
 unfoldable pub jitterTest : Entry → Bool
 jitterTest e = leb (e .jitter) (e .deadline - e .wcet)
 
+-- All three tests of an entry.
+unfoldable pub entryTest : Entry → Bool
+entryTest e = kindTest (e .kind) (e .calls) && timesTest e && jitterTest e
+
 -- An entry: first its kind with its calls (7), then its times (8), then its jitter (14).
 unfoldable pub entryCheck : ℕ → ℕ → Entry → Outcome
 entryCheck row position e =

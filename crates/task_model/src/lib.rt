@@ -4,7 +4,7 @@ use refusals::Refusal;
 ghost use mathlib.Core.Path.{_≡_};
 ghost use Rattle.task_model.specs.Limits.{TimesHold};
 ghost use Rattle.refusals.specs.Refusals.{outcome};
-ghost use Rattle.task_model.specs.Checks.{kindTest, timesTest, jitterTest, entryCheck};
+ghost use Rattle.task_model.specs.Checks.{kindTest, timesTest, jitterTest, entryTest, entryCheck};
 
 // Upper limits: of T and B in ticks, of a node's levels, and of a node's entries.
 pub const MOST_TICKS: u32 = 1000000000;
@@ -89,4 +89,28 @@ pub fn check_entry(row: usize, position: usize, e: Entry) -> Checked
         return Checked::Refused(Refusal::Jitter { row, position });
     }
     Checked::Accepted
+}
+
+// The same test as kind_holds, but without a branch on the kind, which is often guessed wrong where kinds mix. With kind 1
+// the sum allows 15 calls, with kind 2 none, and with a greater kind it is above 30.
+fn calls_hold(kind: u8, calls: u8) -> bool
+    ensures { λ a. ⌜ a ≡ kindTest kind calls ⌝ }
+{
+    if kind < 1 {
+        return false;
+    }
+    15 * kind as u32 + calls as u32 <= 30
+}
+
+// Whether check_entry accepts an entry. It is quicker than check_entry where most entries are accepted.
+pub fn entry_holds(e: Entry) -> bool
+    ensures { λ a. ⌜ a ≡ entryTest e ⌝ }
+{
+    if !calls_hold(e.kind, e.calls) {
+        return false;
+    }
+    if !times_hold(e) {
+        return false;
+    }
+    jitter_holds(e)
 }

@@ -8,6 +8,7 @@
 //! only in a group that contains the hot entries. In half of the nodes entries
 //! may start late, with deadlines that allow for it.
 
+use super::entries::scaled;
 use crate::map::{by_groups, group_passes, Map};
 use crate::model::{Entry, MAX_TICKS};
 use crate::rng::Rng;
@@ -25,7 +26,7 @@ pub fn blocks(rng: &mut Rng, count: usize, blocks: usize) -> Vec<Entry> {
         if let Some(entries) = drawn(rng, &levels, late) {
             let longest = entries.iter().map(|e| e.t.max(e.b)).max().unwrap_or(1);
             let factor = rng.pick(&[1, 1, 7, MAX_TICKS / longest]);
-            return entries.iter().map(|entry| times(entry, factor)).collect();
+            return entries.iter().map(|entry| scaled(entry, factor)).collect();
         }
     }
 }
@@ -133,16 +134,5 @@ fn time_of(entries: &[Entry], levels: &[u8], i: usize) -> Option<u64> {
     match completion(entries, levels, i) {
         Timing::OnTime { time, .. } => Some(time),
         Timing::Late { .. } => None,
-    }
-}
-
-fn times(entry: &Entry, factor: u64) -> Entry {
-    Entry {
-        c: entry.c * factor,
-        t: entry.t * factor,
-        d: entry.d * factor,
-        b: entry.b * factor,
-        j: entry.j * factor,
-        ..*entry
     }
 }

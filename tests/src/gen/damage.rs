@@ -1,6 +1,7 @@
 //! Damaged files, each with the expected refusal.
 
 use super::faults::{break_jitter, break_kind, break_row, break_ticks};
+use super::plans::in_edition;
 use crate::file::{
     body_end, contents_end, encode, entry_at, entry_bytes, entry_length, opening_bytes, row_at,
     HEAD_BYTES,
@@ -66,8 +67,7 @@ pub fn damage(rng: &mut Rng, plan: &Plan, aims: &[Aim]) -> Damaged {
         true => Edition::Second,
         false => plan.edition,
     };
-    let nodes = plan.nodes.clone();
-    let mut work = Work::new(Plan { edition, nodes });
+    let mut work = Work::new(in_edition(plan, edition));
     let faults: Vec<Fault> = aims.iter().map(|&aim| work.put_in(rng, aim)).collect();
     let first = faults.iter().min_by_key(|fault| fault.rank);
     let due = first.expect("there is an aim").refusal;
@@ -206,7 +206,7 @@ impl Work {
     fn break_opening(&mut self, rng: &mut Rng) -> Fault {
         let at = rng.index(4);
         let byte = opening_bytes(self.plan.edition)[at];
-        // The fourth byte may also be that of the other edition.
+        // A fourth byte of 32 hexadecimal opens a file too.
         let next = if at == 3 { 0x33 } else { byte.wrapping_add(1) };
         self.file[at] = rng.pick(&[0, byte ^ 0x20, next, byte ^ 0x80]);
         Fault::plain(1, OPENING)

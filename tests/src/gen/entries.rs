@@ -137,7 +137,8 @@ pub fn wide(rng: &mut Rng, count: usize, jitter: Jitter) -> Vec<Entry> {
     }
 }
 
-/// Entries of which J decides on their own level.
+/// Entries of which J decides on their own level; without J if `jitter` is
+/// [`Jitter::Zero`].
 ///
 /// Some may start late, with a period that ends when they may end at the latest.
 /// The others wait longer than that and call remote sections, so they may find
@@ -169,6 +170,19 @@ pub fn queued(rng: &mut Rng, count: usize, jitter: Jitter) -> Vec<Entry> {
         }
     }
     entries
+}
+
+/// The same entry with all times multiplied, which does not change its rounds
+/// beside others with the same factor.
+pub fn scaled(entry: &Entry, factor: u64) -> Entry {
+    Entry {
+        c: entry.c * factor,
+        t: entry.t * factor,
+        d: entry.d * factor,
+        b: entry.b * factor,
+        j: entry.j * factor,
+        ..*entry
+    }
 }
 
 /// The same entries with deadlines exactly at J plus the completion times of a

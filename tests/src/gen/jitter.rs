@@ -31,17 +31,25 @@ impl Jitter {
         ])
     }
 
+    /// Zero in half of the draws, else any of them.
+    pub fn half_zero(rng: &mut Rng) -> Jitter {
+        match rng.chance(1, 2) {
+            true => Jitter::Zero,
+            false => Jitter::draw(rng),
+        }
+    }
+
     /// The same entries with J.
     pub fn put(self, rng: &mut Rng, mut entries: Vec<Entry>) -> Vec<Entry> {
         let only = match self {
             Jitter::Zero => return entries,
+            Jitter::Third => return thirds(entries),
             Jitter::Most => Some(rng.index(entries.len().max(1))),
             _ => None,
         };
         for (position, entry) in entries.iter_mut().enumerate() {
             entry.j = match self {
                 Jitter::Small => rng.below(4).min(most(entry)),
-                Jitter::Third => third(entry),
                 Jitter::Mixed => any(rng, entry),
                 _ if only == Some(position) => most(entry) - rng.below(2).min(most(entry)),
                 _ => 0,
@@ -51,14 +59,22 @@ impl Jitter {
     }
 }
 
-/// The largest J of an entry: D - C.
+/// The largest J of an entry: D - C, or 0 where C is above D.
 pub fn most(entry: &Entry) -> u64 {
-    entry.d - entry.c
+    entry.d.saturating_sub(entry.c)
 }
 
 /// A third of the period, cut to D - C.
 pub fn third(entry: &Entry) -> u64 {
     (entry.t / 3).min(most(entry))
+}
+
+/// The same entries, each with J of a third of its period, cut to D - C.
+pub fn thirds(mut entries: Vec<Entry>) -> Vec<Entry> {
+    for entry in &mut entries {
+        entry.j = third(entry);
+    }
+    entries
 }
 
 /// Any J of an entry, often 0.

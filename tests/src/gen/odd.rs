@@ -1,7 +1,8 @@
 //! Odd plans: nodes whose utilisation is close to 1, so that the test of an
 //! entry may take very many rounds.
 
-use super::jitter::{most, third, Jitter};
+use super::entries::scaled;
+use super::jitter::{most, Jitter};
 use crate::model::{Entry, Node, Plan, MAX_ENTRIES, MAX_NODES, MAX_R, MAX_TICKS};
 use crate::rng::Rng;
 use crate::timing::{completion_in_group, Timing};
@@ -116,14 +117,6 @@ fn primes() -> Vec<Entry> {
     filled(PERIODS.map(|t| task(1, t)).to_vec(), last)
 }
 
-/// The same entries, each with J of a third of its period, cut to D - C.
-pub fn with_thirds(mut entries: Vec<Entry>) -> Vec<Entry> {
-    for entry in &mut entries {
-        entry.j = third(entry);
-    }
-    entries
-}
-
 /// The longest plan file, each node with these entries, of the first edition if
 /// every J is 0.
 pub fn full_plan(entries: &[Entry]) -> Plan {
@@ -179,7 +172,7 @@ pub fn near_one(rng: &mut Rng, jitter: Jitter) -> Vec<Entry> {
     }
     let longest = entries.iter().map(|e| e.t.max(e.b)).max().unwrap_or(1);
     let factor = rng.pick(&[1, 1, 2, 3, MAX_TICKS / longest]);
-    numbered(entries.iter().map(|e| times(e, factor)).collect())
+    numbered(entries.iter().map(|e| scaled(e, factor)).collect())
 }
 
 /// One to four entries with a utilisation of 1 + `excess`/`whole`, where
@@ -235,15 +228,4 @@ fn tighten_last(rng: &mut Rng, entries: &mut [Entry]) {
     let limit = (time + rng.pick(&[0, 0, 1])).saturating_sub(rng.below(2));
     entries[last].d = kept.j + limit.max(kept.c);
     entries[last].t = entries[last].d + rng.pick(&[0, 1, 500]);
-}
-
-fn times(e: &Entry, factor: u64) -> Entry {
-    Entry {
-        c: e.c * factor,
-        t: e.t * factor,
-        d: e.d * factor,
-        b: e.b * factor,
-        j: e.j * factor,
-        ..*e
-    }
 }

@@ -1,6 +1,7 @@
 //! Single faults at a given place of a full plan or a full session.
 
 use super::entries;
+use super::faults::MOST_TICKS;
 use super::jitter::{any, most};
 use crate::file::{contents_end, encode, entry_bytes, entry_length};
 use crate::lent::Words;
@@ -110,9 +111,6 @@ fn kind_and_tick_faults(entry: Entry) -> Vec<(Entry, u8)> {
     let ticks = ticks.into_iter().chain(high_bits(entry));
     kinds.chain(ticks.map(|entry| (entry, TICKS))).collect()
 }
-
-/// The largest number of ticks that a file can hold.
-const MOST_TICKS: u64 = u32::MAX as u64;
 
 /// The entry with the top bit of C, T, D or B set: only code that drops that
 /// bit accepts it.

@@ -53,7 +53,7 @@ pub fn tight(rng: &mut Rng) -> Plan {
 }
 
 /// Nodes in which entries find others twice ahead on their level, in the second
-/// edition by J alone.
+/// edition sometimes by J alone.
 pub fn queued(rng: &mut Rng) -> Plan {
     let nodes = rng.count(1, 3);
     plan(rng, nodes, |rng, jitter| {
@@ -150,6 +150,34 @@ pub fn at_limits(rng: &mut Rng) -> Plan {
         let count = rng.count(1, 6);
         entries::at_limits(rng, count, jitter)
     })
+}
+
+/// Any plan, often a small one.
+pub fn any(rng: &mut Rng) -> Plan {
+    match rng.below(8) {
+        0 => station(rng),
+        1 => full_node(rng),
+        2 => many_nodes(rng),
+        3 => at_limits(rng),
+        4 => wide(rng),
+        _ => small(rng),
+    }
+}
+
+/// A plan of this edition, by a generator that draws both.
+pub fn drawn_in(rng: &mut Rng, edition: Edition, draw: fn(&mut Rng) -> Plan) -> Plan {
+    loop {
+        let plan = draw(rng);
+        if plan.edition == edition {
+            return plan;
+        }
+    }
+}
+
+/// The same nodes in this edition.
+pub fn in_edition(plan: &Plan, edition: Edition) -> Plan {
+    let nodes = plan.nodes.clone();
+    Plan { edition, nodes }
 }
 
 /// The same nodes without J, in the first edition.

@@ -11,23 +11,11 @@ use oracle::options::{rng, times};
 use oracle::refusal::{Refusal, COUNT, CUT_OFF, JITTER, KIND, LENGTH, OFFSET, OPENING, ROW, TICKS};
 use oracle::rng::Rng;
 
-/// Any plan, often a small one.
-fn draw(rng: &mut Rng) -> Plan {
-    match rng.below(8) {
-        0 => plans::station(rng),
-        1 => plans::full_node(rng),
-        2 => plans::many_nodes(rng),
-        3 => plans::at_limits(rng),
-        4 => plans::wide(rng),
-        _ => plans::small(rng),
-    }
-}
-
 #[test]
 fn generated_plans_are_accepted_and_come_back() {
     let mut rng = rng(60);
     for _ in 0..times(2_000) {
-        let plan = draw(&mut rng);
+        let plan = plans::any(&mut rng);
         let file = encode(&plan).unwrap();
         assert_eq!(check(&file), Ok(()));
         assert_eq!(decode(&file).unwrap(), plan);
@@ -43,7 +31,7 @@ fn generated_plans_are_accepted_and_come_back() {
 fn parts_come_back() {
     let mut rng = rng(61);
     for _ in 0..times(200) {
-        let plan = draw(&mut rng);
+        let plan = plans::any(&mut rng);
         let parts = Plan::from_parts(plan.edition, &plan.rows(), &plan.entries());
         assert_eq!(parts, plan);
     }
@@ -92,7 +80,7 @@ fn assert_due_refusals(rng: &mut Rng, aims: &[Aim], count: u64) {
 fn truncation_at_every_length() {
     let mut rng = rng(65);
     for _ in 0..times(40) {
-        let plan = draw(&mut rng);
+        let plan = plans::any(&mut rng);
         let file = encode(&plan).unwrap();
         let contents = contents_end(plan.nodes.len());
         for cut in truncations(&file) {
@@ -106,26 +94,14 @@ fn truncation_at_every_length() {
     }
 }
 
-/// Case P, an empty node, and a node with a section.
-fn three_nodes(edition: Edition) -> Plan {
-    let section = Entry {
-        kind: 2,
-        ..Entry::task(9, 3, 300, 200).blocked(5)
-    };
-    let mut nodes = vec![cases::p(), cases::e(), cases::node(1, &[section])];
-    nodes[1].number = 300;
-    nodes[2].number = 301;
-    Plan { edition, nodes }
-}
-
 #[test]
 fn one_byte_changed_at_every_place_to_every_value() {
     let mut accepted = 0;
     for plan in [
         Plan::first(vec![cases::p()]),
         Plan::second(vec![cases::jittered(cases::p(), 2, 12)]),
-        three_nodes(Edition::First),
-        three_nodes(Edition::Second),
+        cases::three_nodes(Edition::First),
+        cases::three_nodes(Edition::Second),
     ] {
         let file = encode(&plan).unwrap();
         let mut files = 0;
@@ -238,7 +214,7 @@ const FILL: Entry = Entry::task(9, 9, 9, 9).jittered(9);
 fn reader_fills_from_the_start_and_keeps_the_rest() {
     let mut rng = rng(67);
     for _ in 0..times(300) {
-        let plan = draw(&mut rng);
+        let plan = plans::any(&mut rng);
         let file = encode(&plan).unwrap();
         let (row_count, entry_count) = (plan.rows().len(), plan.entries().len());
         for more in [0, 3] {

@@ -1,5 +1,6 @@
 //! The generated plans have the properties that they are meant to have.
 
+use crate::say;
 use oracle::file::encode;
 use oracle::gen::budget::{fits, rounds_ceiling, ROUNDS};
 use oracle::gen::entries::{self, wide_passes_after_narrow};
@@ -11,7 +12,6 @@ use oracle::model::{Edition, Entry, Node, Plan, MAX_R, MAX_TICKS, SECTION};
 use oracle::options::{rng, times};
 use oracle::rng::Rng;
 use oracle::timing::completion;
-use std::io::Write;
 
 type Draw = fn(&mut Rng) -> Plan;
 
@@ -199,13 +199,8 @@ fn few_draws_are_dropped() {
         let jitter = Jitter::draw(&mut rng);
         dropped += entries::at_limits_counted(&mut rng, count, jitter).1;
     }
-    // Not `println!`: the harness hides what passing tests print with it.
     let all = drawn + dropped;
-    writeln!(
-        std::io::stdout(),
-        "\n{dropped} of {all} draws at the limits dropped"
-    )
-    .unwrap();
+    say(format!("{dropped} of {all} draws at the limits dropped"));
     assert!(dropped * 5 < all * 3, "{dropped} of {all}");
 }
 

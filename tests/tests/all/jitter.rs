@@ -1,42 +1,14 @@
 //! Entries that start late, with every figure that was worked out for them.
 
+use crate::starred::{late, map, mapped, on_time, timings};
 use oracle::cases::{self, again, jittered, twice_ahead};
-use oracle::map::{by_groupings, by_groups, map_entries, Map};
 use oracle::model::Node;
-use oracle::timing::{completion, demand, initial_time, limit, Timing};
-
-fn on_time(time: u64, rounds: u64) -> Timing {
-    Timing::OnTime { time, rounds }
-}
-
-fn late(rounds: u64) -> Timing {
-    Timing::Late { rounds }
-}
-
-/// The map; both ways to compute it must agree.
-fn map(node: &Node) -> Option<Vec<u8>> {
-    let found = map_entries(&node.entries, node.levels);
-    assert_eq!(by_groupings(&node.entries, node.levels), found);
-    assert_eq!(by_groups(&node.entries, node.levels), found);
-    found.map(|Map { levels, .. }| levels)
-}
-
-fn timings(node: &Node, levels: &[u8]) -> Vec<Timing> {
-    (0..node.entries.len())
-        .map(|i| completion(&node.entries, levels, i))
-        .collect()
-}
-
-/// Asserts the map and returns the timings under it.
-fn mapped(node: &Node, levels: &[u8]) -> Vec<Timing> {
-    assert_eq!(map(node), Some(levels.to_vec()));
-    timings(node, levels)
-}
+use oracle::timing::{completion, demand, initial_time, limit};
 
 #[test]
 fn p_with_j_12_on_its_third() {
     let p = jittered(cases::p(), 2, 12);
-    let times = mapped(&p, &[1, 2, 2]);
+    let times = mapped(&p, &[1, 2, 2], 2);
     assert_eq!(times, [on_time(20, 1), on_time(138, 2), on_time(138, 2)]);
     // Its completion time is counted without J, which fills up its deadline.
     assert_eq!(limit(&p.entries[2]), 138);
@@ -55,7 +27,7 @@ fn p_with_j_13_on_its_third_has_no_map() {
 #[test]
 fn released_again() {
     let node = again(4);
-    let times = mapped(&node, &[1, 2]);
+    let times = mapped(&node, &[1, 2], 2);
     assert_eq!(times, [on_time(3, 1), on_time(11, 2)]);
     assert_eq!(completion(&again(0).entries, &[1, 2], 1), on_time(8, 1));
     assert_eq!(completion(&node.entries, &[1, 1], 0), late(0));
@@ -69,8 +41,7 @@ fn released_again() {
 fn v_with_jitter_on_its_first() {
     let v = jittered(cases::v(), 0, 2);
     assert_eq!(timings(&v, &[1, 1]), [late(0), on_time(16, 2)]);
-    assert_eq!(completion(&v.entries, &[1, 2], 1), on_time(18, 2));
-    assert_eq!(mapped(&v, &[1, 2])[1], on_time(18, 2));
+    assert_eq!(mapped(&v, &[1, 2], 2)[1], on_time(18, 2));
     let v = jittered(cases::v(), 0, 4);
     assert_eq!(completion(&v.entries, &[1, 2], 1), on_time(19, 3));
 }
@@ -94,7 +65,7 @@ fn twice_ahead_on_the_own_level() {
 #[test]
 fn h_with_jitter() {
     let h = jittered(cases::h(), 1, 15);
-    let times = mapped(&h, &[1, 1, 1]);
+    let times = mapped(&h, &[1, 1, 1], 1);
     assert_eq!(times, [on_time(5, 1), on_time(5, 1), on_time(8, 1)]);
     for (position, j) in [(1, 16), (0, 1), (2, 1)] {
         assert_eq!(map(&jittered(cases::h(), position, j)), None);

@@ -1,5 +1,8 @@
 //! All tests are one program, which is compiled and linked once and runs them side by side.
 
+use std::fmt::Display;
+use std::io::Write;
+
 mod calls;
 mod examples;
 mod files;
@@ -36,3 +39,9 @@ mod timing;
 mod tuned;
 mod writer;
 mod wrong_programs;
+
+/// Prints a line of its own. Not `println!`: the harness hides what passing
+/// tests print with it.
+fn say(line: impl Display) {
+    writeln!(std::io::stdout(), "\n{line}").expect("output is open");
+}

@@ -2,19 +2,17 @@
 //! assignments.
 
 use oracle::assignments::{all_assignments, different_levels, fewest_levels, is_map};
+use oracle::gen::entries;
 use oracle::gen::jitter::Jitter;
-use oracle::gen::{entries, plans};
+use oracle::gen::plans::{self, drawn_in};
 use oracle::map::{by_groupings, by_groups, map_entries, passes};
-use oracle::model::{Entry, Node, Plan};
+use oracle::model::{Edition, Entry, Node, Plan};
 use oracle::options::{rng, times};
 use oracle::rng::Rng;
 
 /// Entries of any kind that a small node may have.
 fn draw(rng: &mut Rng, count: usize) -> Vec<Entry> {
-    let jitter = match rng.chance(1, 2) {
-        true => Jitter::Zero,
-        false => Jitter::draw(rng),
-    };
+    let jitter = Jitter::half_zero(rng);
     let entries = match rng.below(5) {
         0 => entries::tiny(rng, count),
         1 => entries::scattered(rng, count),
@@ -34,7 +32,7 @@ fn assert_both_ways_agree(entries: &[Entry], levels: u8) {
 #[test]
 fn groups_agree_with_groupings() {
     let mut rng = rng(1);
-    for _ in 0..times(6_000) {
+    for _ in 0..times(9_000) {
         let count = rng.count(0, 8);
         let entries = draw(&mut rng, count);
         for levels in (1..=count as u8).chain([64]) {
@@ -46,13 +44,13 @@ fn groups_agree_with_groupings() {
 #[test]
 fn groups_agree_with_groupings_of_longer_lists() {
     let mut rng = rng(2);
-    for _ in 0..times(600) {
+    for _ in 0..times(900) {
         let count = rng.count(9, 12);
         let entries = draw(&mut rng, count);
         let levels = rng.byte(1, 12);
         assert_both_ways_agree(&entries, levels);
     }
-    for _ in 0..times(30) {
+    for _ in 0..times(45) {
         let count = rng.count(13, 15);
         let entries = draw(&mut rng, count);
         assert_both_ways_agree(&entries, 64);
@@ -113,62 +111,60 @@ fn assert_map_is_sound(node: &Node) -> bool {
     true
 }
 
-/// How many nodes of `plans` plans have a map, and how many have none.
-fn sound_maps(rng: &mut Rng, plans: u64, draw: fn(&mut Rng) -> Plan) -> (usize, usize) {
-    let nodes: Vec<Node> = (0..plans).flat_map(|_| draw(rng).nodes).collect();
-    let mapped = nodes
-        .iter()
-        .filter(|node| assert_map_is_sound(node))
-        .count();
-    (mapped, nodes.len() - mapped)
+/// Every map of `plans` plans of each edition is sound, and in each edition more
+/// nodes than the least numbers have a map, and have none.
+fn assert_sound_maps(part: u64, plans: u64, draw: fn(&mut Rng) -> Plan, least: [usize; 2]) {
+    let mut rng = rng(part);
+    for edition in Edition::BOTH {
+        let nodes: Vec<Node> = (0..times(plans))
+            .flat_map(|_| drawn_in(&mut rng, edition, draw).nodes)
+            .collect();
+        let sound = nodes.iter().filter(|node| assert_map_is_sound(node));
+        let mapped = sound.count();
+        let unmapped = nodes.len() - mapped;
+        let enough = mapped > least[0] && unmapped > least[1];
+        assert!(enough, "{edition:?}: {mapped} {unmapped}");
+    }
 }
 
 #[test]
 fn maps_of_small_plans() {
-    let (mapped, unmapped) = sound_maps(&mut rng(5), times(1_000), plans::small);
-    assert!(mapped > 500 && unmapped > 500, "{mapped} {unmapped}");
+    assert_sound_maps(5, 1_000, plans::small, [500, 500]);
 }
 
 #[test]
 fn maps_of_stations() {
-    let (mapped, unmapped) = sound_maps(&mut rng(6), times(200), plans::station);
-    assert!(mapped > 200 && unmapped > 100, "{mapped} {unmapped}");
+    assert_sound_maps(6, 200, plans::station, [200, 100]);
 }
 
 #[test]
 fn maps_of_full_nodes() {
-    let (mapped, unmapped) = sound_maps(&mut rng(7), times(100), plans::full_node);
-    assert!(mapped > 5 && unmapped > 5, "{mapped} {unmapped}");
+    assert_sound_maps(7, 100, plans::full_node, [5, 5]);
 }
 
 #[test]
 fn maps_at_the_limits() {
-    let (mapped, unmapped) = sound_maps(&mut rng(8), times(1_000), plans::at_limits);
-    assert!(mapped > 200 && unmapped > 200, "{mapped} {unmapped}");
+    assert_sound_maps(8, 1_000, plans::at_limits, [200, 200]);
 }
 
 #[test]
 fn maps_of_many_nodes() {
-    let (mapped, unmapped) = sound_maps(&mut rng(9), times(50), plans::many_nodes);
-    assert!(mapped > 200 && unmapped > 200, "{mapped} {unmapped}");
+    assert_sound_maps(9, 50, plans::many_nodes, [200, 200]);
 }
 
 #[test]
 fn maps_of_the_longest_plan() {
-    let (mapped, unmapped) = sound_maps(&mut rng(10), times(2), plans::longest);
-    assert!(mapped > 8 && unmapped > 8, "{mapped} {unmapped}");
+    assert_sound_maps(10, 2, plans::longest, [8, 8]);
 }
 
 #[test]
 fn maps_of_tight_nodes() {
-    let (mapped, unmapped) = sound_maps(&mut rng(11), times(500), plans::tight);
-    assert!(mapped > 200 && unmapped > 200, "{mapped} {unmapped}");
+    assert_sound_maps(11, 500, plans::tight, [200, 200]);
 }
 
 #[test]
 fn maps_of_wide_nodes() {
-    let (mapped, unmapped) = sound_maps(&mut rng(12), times(500), plans::wide);
-    assert!(mapped > 200 && unmapped > 200, "{mapped} {unmapped}");
+    assert_sound_maps(12, 500, plans::wide, [200, 200]);
 }
 
 /// Each entry has just enough time for itself and the entries before it.

@@ -1,16 +1,17 @@
 //! Odd plans: nodes whose utilisation is close to 1. A search that makes every
 //! round may take hours for them.
 
+use crate::say;
 use oracle::cases;
 use oracle::compare;
-use oracle::gen::jitter::Jitter;
-use oracle::gen::odd::{many_rounds, near_one, with_thirds, FAMILIES, JUST_LATE, LATE_STARTS};
+use oracle::gen::jitter::{thirds, Jitter};
+use oracle::gen::odd::{many_rounds, near_one, FAMILIES, JUST_LATE, LATE_STARTS};
 use oracle::map::by_groups;
 use oracle::model::Entry;
 use oracle::options::{rng, times};
+use oracle::rng::Rng;
 use oracle::tally::Tally;
 use oracle::timing::{completion, completion_in_group, demand, group_levels, limit, Timing};
-use std::io::Write;
 
 /// Whether the utilisation shows that the entry at `i` is late in the group
 /// from `start` to the last entry. It computes exactly, in integers, and
@@ -62,7 +63,7 @@ fn late_starts_are_just_late() {
 fn the_families_have_no_map() {
     let families = FAMILIES.into_iter().chain([JUST_LATE[0], LATE_STARTS]);
     for (name, entries) in families {
-        for entries in [entries(), with_thirds(entries())] {
+        for entries in [entries(), thirds(entries())] {
             for start in 0..entries.len() {
                 let late = (start..entries.len()).any(|i| surely_late(&entries, start, i));
                 assert!(late, "{name}: {start}");
@@ -92,13 +93,15 @@ fn late_by_utilisation(entries: &[Entry]) -> u64 {
 /// the second implementation, which makes every round.
 #[test]
 fn utilisations_near_one() {
-    let (mut rng, mut tally) = (rng(260), Tally::default());
+    near_one_with(260, |_| Jitter::Zero);
+    near_one_with(261, Jitter::draw);
+}
+
+fn near_one_with(part: u64, jitter: fn(&mut Rng) -> Jitter) {
+    let (mut rng, mut tally) = (rng(part), Tally::default());
     let (mut maps, mut none, mut sure) = (0, 0, 0);
     for _ in 0..times(8_000) {
-        let jitter = match rng.chance(1, 2) {
-            true => Jitter::Zero,
-            false => Jitter::draw(&mut rng),
-        };
+        let jitter = jitter(&mut rng);
         let entries = near_one(&mut rng, jitter);
         sure += late_by_utilisation(&entries);
         let file = cases::file(cases::node(rng.pick(&[2, 3, 64]), &entries));
@@ -109,13 +112,9 @@ fn utilisations_near_one() {
         none += u64::from(!mapped);
         compare::list(&mut tally, &file);
     }
-    // Not `println!`: the harness hides what passing tests print with it.
-    writeln!(
-        std::io::stdout(),
-        "\n{} nodes with a utilisation near 1: {maps} with a map, {none} without; {sure} entries late by it",
-        maps + none
-    )
-    .expect("output is open");
+    let (all, name) = (maps + none, "nodes with a utilisation near 1");
+    let counts = format!("{maps} with a map, {none} without");
+    say(format!("{all} {name}: {counts}; {sure} entries late by it"));
     assert!(maps > times(500) && none > times(500) && sure > times(1_000));
 }
 
@@ -160,7 +159,7 @@ mod full {
     fn assert_listed(family: usize) {
         let (name, entries) = FAMILIES[family];
         assert_no_map(name, &entries());
-        assert_no_map(name, &with_thirds(entries()));
+        assert_no_map(name, &thirds(entries()));
     }
 
     fn assert_no_map(name: &str, entries: &[Entry]) {

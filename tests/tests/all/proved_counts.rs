@@ -8,7 +8,9 @@ use oracle::ffi;
 use oracle::file::{contents_end, encode, entry_length};
 use oracle::gen::buffers::known;
 use oracle::gen::lent::sound;
-use oracle::gen::places::{full_plan, offset_faults, put_entry, row_faults, with_offset, with_row};
+use oracle::gen::places::{
+    full_plan, offset_faults, put_entry, put_words, row_faults, with_offset, with_row,
+};
 use oracle::lent::words_of;
 use oracle::listing::{list, MAX_INPUT};
 use oracle::model::{Edition, Entry, Plan, Row, MAX_ENTRIES, MAX_NODES, MAX_TICKS};
@@ -203,16 +205,18 @@ fn long_buffers() {
 /// Check 9 (no such node) comes before 10 (short buffer).
 #[test]
 fn no_such_node_and_no_room() {
-    let mut tally = Tally::default();
-    let file = encode(&full_plan(&mut rng(323), Edition::Second)).unwrap();
-    for number in [0, 99, 101, 256 + 100, u16::MAX] {
-        for room in [0, 1, 63, 64] {
-            compare::map(&mut tally, &file, number, room);
+    for edition in Edition::BOTH {
+        let mut tally = Tally::default();
+        let file = encode(&full_plan(&mut rng(323), edition)).unwrap();
+        for number in [0, 99, 101, 256 + 100, u16::MAX] {
+            for room in [0, 1, 63, 64] {
+                compare::map(&mut tally, &file, number, room);
+            }
         }
+        assert_eq!(tally.met(NO_NODE), 20);
+        let answer = ffi::map(&file, 0, &mut []);
+        assert_eq!(answer, Err(Refusal::plain(NO_NODE)));
     }
-    assert_eq!(tally.met(NO_NODE), 20);
-    let answer = ffi::map(&file, 0, &mut []);
-    assert_eq!(answer, Err(Refusal::plain(NO_NODE)));
 }
 
 /// Positions that would be in the list if truncated.
@@ -282,7 +286,8 @@ fn ticks_at_the_limits() {
 }
 
 /// Whether the entry is accepted; compares checking, reading, mapping, listing,
-/// writing and inserting it.
+/// writing and inserting it, putting it in the place of another, and lending a
+/// session that holds it.
 fn ticks(tally: &mut Tally, both: &mut Both, entry: Entry) -> bool {
     let [first, second] = Edition::BOTH.map(|edition| in_a_file(tally, edition, entry));
     let (checked, written) = second;
@@ -297,7 +302,16 @@ fn ticks(tally: &mut Tally, both: &mut Both, entry: Entry) -> bool {
         let _ = both.step(tally, &Op::Map, 1);
         both.step(tally, &Op::Remove(0), 0).expect("it is there");
     }
-    assert_eq!((written, inserted), (checked, checked), "{entry:?}");
+    let mut held = words_of(&Session::holding(1, &[Entry::task(1, 1, 1, 1)]).unwrap());
+    let replacing = Op::Replace(0, entry);
+    let replaced = Both::of(&held).step(tally, &replacing, 0).is_ok();
+    put_words(&mut held, 0, &entry);
+    let lent = Both::of(&held).step(tally, &Op::SetLevels(2), 0).is_ok();
+    assert_eq!(
+        [written, inserted, replaced, lent],
+        [checked; 4],
+        "{entry:?}"
+    );
     checked
 }
 

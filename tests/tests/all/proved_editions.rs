@@ -1,41 +1,18 @@
 //! Both editions of the plan file, in the proved library and in the second
 //! implementation: round trips, and files with parts of both.
 
+use crate::say;
 use oracle::compare;
 use oracle::ffi;
 use oracle::file::{contents_end, decode, edition_of, encode, entry_length, longest};
 use oracle::gen::damage::truncations;
-use oracle::gen::plans::{self, punctual};
+use oracle::gen::plans::{self, drawn_in, in_edition, punctual};
 use oracle::model::{Edition, Entry, Node, Plan, Row, MAX_ENTRIES, MAX_NODES};
 use oracle::options::{rng, times};
 use oracle::refusal::{Refusal, CUT_OFF, JITTER, LENGTH, OFFSET};
 use oracle::rng::Rng;
 use oracle::tally::Tally;
 use oracle::words::{self, ENTRY_WORDS};
-use std::io::Write;
-
-fn say(name: &str, tally: &Tally) {
-    // Not `println!`: the harness hides what passing tests print with it.
-    writeln!(std::io::stdout(), "\n{name}: {tally}").expect("output is open");
-}
-
-/// Any plan, often a small one.
-fn draw(rng: &mut Rng) -> Plan {
-    match rng.below(8) {
-        0 => plans::station(rng),
-        1 => plans::full_node(rng),
-        2 => plans::many_nodes(rng),
-        3 => plans::at_limits(rng),
-        4 => plans::wide(rng),
-        _ => plans::small(rng),
-    }
-}
-
-/// The same plan in another edition.
-fn in_edition(plan: &Plan, edition: Edition) -> Plan {
-    let nodes = plan.nodes.clone();
-    Plan { edition, nodes }
-}
 
 /// What the library reads from a file: edition, rows and entries in words.
 fn read(file: &[u8]) -> (Edition, Vec<u32>, Vec<u32>) {
@@ -63,7 +40,7 @@ fn written(edition: Edition, rows: &[u32], entries: &[u32]) -> Result<Vec<u8>, R
 fn round_trips() {
     let mut rng = rng(360);
     let longest = Edition::BOTH.map(|edition| plans::longest_in(&mut rng, edition));
-    let drawn: Vec<Plan> = (0..times(1_500)).map(|_| draw(&mut rng)).collect();
+    let drawn: Vec<Plan> = (0..times(1_500)).map(|_| plans::any(&mut rng)).collect();
     for plan in drawn.iter().chain(&longest) {
         let file = encode(plan).unwrap();
         let (edition, rows, entries) = read(&file);
@@ -81,7 +58,7 @@ fn round_trips() {
 fn without_jitter_in_both_editions() {
     let mut rng = rng(361);
     for _ in 0..times(500) {
-        let first = punctual(draw(&mut rng));
+        let first = punctual(plans::any(&mut rng));
         let second = in_edition(&first, Edition::Second);
         let [a, b] = [&first, &second].map(|plan| encode(plan).unwrap());
         let [(one, rows, entries), (two, other_rows, other_entries)] = [&a, &b].map(|f| read(f));
@@ -99,7 +76,7 @@ fn without_jitter_in_both_editions() {
 fn jitter_has_no_room_in_the_first_edition() {
     let (mut rng, mut tally) = (rng(362), Tally::default());
     for _ in 0..times(2_000) {
-        let plan = draw(&mut rng);
+        let plan = plans::any(&mut rng);
         let late = |node: &Node| node.entries.iter().position(|entry| entry.j > 0);
         let mut places = plan.nodes.iter().enumerate();
         let first = places.find_map(|(row, node)| Some((row, late(node)?)));
@@ -113,7 +90,7 @@ fn jitter_has_no_room_in_the_first_edition() {
         let short = compare::write(&mut tally, 1, &rows, &entries, 0);
         assert_eq!(short.is_err_and(|e| e.number == JITTER), first.is_some());
     }
-    say("jitter in the first edition", &tally);
+    say(format!("jitter in the first edition: {tally}"));
     assert!(tally.met(JITTER) > times(500), "{tally}");
 }
 
@@ -145,7 +122,7 @@ fn reopened(plan: &Plan) -> Vec<u8> {
 fn an_opening_on_a_body_of_the_other_edition() {
     let (mut rng, mut tally) = (rng(363), Tally::default());
     for _ in 0..times(2_000) {
-        let plan = draw(&mut rng);
+        let plan = plans::any(&mut rng);
         let file = reopened(&plan);
         let answer = compare::check(&mut tally, &file);
         assert_eq!(answer, due_with_the_other_opening(&plan));
@@ -162,7 +139,7 @@ fn an_opening_on_a_body_of_the_other_edition() {
         assert_eq!(compare::check(&mut tally, &file), Ok(()));
         assert_eq!(read(&file).0, edition.other());
     }
-    say("an opening of the other edition", &tally);
+    say(format!("an opening of the other edition: {tally}"));
 }
 
 /// 6 entries of 20 bytes are as long as 5 of 24. With the other opening and the
@@ -190,11 +167,12 @@ fn bodies_that_fit_both_editions() {
         };
         let mut file = reopened(&plan);
         file[11] = (other * repeat) as u8;
-        // C of one entry is J of the one before it, which has no room for it.
+        // Read in the second edition, C of one entry is J of another that has
+        // no room for it; in the first, such a J of 0 is C.
         assert!(compare::check(&mut tally, &file).is_err());
         compare::file(&mut tally, &file);
     }
-    say("bodies that fit both editions", &tally);
+    say(format!("bodies that fit both editions: {tally}"));
     for number in [7, 8, 14] {
         assert!(tally.met(number) > times(500), "{number}: {tally}");
     }
@@ -226,7 +204,8 @@ fn telling_entries(rng: &mut Rng, edition: Edition, count: usize) -> Vec<Entry> 
 fn cut_at_every_length() {
     let (mut rng, mut tally) = (rng(365), Tally::default());
     for round in 0..times(12) {
-        let plan = in_edition(&punctual(draw(&mut rng)), Edition::BOTH[round as usize % 2]);
+        let edition = Edition::BOTH[round as usize % 2];
+        let plan = drawn_in(&mut rng, edition, plans::any);
         let file = encode(&plan).unwrap();
         for cut in truncations(&file) {
             let number = match cut.len() < contents_end(plan.nodes.len()) {
@@ -262,7 +241,7 @@ fn lengthened_and_shortened() {
         shorter[3] ^= 3;
         compare::file(&mut tally, &shorter);
     }
-    say("lengthened and shortened", &tally);
+    say(format!("lengthened and shortened: {tally}"));
     for number in [5, 6, 7, 14] {
         assert!(tally.met(number) > times(100), "{number}: {tally}");
     }

@@ -1,8 +1,8 @@
 //! A short fuzz run of a fixed length, from the fixed seed.
 
+use crate::say;
 use oracle::fuzz::Fuzz;
 use oracle::options::{rng, times};
-use std::io::Write;
 
 #[test]
 fn a_short_run() {
@@ -12,11 +12,10 @@ fn a_short_run() {
             panic!("after {} files: {difference:?}", fuzz.files());
         }
     }
-    // Not `println!`: the harness hides what passing tests print with it.
-    writeln!(std::io::stdout(), "\n{fuzz}").expect("output is open");
+    say(&fuzz);
     let (files, sessions) = (fuzz.tally(), fuzz.sessions());
     assert!(fuzz.kinds() > 400, "{}", fuzz.kinds());
-    files.assert_maps(times(2_500), times(5_500));
+    files.assert_maps(times(4_000), times(14_000));
     files.assert_few_left_out(25);
     sessions.assert_maps(times(4_000), times(4_000));
     sessions.assert_few_left_out(15);

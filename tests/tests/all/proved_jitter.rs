@@ -1,30 +1,28 @@
-//! Entries that start late, in the proved library: the worked figures, and
-//! nodes in which J alone decides the map.
+//! Entries that start late, in the proved library: the worked figures, nodes in
+//! which J alone decides the map, and 14 among the other refusals.
 
+use crate::say;
+use crate::starred::{late, on_time};
 use oracle::cases::{self, again, jittered, twice_ahead};
 use oracle::compare;
 use oracle::compare::session::Both;
 use oracle::ffi::{self, session::Session as Proved};
+use oracle::file::entry_bytes;
 use oracle::gen::entries;
 use oracle::gen::jitter::{most, Jitter};
+use oracle::gen::places::put_words;
 use oracle::lent::words_of;
 use oracle::map::map_entries;
-use oracle::model::{Entry, Node};
+use oracle::model::{Edition, Entry, Node, Row};
 use oracle::options::{rng, times};
-use oracle::refusal::{Refusal, NO_MAP};
+use oracle::refusal::{
+    Refusal, BUFFER, COUNT, JITTER, KIND, LENGTH, NO_MAP, NO_NODE, OFFSET, OPENING, POSITION, ROW,
+    TICKS,
+};
 use oracle::rng::Rng;
 use oracle::session::{Op, Session};
 use oracle::tally::Tally;
 use oracle::timing::{completion, Timing};
-use std::io::Write;
-
-fn on_time(time: u64, rounds: u64) -> Timing {
-    Timing::OnTime { time, rounds }
-}
-
-fn late(rounds: u64) -> Timing {
-    Timing::Late { rounds }
-}
 
 /// The node in a session of the library.
 fn held(node: &Node) -> Proved {
@@ -140,7 +138,7 @@ fn compare_node(tally: &mut Tally, levels: u8, entries: &[Entry]) {
 fn jitter_alone_decides() {
     let (mut rng, mut tally) = (rng(350), Tally::default());
     let (mut no_map, mut more_levels, mut by_others) = (0, 0, 0);
-    while no_map + more_levels < times(1_500) {
+    while no_map + more_levels < times(2_000) {
         let entries = draw(&mut rng);
         let levels = rng.pick(&[1, 2, 3, 64]);
         let position = rng.index(entries.len());
@@ -159,13 +157,143 @@ fn jitter_alone_decides() {
         let map = map_entries(&enough, levels).expect("there is a map before");
         by_others += u64::from(completion(&too_much, &map.levels, position).is_on_time());
     }
-    // Not `println!`: the harness hides what passing tests print with it.
     let counts = format!("{no_map} without a map, {more_levels} with more levels");
-    writeln!(
-        std::io::stdout(),
-        "\nJ decides: {counts}, {by_others} by others; {tally}"
-    )
-    .expect("output is open");
+    say(format!(
+        "J decides: {counts}, {by_others} by others; {tally}"
+    ));
     assert!(no_map > times(400) && more_levels > times(200), "{counts}");
     assert!(by_others > times(100), "{by_others}");
+}
+
+const GOOD: Entry = Entry::task(9, 2, 1_100, 1_050);
+const PLAIN: fn(u8) -> Refusal = Refusal::plain;
+
+/// Which of the checks 7, 8 and 14 an entry fails.
+type Failing = [bool; 3];
+
+/// Every pair of these.
+fn pairs() -> impl Iterator<Item = [Failing; 2]> {
+    let failing = |bits: u32| [1, 2, 4].map(|bit| bits & bit > 0);
+    (0..64).map(move |bits| [failing(bits), failing(bits / 8)])
+}
+
+/// The entry with these faults; its J is `least`, or one more than the most.
+fn entry_with([kind, ticks, jitter]: Failing, [least, most]: [u64; 2]) -> Entry {
+    Entry {
+        kind: if kind { 3 } else { GOOD.kind },
+        c: if ticks { GOOD.d + 1 } else { GOOD.c },
+        ..GOOD.jittered(if jitter { most + 1 } else { least })
+    }
+}
+
+/// The refusal of a node of two entries: 7, 8, then 14 of the first.
+fn due_of(both: [Failing; 2]) -> Option<Refusal> {
+    let number = |[kind, ticks, jitter]: Failing| {
+        let numbers = [(kind, KIND), (ticks, TICKS), (jitter, JITTER)];
+        let failed = numbers.into_iter().find(|(failed, _)| *failed);
+        failed.map(|(_, number)| number)
+    };
+    let mut entries = both.into_iter().enumerate();
+    entries.find_map(|(at, failing)| Some(Refusal::at_entry(number(failing)?, 0, at)))
+}
+
+/// 4, 5 and 6 come before the 14 of an entry, 9 and 10 behind it.
+#[test]
+fn the_order_of_14_in_a_file() {
+    let mut tally = Tally::default();
+    for both in pairs() {
+        let mut file = cases::second_file(cases::node(1, &[GOOD; 2]));
+        for (slot, failing) in file[16..].chunks_exact_mut(24).zip(both) {
+            let entry = entry_with(failing, [1_048, most(&GOOD)]);
+            slot.copy_from_slice(&entry_bytes(Edition::Second, &entry));
+        }
+        let due = due_of(both);
+        assert_eq!(compare::check(&mut tally, &file).err(), due);
+        let map = |number, room| ffi::map(&file, number, &mut vec![0; room]).err();
+        assert_eq!(map(8, 0), due.or(Some(PLAIN(NO_NODE))));
+        assert_eq!(map(7, 1), due.or(Some(PLAIN(BUFFER))));
+        let read = |rows, words| ffi::read(&file, &mut vec![0; rows], &mut vec![0; words]).err();
+        assert_eq!(read(0, 12), due.or(Some(PLAIN(BUFFER))));
+        assert_eq!(read(1, 11), due.or(Some(PLAIN(BUFFER))));
+        assert_eq!(read(1, 12), due);
+        compare::file(&mut tally, &file);
+        for (at, byte, earlier) in [
+            (3, 0x33, PLAIN(OPENING)),
+            (5, 1, PLAIN(COUNT)),
+            (10, 0, Refusal::at_row(ROW, 0)),
+            (12, 17, Refusal::at_row(OFFSET, 0)),
+            (11, 1, PLAIN(LENGTH)),
+        ] {
+            let mut file = file.clone();
+            file[at] = byte;
+            assert_eq!(compare::check(&mut tally, &file), Err(earlier));
+        }
+    }
+    assert!(tally.met(JITTER) > 50, "{tally}");
+}
+
+/// 2, 3, 4 and 6 come before the 14 of an entry, 10 behind it. In the first
+/// edition every J above 0 is 14.
+#[test]
+fn the_order_of_14_for_the_writer() {
+    let mut tally = Tally::default();
+    let row = cases::node(1, &[GOOD; 2]).row();
+    let none = Row { levels: 0, ..row };
+    for both in pairs() {
+        for (edition, jitter, length) in [(1, [0, 0], 56), (2, [1_048, 1_048], 64)] {
+            let entries = both.map(|failing| entry_with(failing, jitter));
+            let due = due_of(both);
+            let mut write = |edition, rows: &[Row], entries: &[Entry], room| {
+                let answer = compare::write(&mut tally, edition, rows, entries, room);
+                answer.err()
+            };
+            assert_eq!(write(edition, &[row], &entries, length), due);
+            let short = due.or(Some(PLAIN(BUFFER)));
+            assert_eq!(write(edition, &[row], &entries, length - 1), short);
+            assert_eq!(write(3, &[row], &entries, 64), Some(PLAIN(OPENING)));
+            assert_eq!(write(edition, &[], &entries, 64), Some(PLAIN(COUNT)));
+            let levels = Some(Refusal::at_row(ROW, 0));
+            assert_eq!(write(edition, &[none], &entries, 64), levels);
+            let fewer = write(edition, &[row], &entries[..1], 64);
+            assert_eq!(fewer, Some(PLAIN(LENGTH)));
+        }
+    }
+    // Of nine pairs, in both editions, with and without room.
+    assert_eq!(tally.met(JITTER), 36, "{tally}");
+}
+
+/// A lent session with a 14 refuses every operation with it, before the
+/// operation's own 4, 10, 12 and 14; its own 4 comes first.
+#[test]
+fn the_order_of_14_in_a_lent_session() {
+    let mut tally = Tally::default();
+    let held = Session::holding(1, &[GOOD; 2]).expect("good entries");
+    let wrong = GOOD.jittered(1_049);
+    for both in pairs() {
+        let mut words = words_of(&held);
+        for (at, failing) in both.into_iter().enumerate() {
+            put_words(&mut words, at, &entry_with(failing, [1_048, most(&GOOD)]));
+        }
+        let due = due_of(both);
+        for (op, own) in [
+            (Op::SetLevels(0), Refusal::at_row(ROW, 0)),
+            (Op::Map, PLAIN(BUFFER)),
+            (Op::Insert(3, GOOD), PLAIN(POSITION)),
+            (Op::Insert(3, wrong), PLAIN(POSITION)),
+            (Op::Insert(2, wrong), Refusal::at_entry(JITTER, 0, 2)),
+            (Op::Replace(2, wrong), PLAIN(POSITION)),
+            (Op::Replace(1, wrong), Refusal::at_entry(JITTER, 0, 1)),
+            (Op::Remove(2), PLAIN(POSITION)),
+            (Op::Time(0, 2, 0), PLAIN(POSITION)),
+        ] {
+            let mut lent = Both::of(&words);
+            assert_eq!(lent.step(&mut tally, &op, 1), Err(due.unwrap_or(own)));
+            assert_eq!(lent.words(), &words);
+        }
+        words[0] = 65;
+        let levels = Both::of(&words).step(&mut tally, &Op::Map, 1);
+        assert_eq!(levels, Err(Refusal::at_row(ROW, 0)));
+    }
+    // Nine pairs with nine operations, and two operations of the good pair.
+    assert_eq!(tally.met(JITTER), 83, "{tally}");
 }

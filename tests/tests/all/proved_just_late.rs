@@ -2,19 +2,20 @@
 //! is late. The smaller nodes are compared with the second implementation; it
 //! would take hours for the full ones.
 
+use crate::say;
 use oracle::cases;
 use oracle::compare;
 use oracle::compare::session::Both;
 use oracle::ffi;
 use oracle::gen::buffers::known;
+use oracle::gen::jitter::thirds;
 use oracle::gen::just_late::just_late;
-use oracle::gen::odd::{with_thirds, JUST_LATE};
+use oracle::gen::odd::JUST_LATE;
 use oracle::lent::words_of;
 use oracle::options::{rng, times};
 use oracle::refusal::{Refusal, NO_MAP};
 use oracle::session::{Op, Reply, Session};
 use oracle::tally::Tally;
-use std::io::Write;
 
 /// With deadlines a tick before the completion time there is no map, and with
 /// deadlines at it there is one; also if entries start late.
@@ -22,7 +23,7 @@ use std::io::Write;
 fn at_the_completion_time_and_a_tick_before() {
     let (mut rng, mut tally) = (rng(320), Tally::default());
     let mut least = u64::MAX;
-    for round in 0..times(16) {
+    for round in 0..times(24) {
         let early = round % 2;
         let entries = just_late(&mut rng, early, round % 4 > 1);
         let last = entries.len() - 1;
@@ -38,14 +39,9 @@ fn at_the_completion_time_and_a_tick_before() {
         compare::map(&mut tally, &file, 7, entries.len());
         compare::list(&mut tally, &file);
     }
-    // Not `println!`: the harness hides what passing tests print with it.
-    writeln!(
-        std::io::stdout(),
-        "\njust late: {least} rounds or more; {tally}"
-    )
-    .expect("output is open");
+    say(format!("just late: {least} rounds or more; {tally}"));
     assert!(least > 10_000, "{least}");
-    assert_eq!(tally.met(NO_MAP), times(8), "{tally}");
+    assert_eq!(tally.met(NO_MAP), times(12), "{tally}");
 }
 
 /// One full node of each family has no map, also with J of a third of each
@@ -53,7 +49,7 @@ fn at_the_completion_time_and_a_tick_before() {
 #[test]
 fn full_nodes() {
     for (name, entries) in JUST_LATE {
-        for entries in [entries(), with_thirds(entries())] {
+        for entries in [entries(), thirds(entries())] {
             let file = cases::file(cases::node(8, &entries));
             let mut levels = known(64);
             let answer = ffi::map(&file, 7, &mut levels);

@@ -1,6 +1,7 @@
 //! One fault at every row and every position of the longest plan, and at every
 //! position of a full session: each call reports the place.
 
+use crate::say;
 use oracle::compare;
 use oracle::compare::session::Both;
 use oracle::file::{body_end, contents_end, encode, longest};
@@ -18,12 +19,6 @@ use oracle::refusal::{Refusal, JITTER, LENGTH, OFFSET, ROW, TICKS};
 use oracle::session::{Op, Reply};
 use oracle::tally::Tally;
 use oracle::words::ENTRY_WORDS;
-use std::io::Write;
-
-fn say(name: &str, tally: &Tally) {
-    // Not `println!`: the harness hides what passing tests print with it.
-    writeln!(std::io::stdout(), "\n{name}: {tally}").expect("output is open");
-}
 
 /// Every call that takes a file refuses this one and reports the place.
 fn assert_refused(tally: &mut Tally, file: &[u8], due: Refusal) {
@@ -64,7 +59,7 @@ fn a_fault_in_every_row_of_a_file() {
         }
         assert_eq!(required, longest(edition));
     }
-    say("a fault in every row of a file", &tally);
+    say(format!("a fault in every row of a file: {tally}"));
 }
 
 /// If a row counts one entry less, the offset of the next row is wrong. For the
@@ -91,7 +86,7 @@ fn a_fault_in_every_entry_of_a_file() {
     for edition in Edition::BOTH {
         a_fault_in_every_entry_of(&mut tally, &full_plan(&mut rng(302), edition));
     }
-    say("a fault in every entry of a file", &tally);
+    say(format!("a fault in every entry of a file: {tally}"));
 }
 
 fn a_fault_in_every_entry_of(tally: &mut Tally, plan: &Plan) {
@@ -100,13 +95,9 @@ fn a_fault_in_every_entry_of(tally: &mut Tally, plan: &Plan) {
         for (position, entry) in node.entries.iter().enumerate() {
             let faults = entry_faults(plan.edition, *entry);
             // One fault of each number goes to all calls, the others only to
-            // the check, those of 7 and 8 only in the first edition.
+            // the check.
             let telling = one_of_each(plan.edition, row + position);
             for (which, (wrong, number)) in faults.into_iter().enumerate() {
-                let first = plan.edition == Edition::First || number == JITTER;
-                if !first && !telling.contains(&which) {
-                    continue;
-                }
                 let due = Refusal::at_entry(number, row, position);
                 put_entry(plan.edition, &mut file, row, position, &wrong);
                 if telling.contains(&which) {
@@ -136,7 +127,7 @@ fn one_of_each(edition: Edition, at: usize) -> Vec<usize> {
 fn two_faulty_entries_of_a_file() {
     let (mut rng, mut tally) = (rng(303), Tally::default());
     let plans = Edition::BOTH.map(|edition| full_plan(&mut rng, edition));
-    for round in 0..times(1_000) {
+    for round in 0..times(2_000) {
         let plan = &plans[round as usize % 2];
         let entries = plan.entries();
         let mut file = encode(plan).unwrap();
@@ -162,7 +153,7 @@ fn two_faults_of_any_kind() {
     let plans = Edition::BOTH.map(|edition| full_plan(&mut rng, edition));
     for a in AIMS {
         for b in AIMS {
-            for round in 0..times(6) {
+            for round in 0..times(10) {
                 let plan = &plans[round as usize % 2];
                 let damaged = damage(&mut rng, plan, &[a, b]);
                 let answer = compare::check(&mut tally, &damaged.file);
@@ -172,7 +163,7 @@ fn two_faults_of_any_kind() {
     }
     for a in PART_AIMS {
         for b in PART_AIMS {
-            for round in 0..times(6) {
+            for round in 0..times(10) {
                 let plan = &plans[round as usize % 2];
                 let parts = damage_parts(&mut rng, plan, &[a, b]);
                 let (edition, room) = (parts.edition, parts.room);
@@ -181,7 +172,7 @@ fn two_faults_of_any_kind() {
             }
         }
     }
-    say("two faults of any kind", &tally);
+    say(format!("two faults of any kind: {tally}"));
 }
 
 /// A call of the writer that is changed row by row and entry by entry.
@@ -234,7 +225,10 @@ fn a_fault_in_every_row_for_the_writer() {
         assert_eq!(writer.write(), Err(Refusal::plain(LENGTH)));
         writer.entries.truncate(MAX_NODES * MAX_ENTRIES - 1);
         assert_eq!(writer.write(), Err(Refusal::plain(LENGTH)));
-        say("a fault in every row for the writer", &writer.tally);
+        say(format!(
+            "a fault in every row for the writer: {}",
+            writer.tally
+        ));
     }
 }
 
@@ -252,7 +246,10 @@ fn a_fault_in_every_entry_for_the_writer() {
             }
         }
         assert_eq!(writer.write(), Ok(longest(edition)));
-        say("a fault in every entry for the writer", &writer.tally);
+        say(format!(
+            "a fault in every entry for the writer: {}",
+            writer.tally
+        ));
     }
 }
 
@@ -311,7 +308,7 @@ fn a_fault_in_every_entry_of_a_session() {
             assert_eq!(answer, Ok(Reply::Changed), "{position}");
         }
     }
-    say("a fault in every entry of a session", &tally);
+    say(format!("a fault in every entry of a session: {tally}"));
 }
 
 /// Counts of levels and of entries that are too large; truncated, some would be
@@ -356,7 +353,7 @@ fn changes_at_every_position_of_a_session() {
             assert!(Both::of(words).step(&mut tally, &op, 0).is_ok(), "{op:?}");
         }
     }
-    say("changes at every position of a session", &tally);
+    say(format!("changes at every position of a session: {tally}"));
 }
 
 /// All groups of a full session, with each of their entries timed.

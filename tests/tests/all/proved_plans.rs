@@ -1,96 +1,114 @@
 //! The proved library on generated plans: every call is compared with the
 //! second implementation.
 
+use crate::say;
 use oracle::cases;
 use oracle::compare;
 use oracle::file::encode;
-use oracle::gen::plans;
-use oracle::model::{Entry, Node, Plan};
+use oracle::gen::plans::{self, drawn_in};
+use oracle::model::{Edition, Entry, Node, Plan};
 use oracle::options::{rng, times};
 use oracle::rng::Rng;
 use oracle::tally::Tally;
-use std::io::Write;
 
-/// Compares `count` plans of a generator, and prints the counts of answers.
-fn compare_plans(part: u64, name: &str, count: u64, draw: fn(&mut Rng) -> Plan) -> Tally {
+/// Compares `counts` plans of each edition, by a generator of both, and prints
+/// the counts of answers.
+fn compare_plans(
+    part: u64,
+    name: &str,
+    counts: [u64; 2],
+    draw: fn(&mut Rng) -> Plan,
+) -> [Tally; 2] {
     let mut rng = rng(part);
-    let mut tally = Tally::default();
-    for _ in 0..times(count) {
-        let file = encode(&draw(&mut rng)).expect("generators give good plans");
-        compare::file(&mut tally, &file);
+    Edition::BOTH.map(|edition| {
+        let mut tally = Tally::default();
+        let plans = times(counts[edition as usize]);
+        for _ in 0..plans {
+            let plan = drawn_in(&mut rng, edition, draw);
+            let file = encode(&plan).expect("generators give good plans");
+            compare::file(&mut tally, &file);
+        }
+        let number = edition.number();
+        say(format!(
+            "{plans} plans of edition {number}, {name}: {tally}"
+        ));
+        // The generators keep to the budget of rounds.
+        tally.assert_none_left_out();
+        tally
+    })
+}
+
+/// Asserts least counts of maps, and of calls without a map, in each edition.
+fn assert_maps(tallies: [Tally; 2], first: [u64; 2], second: [u64; 2]) {
+    for (tally, [maps, none]) in tallies.iter().zip([first, second]) {
+        tally.assert_maps(times(maps), times(none));
     }
-    // Not `println!`: the harness hides what passing tests print with it.
-    let plans = times(count);
-    writeln!(std::io::stdout(), "\n{plans} plans, {name}: {tally}").expect("output is open");
-    // The generators keep to the budget of rounds.
-    tally.assert_none_left_out();
-    tally
 }
 
 #[test]
 fn small() {
-    let tally = compare_plans(200, "small", 10_000, plans::small);
-    tally.assert_maps(times(9_000), times(20_000));
+    let tallies = compare_plans(200, "small", [10_000, 10_000], plans::small);
+    assert_maps(tallies, [9_000, 20_000], [7_500, 30_000]);
 }
 
 #[test]
 fn wide() {
-    let tally = compare_plans(201, "wide after narrow", 2_000, plans::wide);
-    tally.assert_maps(times(3_000), times(2_400));
+    let tallies = compare_plans(201, "wide after narrow", [2_000, 2_000], plans::wide);
+    assert_maps(tallies, [3_000, 2_400], [1_700, 5_000]);
 }
 
 #[test]
 fn tight() {
-    let tally = compare_plans(202, "tight deadlines", 3_000, plans::tight);
-    tally.assert_maps(times(3_000), times(5_000));
+    let tallies = compare_plans(202, "tight deadlines", [3_000, 3_000], plans::tight);
+    assert_maps(tallies, [3_000, 5_000], [2_700, 7_500]);
 }
 
 #[test]
 fn queued() {
-    let tally = compare_plans(318, "twice ahead on a level", 2_000, plans::queued);
-    tally.assert_maps(times(4_000), times(1_200));
+    let tallies = compare_plans(318, "twice ahead on a level", [1_000, 2_000], plans::queued);
+    assert_maps(tallies, [2_700, 650], [5_500, 1_400]);
 }
 
 #[test]
 fn stations() {
-    let tally = compare_plans(203, "stations", 300, plans::station);
-    tally.assert_maps(times(3_500), times(3_500));
+    let tallies = compare_plans(203, "stations", [300, 150], plans::station);
+    assert_maps(tallies, [3_500, 3_500], [1_300, 2_900]);
 }
 
 #[test]
 fn full_nodes() {
-    let tally = compare_plans(204, "64 entries", 300, plans::full_node);
-    tally.assert_maps(times(90), times(280));
+    let tallies = compare_plans(204, "64 entries", [300, 150], plans::full_node);
+    assert_maps(tallies, [90, 280], [25, 200]);
 }
 
 #[test]
 fn many_nodes() {
-    let tally = compare_plans(205, "32 nodes", 600, plans::many_nodes);
-    tally.assert_maps(times(6_000), times(18_000));
+    let tallies = compare_plans(205, "32 nodes", [600, 600], plans::many_nodes);
+    assert_maps(tallies, [6_000, 18_000], [5_700, 24_000]);
 }
 
 #[test]
 fn longest() {
-    let tally = compare_plans(206, "32 nodes of 64 entries", 5, plans::longest);
-    tally.assert_maps(times(80), times(80));
+    let tallies = compare_plans(206, "32 nodes of 64 entries", [5, 3], plans::longest);
+    assert_maps(tallies, [80, 80], [25, 120]);
 }
 
 #[test]
 fn at_limits() {
-    let tally = compare_plans(207, "at the limits", 3_000, plans::at_limits);
-    tally.assert_maps(times(2_400), times(11_000));
+    let tallies = compare_plans(207, "at the limits", [3_000, 3_000], plans::at_limits);
+    assert_maps(tallies, [2_400, 11_000], [2_400, 13_000]);
 }
 
 #[test]
 fn long_periods() {
-    let tally = compare_plans(209, "long periods", 500, plans::long_periods);
-    tally.assert_maps(times(700), times(650));
+    let tallies = compare_plans(209, "long periods", [500, 500], plans::long_periods);
+    assert_maps(tallies, [700, 650], [500, 1_100]);
 }
 
 #[test]
 fn many_entries() {
-    let tally = compare_plans(317, "13 to 64 entries", 200, plans::many_entries);
-    tally.assert_maps(times(100), times(130));
+    let tallies = compare_plans(317, "13 to 64 entries", [200, 150], plans::many_entries);
+    assert_maps(tallies, [100, 130], [60, 170]);
 }
 
 #[test]
@@ -136,8 +154,7 @@ fn many_rounds() {
         compare::list(&mut tally, &file);
         most = most.max(rounds_of_the_last(&oracle::listing::list(&file)));
     }
-    // Not `println!`: the harness hides what passing tests print with it.
-    writeln!(std::io::stdout(), "\nat most {most} rounds: {tally}").expect("output is open");
+    say(format!("at most {most} rounds: {tally}"));
     assert!(most > 10_000, "{most}");
     tally.assert_maps(times(20), times(5));
 }

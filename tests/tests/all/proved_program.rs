@@ -97,7 +97,9 @@ fn the_longest_plan() {
 #[test]
 fn long_listings() {
     let mut longest = 0;
-    for (nodes, edition) in (1..=32).zip(Edition::BOTH.into_iter().cycle()) {
+    let first = (1..=32).map(|nodes| (Edition::First, nodes));
+    let second = [1, 8, 31, 32].map(|nodes| (Edition::Second, nodes));
+    for (edition, nodes) in first.chain(second) {
         let file = encode(&long_listing(edition, nodes)).unwrap();
         let due = list(&file);
         let (text, ended) = run(&program(), &[&file], Duration::ZERO);

@@ -9,7 +9,7 @@ use oracle::gen::entries;
 use oracle::gen::jitter::Jitter;
 use oracle::gen::plans::{self, punctual as without_jitter};
 use oracle::lent::words_of;
-use oracle::listing::list;
+use oracle::listing::{list, MOST_TEXT};
 use oracle::map::map_entries;
 use oracle::model::{Edition, Entry, Plan};
 use oracle::mutate::mutate;
@@ -98,7 +98,7 @@ fn maps_are_as_before() {
 
 /// The text that the library lists.
 fn listed(file: &[u8]) -> String {
-    let mut text = vec![0; 115_625];
+    let mut text = vec![0; MOST_TEXT];
     let length = ffi::list(file, &mut text).expect("the text fits");
     String::from_utf8(text[..length].to_vec()).expect("a listing is text")
 }

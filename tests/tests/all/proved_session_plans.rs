@@ -1,6 +1,7 @@
 //! The proved library's sessions with generated nodes of plans: after each
 //! change the map and some timings are compared with the second implementation.
 
+use crate::say;
 use oracle::compare::session::Both;
 use oracle::gen::sessions::{Family, LIMITS, LONG, MANY, NEAR_ONE, STATION, TIGHT, WIDE};
 use oracle::lent::words_of;
@@ -9,7 +10,6 @@ use oracle::rng::Rng;
 use oracle::session::{Op, Reply};
 use oracle::tally::Tally;
 use oracle::timing::Timing;
-use std::io::Write;
 
 /// Counts of a run.
 #[derive(Default)]
@@ -68,7 +68,6 @@ fn compare_sessions(part: u64, count: u64, changes: u64, family: Family) -> Run 
             run.change(&mut rng, &mut both, &family);
         }
     }
-    // Not `println!`: the harness hides what passing tests print with it.
     let Run {
         tally,
         on_time,
@@ -77,7 +76,7 @@ fn compare_sessions(part: u64, count: u64, changes: u64, family: Family) -> Run 
     } = &run;
     let name = family.name;
     let timed = format!("{on_time} on time, {late} late, at most {most_rounds} rounds");
-    writeln!(std::io::stdout(), "\nsessions, {name}: {timed}; {tally}").expect("output is open");
+    say(format!("sessions, {name}: {timed}; {tally}"));
     run
 }
 
@@ -94,44 +93,44 @@ impl Run {
 
 #[test]
 fn wide() {
-    let run = compare_sessions(310, 200, 6, WIDE);
-    run.assert_least([600, 1_200], [2_500, 1_200], 100);
+    let run = compare_sessions(310, 300, 6, WIDE);
+    run.assert_least([900, 1_800], [3_750, 1_800], 100);
 }
 
 #[test]
 fn tight() {
-    let run = compare_sessions(311, 200, 6, TIGHT);
-    run.assert_least([400, 1_300], [1_400, 2_000], 10);
+    let run = compare_sessions(311, 300, 6, TIGHT);
+    run.assert_least([600, 1_950], [2_100, 3_000], 10);
 }
 
 #[test]
 fn stations() {
-    let run = compare_sessions(312, 200, 6, STATION);
-    run.assert_least([500, 800], [2_200, 1_300], 20);
+    let run = compare_sessions(312, 300, 6, STATION);
+    run.assert_least([650, 1_200], [3_300, 1_950], 20);
 }
 
 #[test]
 fn long_periods() {
-    let run = compare_sessions(313, 200, 6, LONG);
-    run.assert_least([450, 900], [2_200, 1_300], 20);
+    let run = compare_sessions(313, 300, 6, LONG);
+    run.assert_least([650, 1_350], [3_300, 1_950], 20);
 }
 
 #[test]
 fn at_limits() {
-    let run = compare_sessions(314, 300, 6, LIMITS);
-    run.assert_least([400, 2_000], [1_400, 3_500], 6);
+    let run = compare_sessions(314, 450, 6, LIMITS);
+    run.assert_least([600, 3_000], [2_100, 5_250], 6);
     assert!(run.most_rounds > 100, "{}", run.most_rounds);
 }
 
 #[test]
 fn many_entries() {
-    let run = compare_sessions(315, 120, 6, MANY);
-    run.assert_least([120, 300], [900, 900], 50);
+    let run = compare_sessions(315, 150, 6, MANY);
+    run.assert_least([150, 375], [1_125, 1_125], 50);
 }
 
 #[test]
 fn near_one() {
-    let run = compare_sessions(316, 600, 6, NEAR_ONE);
-    run.assert_least([1_400, 3_600], [6_000, 4_000], 8);
+    let run = compare_sessions(316, 900, 6, NEAR_ONE);
+    run.assert_least([2_100, 5_400], [9_000, 6_000], 8);
     assert!(run.most_rounds > 100, "{}", run.most_rounds);
 }

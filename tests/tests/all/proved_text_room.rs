@@ -7,13 +7,10 @@ use oracle::compare;
 use oracle::file::encode;
 use oracle::gen::listings::long_listing;
 use oracle::gen::plans;
-use oracle::listing::list;
+use oracle::listing::{list, MOST_TEXT};
 use oracle::model::Edition;
 use oracle::options::{rng, times};
 use oracle::tally::Tally;
-
-/// Bytes that suffice for every listing.
-const MOST_TEXT: usize = 115_625;
 
 /// Lists into a buffer a byte too short, an exact one, and long ones; returns
 /// the text.

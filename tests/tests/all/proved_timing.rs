@@ -2,6 +2,7 @@
 //! implementation: very many rounds, and starts and demands that do not fit 32
 //! bits. Each test prints the extreme that it reached.
 
+use crate::say;
 use oracle::cases;
 use oracle::compare;
 use oracle::compare::session::Both;
@@ -15,12 +16,6 @@ use oracle::options::{rng, times};
 use oracle::session::{Op, Reply, Session};
 use oracle::tally::Tally;
 use oracle::timing::{demand, group_levels, initial_time, limit, Timing};
-use std::io::Write;
-
-fn say(what: String) {
-    // Not `println!`: the harness hides what passing tests print with it.
-    writeln!(std::io::stdout(), "\n{what}").expect("output is open");
-}
 
 /// Times the last entry in the group that starts at `first`, in both
 /// implementations.
@@ -44,11 +39,21 @@ fn behind_all(entries: &[Entry]) -> (Vec<u8>, usize) {
 /// and deadlines a tick before these times.
 #[test]
 fn rounds_above_65_535() {
-    let (mut rng, mut tally) = (rng(300), Tally::default());
+    rounds_above_65_535_of(300, slow).assert_maps(times(20), times(31));
+}
+
+/// The same with entries before the last that may start late. All of them but
+/// the first are then late themselves, so there is no map.
+#[test]
+fn rounds_above_65_535_with_jitter() {
+    rounds_above_65_535_of(306, slow_and_late).assert_maps(0, times(31));
+}
+
+fn rounds_above_65_535_of(part: u64, slow: fn(u64, u64) -> Vec<Entry>) -> Tally {
+    let (mut rng, mut tally) = (rng(part), Tally::default());
     let (mut late, mut met, mut above_12) = (0, 0, 0);
     for _ in 0..times(120) {
         let fifth = rng.pick(&[1_835, 1_850, 1_900, 2_100, 4_000, 50_000]) + rng.below(9);
-        let slow = rng.pick(&[slow, slow_and_late]);
         let entries = until_the_last(slow(fifth, rng.below(40)), rng.below(2));
         match time_last(&mut tally, &entries, SLOW) {
             Timing::Late { rounds } => {
@@ -68,7 +73,7 @@ fn rounds_above_65_535() {
     ));
     assert!(late > 65_535 && met > 65_535, "{late} {met}");
     assert!(above_12 > times(30), "{above_12}");
-    tally.assert_maps(times(20), times(31));
+    tally
 }
 
 /// More than 2^22 rounds, on time and late, in a session and in a listing.

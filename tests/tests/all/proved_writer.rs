@@ -1,5 +1,6 @@
 //! The proved writer on faulty rows and entries.
 
+use crate::say;
 use oracle::compare;
 use oracle::ffi;
 use oracle::file::{check_parts, encode};
@@ -11,7 +12,6 @@ use oracle::refusal::{Refusal, LENGTH};
 use oracle::rng::Rng;
 use oracle::tally::Tally;
 use oracle::words;
-use std::io::Write;
 
 fn assert_due(rng: &mut Rng, tally: &mut Tally, aims: &[PartAim]) {
     let plan = plans::filled(rng);
@@ -47,7 +47,7 @@ fn one_to_three_faults() {
             assert_due(&mut rng, &mut tally, &[a]);
         }
     }
-    writeln!(std::io::stdout(), "\nthe writer's faults: {tally}").expect("output is open");
+    say(format!("the writer's faults: {tally}"));
     for number in [2, 3, 4, 6, 7, 8, 10, 14] {
         assert!(tally.met(number) >= times(100), "{number}: {tally}");
     }

@@ -36,10 +36,7 @@ fn levels_of(starts: &[usize], count: usize) -> Vec<u8> {
 /// The entries of a small node, and its level count.
 fn draw(rng: &mut Rng) -> (Vec<Entry>, u8) {
     let count = rng.count(2, 7);
-    let jitter = match rng.chance(1, 2) {
-        true => Jitter::Zero,
-        false => Jitter::draw(rng),
-    };
+    let jitter = Jitter::half_zero(rng);
     let entries = match rng.below(4) {
         0 => {
             let entries = tiny(rng, count);
@@ -196,7 +193,7 @@ fn jitter_on_own_level_alone(entries: &[Entry], levels: &[u8], i: usize, t: u64)
 
 fn jitter_behind_the_ceiling(entries: &[Entry], levels: &[u8], i: usize, t: u64) -> u64 {
     counting(entries, levels, i, |_, other, _| {
-        t.div_ceil(other.t) + other.j / other.t
+        t.div_ceil(other.t) + other.j.div_ceil(other.t)
     })
 }
 

@@ -1,5 +1,6 @@
 //! Each refusal number comes up many times; the run prints how often.
 
+use crate::say;
 use oracle::file::{check, encode, write};
 use oracle::gen::buffers::room;
 use oracle::gen::damage::{damage, AIMS};
@@ -12,7 +13,6 @@ use oracle::refusal::NUMBERS;
 use oracle::rng::Rng;
 use oracle::session::Session;
 use oracle::tally::Tally;
-use std::io::Write;
 
 fn note_files(rng: &mut Rng, tally: &mut Tally) {
     for aim in AIMS {
@@ -67,8 +67,7 @@ fn every_number_is_met() {
     for _ in 0..times(20) {
         note_session(&mut rng, Course::Growing, 400, &mut tally);
     }
-    // Not `println!`: the harness hides what passing tests print with it.
-    writeln!(std::io::stdout(), "\n{tally}").expect("standard output is open");
+    say(&tally);
     for number in 1..=NUMBERS {
         assert!(tally.met(number) >= times(100), "{number}: {tally}");
     }

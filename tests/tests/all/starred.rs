@@ -5,30 +5,30 @@ use oracle::map::{by_groupings, by_groups, map_entries, Map};
 use oracle::model::{Entry, Node};
 use oracle::timing::{completion, demand, initial_time, Timing};
 
-fn on_time(time: u64, rounds: u64) -> Timing {
+pub fn on_time(time: u64, rounds: u64) -> Timing {
     Timing::OnTime { time, rounds }
 }
 
-fn late(rounds: u64) -> Timing {
+pub fn late(rounds: u64) -> Timing {
     Timing::Late { rounds }
 }
 
 /// The map; both ways to compute it must agree.
-fn map(node: &Node) -> Option<Map> {
+pub fn map(node: &Node) -> Option<Map> {
     let found = map_entries(&node.entries, node.levels);
     assert_eq!(by_groupings(&node.entries, node.levels), found);
     assert_eq!(by_groups(&node.entries, node.levels), found);
     found
 }
 
-fn timings(node: &Node, levels: &[u8]) -> Vec<Timing> {
+pub fn timings(node: &Node, levels: &[u8]) -> Vec<Timing> {
     (0..node.entries.len())
         .map(|i| completion(&node.entries, levels, i))
         .collect()
 }
 
 /// Asserts the map and returns the timings under it.
-fn mapped(node: &Node, levels: &[u8], used: u8) -> Vec<Timing> {
+pub fn mapped(node: &Node, levels: &[u8], used: u8) -> Vec<Timing> {
     let levels = levels.to_vec();
     assert_eq!(
         map(node),

@@ -12,21 +12,13 @@ use oracle::timing::{
 
 fn draw(rng: &mut Rng) -> Vec<Entry> {
     let count = rng.count(1, 9);
-    let jitter = jitter(rng);
+    let jitter = Jitter::half_zero(rng);
     let entries = match rng.below(3) {
         0 => entries::tiny(rng, count),
         1 => entries::scattered(rng, count),
         _ => return entries::wide(rng, count.max(2), jitter),
     };
     jitter.put(rng, entries)
-}
-
-/// Without jitter in half of the draws.
-fn jitter(rng: &mut Rng) -> Jitter {
-    match rng.chance(1, 2) {
-        true => Jitter::Zero,
-        false => Jitter::draw(rng),
-    }
 }
 
 /// Levels that never fall, but may begin above 1 and may skip.
@@ -43,7 +35,7 @@ fn draw_levels(rng: &mut Rng, count: usize) -> Vec<u8> {
 fn completion_time_is_the_least_whose_demand_fits() {
     let mut rng = rng(50);
     let (mut on_time, mut late) = (0, 0);
-    for _ in 0..times(5_000) {
+    for _ in 0..times(8_000) {
         let entries = draw(&mut rng);
         let levels = draw_levels(&mut rng, entries.len());
         for (i, entry) in entries.iter().enumerate() {
@@ -68,11 +60,11 @@ fn completion_time_is_the_least_whose_demand_fits() {
 fn rounds_count_evaluations_and_keep_the_bound() {
     let mut rng = rng(51);
     let (mut highest, mut above) = (0, 0);
-    for _ in 0..times(3_000) {
+    for _ in 0..times(5_000) {
         let count = rng.count(1, 16);
         let entries = match rng.below(2) {
             0 => {
-                let jitter = jitter(&mut rng);
+                let jitter = Jitter::half_zero(&mut rng);
                 let entries = entries::realistic(&mut rng, count);
                 jitter.put(&mut rng, entries)
             }

@@ -81,7 +81,7 @@ fn compare_map(tally: &mut Tally, bytes: &[u8], number: u16, room: usize) {
 
 fn compare_list(bytes: &[u8]) {
     let text = listing::list(bytes).into_bytes();
-    for room in rooms(text.len()).into_iter().chain([115_625]) {
+    for room in rooms(text.len()).into_iter().chain([listing::MOST_TEXT]) {
         let mut buffer = known(room);
         let answer = tuned::list(bytes, &mut buffer);
         if text.len() <= room {
@@ -163,7 +163,7 @@ fn refused_files() {
 #[test]
 fn refused_plans() {
     let mut rng = rng(342);
-    for _ in 0..times(500) {
+    for _ in 0..times(1_000) {
         let plan = plans::filled(&mut rng);
         let (mut rows, mut entries) = (plan.rows(), plan.entries());
         let (row, entry) = (rng.index(rows.len()), rng.index(entries.len()));

@@ -1,6 +1,6 @@
-use Prim.Native.Nat.{ℕ, _+_, _-_, _*_, _≤_, _<_, min}
+use Prim.Native.Nat.{ℕ, _+_, _-_, _*_, _/_, _≤_, _<_, min}
 use mathlib.Core.Path.{_≡_}
-use native.Mathlib.Nat.{le-trans, zero-mul, mul-le-mul-right}
+use native.Mathlib.Nat.{le-refl, le-trans, zero-mul, mul-le-mul-right}
 use native.Mathlib.Omega.{arith}
 use borrow.Author.Needs.{needs}
 use Rattle.node_words.specs.Words.{entryOf}
@@ -9,7 +9,7 @@ use Rattle.on_time.specs.Utilisation.{fullUtilisation}
 use Rattle.completion.proofs.Sums.{sumTo-le}
 use Rattle.completion.proofs.Words.{wcetOf}
 use Rattle.on_time.proofs.Utilisation.{run-most}
-use Rattle.on_time.proofs.Early.{utilisationOf, runOf, jitterOf, ceil-least}
+use Rattle.on_time.proofs.Early.{utilisationOf, runOf, jitterOf, ceil-least, ceil-enough}
 use Rattle.on_time.proofs.completion_bound.Statement.{statement}
 use Rattle.on_time.proofs.completion_bound.Tie as tie
 
@@ -56,6 +56,7 @@ returns c = (
       (c .before .before .before .args .first) ≡ 0 =
       omega (arith, c .if1 .taken, c .before .spare-utilisation .ensures, c .before .before .recurring-sum .ensures .0) in
       absurd (omega (arith, less (c .before .before), c .before .before .recurring-sum .ensures .1, rw (none, zero-mul t) at w)),
+  λ h. absurd (omega arith),
 )
 
 sub-once : tie.Need-sub-once
@@ -83,6 +84,7 @@ returns-2 c =
       omega arith,
       λ t h w.
           past-limit _ _ _ _ t (omega (arith, c .if2 .taken, cut s, less s, s .recurring-sum .ensures .1)) w,
+      λ h. absurd (omega arith),
     )
 
 add-by-utilisation : tie.Need-add-by-utilisation
@@ -97,8 +99,28 @@ add-by-utilisation-2 c = search needs
 div-by-utilisation : tie.Need-div-by-utilisation
 div-by-utilisation c = search needs
 
+-- a sum of jitters that is below its cut is the whole
+whole : (c s m : ℕ) → c ≡ min s m → c < m → s ≡ c
+whole c s m p h = omega arith
+
+-- from the quotient on, the work fits into what is left
+fits-from : (spare u us runs rs jitter js initial x : ℕ) → spare ≡ fullUtilisation - u → u ≡ us → runs ≡ rs → js ≡ jitter → 1 ≤ spare
+    → (fullUtilisation * (initial - runs) + jitter + (spare - 1)) / spare ≤ x
+    → fullUtilisation * (initial - rs) + js ≤ (fullUtilisation - us) * x
+fits-from spare u us runs rs jitter js initial x p q r w some l =
+    rw (← q, ← p, ← r, w) (ceil-enough (fullUtilisation * (initial - runs) + jitter) spare x some l)
+
 returns-3 : tie.Need-returns-3
-returns-3 c = search needs
+returns-3 c =
+    let spare = c .before .before .before .before .before .before in
+    let s = spare .before in (
+      omega arith,
+      λ t h w. h,
+      λ h.
+          fits-from _ _ _ _ _ _ _ _ _ (spare .spare-utilisation .ensures) (s .recurring-sum .ensures .0) (s .recurring-sum .ensures .1)
+          (whole _ _ _ (s .recurring-sum .ensures .2) (omega (arith, less s, c .before .before .if2 .left)))
+          (omega (arith, c .before .before .before .before .before .if1 .left)) (omega (arith, c .if3 .taken)),
+    )
 
 returns-4 : tie.Need-returns-4
 returns-4 c =
@@ -109,6 +131,10 @@ returns-4 c =
           ceil-least _ _ t (omega (arith, c .before .before .before .before .before .if1 .left))
           (rw (spare .spare-utilisation .ensures, s .recurring-sum .ensures .0, s .recurring-sum .ensures .1)
           (le-trans (omega (arith, cut s)) w)),
+      λ h.
+          fits-from _ _ _ _ _ _ _ _ _ (spare .spare-utilisation .ensures) (s .recurring-sum .ensures .0) (s .recurring-sum .ensures .1)
+          (whole _ _ _ (s .recurring-sum .ensures .2) (omega (arith, less s, c .before .before .if2 .left)))
+          (omega (arith, c .before .before .before .before .before .if1 .left)) (le-refl _),
     )
 
 pub completion-bound-spec : {M : Type 1} → statement M

@@ -17,13 +17,12 @@ use oracle::ffi;
 use oracle::file::{edition_of, encode};
 use oracle::gen::entries;
 use oracle::gen::plans;
+use oracle::listing::MOST_TEXT;
 use oracle::model::{Edition, Entry};
 use oracle::rng::Rng;
 use rows::{Checking, Listing, Mapping, Reading, Writing};
 use stations::{mapped_entries, one_node, station, Starts};
 
-/// The longest possible listing.
-const MOST_TEXT: usize = 115_625;
 /// Entries of a node of a station.
 const COUNT: usize = 12;
 

@@ -8,9 +8,10 @@ use crate::measure::Table;
 use crate::planner::{Planner, Proved, Tuned};
 use crate::rows::{Listing, Mapping};
 use crate::stations::one_node;
-use crate::MOST_TEXT;
 use oracle::file::encode;
-use oracle::gen::odd::{full_plan, many_rounds, with_thirds, FAMILIES, JUST_LATE, LATE_STARTS};
+use oracle::gen::jitter::thirds;
+use oracle::gen::odd::{full_plan, many_rounds, FAMILIES, JUST_LATE, LATE_STARTS};
+use oracle::listing::MOST_TEXT;
 use oracle::model::Entry;
 use oracle::plain;
 use oracle::programs::run_within;
@@ -44,7 +45,7 @@ fn all() -> Vec<(String, Vec<Entry>)> {
     let as_they_are = families().chain([LATE_STARTS]);
     let late = families().map(|(name, entries)| {
         let name = format!("{name}, each entry with jitter");
-        (name, with_thirds(entries()))
+        (name, thirds(entries()))
     });
     as_they_are
         .map(|(name, entries)| (name.to_string(), entries()))

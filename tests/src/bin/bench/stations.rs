@@ -2,7 +2,7 @@
 
 use oracle::file::encode;
 use oracle::gen::entries;
-use oracle::gen::odd::with_thirds;
+use oracle::gen::jitter::thirds;
 use oracle::model::{Entry, Node, Plan};
 use oracle::plain;
 use oracle::rng::Rng;
@@ -20,7 +20,7 @@ impl Starts {
     pub fn of(self, entries: Vec<Entry>) -> Vec<Entry> {
         match self {
             Starts::Punctual => entries,
-            Starts::Late => with_thirds(entries),
+            Starts::Late => thirds(entries),
         }
     }
 

@@ -3,14 +3,17 @@ use mathlib.Core.Path.{_≡_, _∙_, refl, sym, ap}
 use native.Mathlib.Omega.{arith}
 use lib.ListN.{length, drop}
 use borrow.Author.Needs.{needs}
-use Rattle.refusals.specs.Refusals.{outcome}
+use borrow.Author.Tests.{not-true, not-false}
+use Rattle.refusals.specs.Refusals.{accepted}
 use Rattle.task_model.specs.Checks.{entryCheck}
+use Rattle.task_model.proofs.Theorems.{entries-accepted}
+use Rattle.plan_file.proofs.Bodies.{said-no}
 use Rattle.plan_file.specs.Decoding.{rowsFrom, entriesAt}
 use Rattle.plan_file.specs.Encoding.{entryLength, bodiesStart}
 use Rattle.plan_file.specs.Plan.{entryCount}
 use Rattle.byte_words.proofs.Runs.{AtHand, run-none}
 use Rattle.plan_file.proofs.Contents.{rows-run, entries-run, file-row}
-use Rattle.plan_file.proofs.Rows.{bodies, count-here, bodies-here, bodies-end}
+use Rattle.plan_file.proofs.Rows.{bodies, count-here, bodies-here, bodies-stop, bodies-end}
 use Rattle.plan_file.proofs.checks.check_by_row.Statement.{statement}
 use Rattle.plan_file.proofs.checks.check_by_row.Tie as tie
 
@@ -37,11 +40,11 @@ at-loop c = c .before .before
 abbrev after-entry-bytes : tie.After-row-at Inv-loop μ-loop → tie.After-entry-bytes Inv-loop μ-loop
 after-entry-bytes c = c .before .before .before
 
-abbrev after-row-at : tie.After-enum-told2 Inv-loop μ-loop → tie.After-row-at Inv-loop μ-loop
+abbrev after-row-at : tie.After-check-body Inv-loop μ-loop → tie.After-row-at Inv-loop μ-loop
 after-row-at c = c .before .before .before .before
 
-abbrev after-row-at-2 : tie.After-enum-told Inv-loop μ-loop → tie.After-row-at Inv-loop μ-loop
-after-row-at-2 c = c .before .before .before .before
+abbrev after-row-at-2 : tie.Else1 Inv-loop μ-loop → tie.After-row-at Inv-loop μ-loop
+after-row-at-2 c = c .before .before .before
 
 at-row : (c : tie.After-row-at Inv-loop μ-loop)
     → AtHand (rowsFrom (at-start c .args .file .now) 0 (at-start c .args .nodes)) (at-loop c .loop .row) (c .row-at .result)
@@ -62,9 +65,8 @@ sized c = ap (λ s. c .row-at .result .count * s) (after-entry-bytes c .entry-by
 returns : tie.Need-returns Inv-loop μ-loop
 returns c =
     let k = after-row-at c in
-    let told = ap outcome (c .enum-told2 .given .1) in
-    told
-    ∙ sym (bodies-here entryCheck (entries-run _ _) (at-row k) _ _ refl _ (sym (c .before .before .check-body .ensures) ∙ told))
+    c .check-body .ensures
+    ∙ bodies-stop (entries-run _ _) (at-row k) _ (said-no (c .before .before .all-hold .ensures) (not-true _ (c .before .if1 .taken)))
     ∙ at-loop k .loop .inv .2
 
 loop-again : tie.Need-loop-again Inv-loop μ-loop
@@ -73,8 +75,8 @@ loop-again c =
       omega arith,
       omega (arith, bytes-here k, sized k),
       sym
-          (bodies-here entryCheck (entries-run _ _) (at-row k) _ _ (omega (arith, sized k)) _
-          (sym (c .before .before .check-body .ensures) ∙ ap outcome (c .enum-told .given .1)))
+          (bodies-here entryCheck (entries-run _ _) (at-row k) _ _ (omega (arith, sized k)) accepted
+          (entries-accepted _ 0 _ .1 (c .before .all-hold .ensures .0 (not-false _ (c .if1 .left)))))
           ∙ at-loop k .loop .inv .2,
     )
 
@@ -86,6 +88,6 @@ pub check-by-row-spec : {M : Type 1} → statement M
 check-by-row-spec =
     tie.close (tie.spec
     Inv-loop μ-loop (λ c κs. search needs) (λ c. search needs) (λ c. omega arith) loop-holds (λ c κs. search needs) (λ c. search needs)
-    (λ c κs. omega (arith, bytes-here (c .before))) (λ c. search needs) (λ c. search needs) returns
+    (λ c κs. omega (arith, bytes-here (c .before))) (λ c κs. omega (arith, bytes-here (c .before .before .before))) returns
     (λ c. omega (arith, bytes-here (after-row-at-2 c), sized (after-row-at-2 c)))
     (λ c. omega (arith, bytes-here (after-row-at-2 c), sized (after-row-at-2 c))) (λ c. search needs) (λ c. omega arith) loop-again returns-2)
