@@ -1,9 +1,11 @@
 -- The utilisation of the entries on higher levels. It gives a lower bound on a completion time and so saves rounds; no
 -- promise of an entry for users mentions it.
-use Prim.Native.Nat.{ℕ, _+_, _*_, _/_}
+use Prim.Native.Nat.{ℕ, _+_, _-_, _*_, _/_, _≤_}
+use mathlib.Core.List.{List}
 use lib.Dec.{ltb}
 use Rattle.task_model.specs.declared.Entry.{Entry}
-use Rattle.completion.specs.Demand.{only}
+use Rattle.node_words.specs.Words.{entryOf}
+use Rattle.completion.specs.Demand.{only, sumTo}
 
 -- A utilisation of 1, in units of 2^-34.
 abbrev pub fullUtilisation : ℕ
@@ -27,3 +29,12 @@ recurringWcet d e = only (ltb (e .period) (d + e .jitter)) (e .wcet)
 -- Its utilisation times J.
 unfoldable pub recurringJitter : ℕ → Entry → ℕ
 recurringJitter d e = recurringUtilisation d e * e .jitter
+
+-- The work of an entry with the initial time t0, with `first` entries on higher levels, fits into the ticks up to t. All is
+-- in units of the utilisation: the work that is released once, and what runs for the jitter, into what the utilisation of
+-- the recurring entries leaves.
+abbrev pub WorkFits : List ℕ → ℕ → ℕ → ℕ → ℕ → Type 0
+WorkFits ws first d t0 t =
+    fullUtilisation * (t0 - sumTo (λ j. recurringWcet d (entryOf ws j)) first)
+    + sumTo (λ j. recurringJitter d (entryOf ws j)) first
+    ≤ (fullUtilisation - sumTo (λ j. recurringUtilisation d (entryOf ws j)) first) * t

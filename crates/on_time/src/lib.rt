@@ -14,7 +14,7 @@ ghost use Rattle.completion.specs.Demand.{sumTo, demandWith};
 ghost use Rattle.completion.specs.Group.{groupLevel, InGroup};
 ghost use Rattle.completion.specs.Test.{testWith, isOnTime};
 ghost use Rattle.on_time.specs.Deciding.{isMet};
-ghost use Rattle.on_time.specs.Utilisation.{fullUtilisation, recurringUtilisation, recurringWcet, recurringJitter};
+ghost use Rattle.on_time.specs.Utilisation.{fullUtilisation, recurringUtilisation, recurringWcet, recurringJitter, WorkFits};
 ghost use Rattle.on_time.specs.StartBound.{startBound};
 
 // The verdict without a completion time.
@@ -109,15 +109,9 @@ fn completion_bound(words: &NodeWords, first: usize, limit: u32, initial: u64) -
     requires { ⌜ AllHold (entriesOf (now words) first) ⌝ ∗ ⌜ first ≤ mostEntries ⌝
         ∗ ⌜ (sumTo (λ j. entryOf (now words) j .wcet) first < initial) × (initial ≤ limit) × (limit ≤ mostTicks) ⌝ }
     ensures { λ x.
-        ⌜ (initial ≤ x) × ((t : ℕ) → initial ≤ t
-        → fullUtilisation * (initial - sumTo (λ j. recurringWcet limit (entryOf (now (words .entry)) j)) first)
-        + sumTo (λ j. recurringJitter limit (entryOf (now (words .entry)) j)) first
-        ≤ (fullUtilisation - sumTo (λ j. recurringUtilisation limit (entryOf (now (words .entry)) j)) first) * t
-        → x ≤ t)
-        × (x ≤ limit
-        → fullUtilisation * (initial - sumTo (λ j. recurringWcet limit (entryOf (now (words .entry)) j)) first)
-        + sumTo (λ j. recurringJitter limit (entryOf (now (words .entry)) j)) first
-        ≤ (fullUtilisation - sumTo (λ j. recurringUtilisation limit (entryOf (now (words .entry)) j)) first) * x) ⌝ }
+        ⌜ (initial ≤ x)
+        × ((t : ℕ) → initial ≤ t → WorkFits (now (words .entry)) first limit initial t → x ≤ t)
+        × (x ≤ limit → WorkFits (now (words .entry)) first limit initial x) ⌝ }
 {
     let r = recurring_sum(words, first, limit);
     let spare = spare_utilisation(r.utilisation);
