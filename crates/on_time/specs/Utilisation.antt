@@ -30,9 +30,9 @@ recurringWcet d e = only (ltb (e .period) (d + e .jitter)) (e .wcet)
 unfoldable pub recurringJitter : ℕ → Entry → ℕ
 recurringJitter d e = recurringUtilisation d e * e .jitter
 
--- The work of an entry with the initial time t0, with `first` entries on higher levels, fits into the ticks up to t. All is
--- in units of the utilisation: the work that is released once, and what runs for the jitter, into what the utilisation of
--- the recurring entries leaves.
+-- The work of an entry with the initial time t0, with `first` entries on higher levels, fits into t ticks, in units of the
+-- utilisation: what runs once (t0 without C of the recurring entries) and what runs for the jitter is at most what the
+-- utilisation of the recurring entries leaves of t ticks.
 abbrev pub WorkFits : List ℕ → ℕ → ℕ → ℕ → ℕ → Type 0
 WorkFits ws first d t0 t =
     fullUtilisation * (t0 - sumTo (λ j. recurringWcet d (entryOf ws j)) first)

@@ -103,7 +103,7 @@ fn spare_utilisation(utilisation: u64) -> u64
 }
 
 // A lower bound on the completion time of an entry: its initial time, or later if the entries on higher levels, those
-// before `first`, use much of the processor. The work that is released once, and what they run for their jitter, must fit
+// before `first`, use much of the processor. The work that runs once, and what they run for their jitter, must fit
 // into what they leave. If that is not so up to the limit, any time past the limit is a lower bound.
 fn completion_bound(words: &NodeWords, first: usize, limit: u32, initial: u64) -> u64
     requires { ⌜ AllHold (entriesOf (now words) first) ⌝ ∗ ⌜ first ≤ mostEntries ⌝
@@ -186,8 +186,8 @@ pub fn ends_on_time(
     met_from(words, count, first, last, i, blocking, begin)
 }
 
-// One past the last entry i < end with D - J < B + runs, or 0, where `runs` is the sum of C before `end`. That entry is late in
-// every group that ends just before `end` and contains it.
+// One past the last entry i < end with D - J < B + runs, or 0, where `runs` is the sum of C before `end`. That entry is late
+// in every group that ends just before `end` and contains it.
 pub fn start_bound(words: &NodeWords, count: usize, end: usize, runs: u64) -> usize
     requires { ⌜ AllHold (entriesOf (now words) count) ⌝ ∗ ⌜ (end ≤ count) × (count ≤ mostEntries) ⌝
         ∗ ⌜ runs ≡ sumTo (λ j. entryOf (now words) j .wcet) end ⌝ }

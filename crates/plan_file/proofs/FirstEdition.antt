@@ -1,4 +1,5 @@
--- The check of every file that does not open with the second edition's bytes is the check of before.
+-- The check of every file that does not open with the second edition's bytes is the check of before, and so is the writer's
+-- check of a plan whose every J is 0.
 use Prim.Native.Nat.{ℕ, suc, _+_}
 use mathlib.Core.Path.{_≡_, _∙_, refl, ap, ap₂}
 use mathlib.Core.Bool.{Bool, true, false, _||_}
@@ -11,9 +12,8 @@ use Rattle.refusals.specs.Refusals.{at, Outcome, accepted, refused, _andThen_, 
 use Rattle.task_model.specs.declared.Entry.{Entry}
 use Rattle.task_model.specs.Limits.{noEntry}
 use Rattle.task_model.specs.Checks.{entryCheck, entriesBy}
-use Rattle.task_model.specs.WithoutJitter.{punctualCheck}
+use Rattle.task_model.specs.WithoutJitter.{Punctual, punctualCheck}
 use Rattle.task_model.proofs.WithoutJitter.{entry-punctual}
-use Rattle.task_model.specs.WithoutJitter.{Punctual}
 use Rattle.plan_file.specs.declared.Edition.{Edition}
 use Rattle.plan_file.specs.declared.Edition.the-variants.{First, Second}
 use Rattle.plan_file.specs.declared.Row.{Row}

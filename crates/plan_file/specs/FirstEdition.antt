@@ -1,5 +1,6 @@
--- The check of a plan file as it was before there was a second edition and entries had a release jitter. The theorem
--- `first-edition` says that every file that does not open with the second edition's bytes has this check.
+-- The checks of a plan file and of a plan to be written, as they were before there was a second edition and entries had a
+-- release jitter. By `first-edition`, every file that does not open with the second edition's bytes has this check. By
+-- `writer-punctual`, every plan with J 0 throughout has that of the writer, in both editions.
 use Prim.Native.Nat.{ℕ, _*_}
 use mathlib.Core.List.{List}
 use lib.ListN.{length}
@@ -30,7 +31,8 @@ firstEditionCheck f =
     andThen layoutCheck 20 f 0 0 (bodiesStart (nodeCount f)) (rowsIn f)
     andThen nodesBy punctualCheck 0 (rowsIn f) (firstEditionPlan f .entries)
 
--- The writer: the node count (3), 4 row by row, as many entries as the rows count (6), then 7 and 8 entry by entry.
+-- The writer, of rows, and of entries given in `words` words: the node count (3), 4 row by row, as many entries as the rows
+-- count (6), then 7 and 8 entry by entry. (An entry in memory had five words then, and has six now.)
 unfoldable pub firstWriterCheck : List Row → List Entry → ℕ → Outcome
 firstWriterCheck rows entries words =
     mustHold (countTest (length rows)) (at 3 0 0)

@@ -216,7 +216,7 @@ fn check_body(edition: Edition, file: &[u8], row: usize, start: usize, count: us
     Checked::Accepted
 }
 
-// Checks the entries of every body, row by row.
+// Checks the entries of every body, row by row. Only the row that fails is gone through for the place.
 fn check_by_row(edition: Edition, file: &[u8], nodes: usize) -> Checked
     requires { ⌜ bodiesStart nodes + entryCount (rowsFrom (now file) 0 nodes) * entryLength edition ≤ length (now file) ⌝ }
     ensures { λ a.

@@ -91,8 +91,8 @@ pub fn check_entry(row: usize, position: usize, e: Entry) -> Checked
     Checked::Accepted
 }
 
-// The same test as kind_holds, but without a branch on the kind, which is often guessed wrong where kinds mix. With kind 1
-// the sum allows 15 calls, with kind 2 none, and with a greater kind it is above 30.
+// The same test as kind_holds, but without a branch between kinds 1 and 2, which is often guessed wrong where both occur.
+// With kind 1 the sum allows 15 calls, with kind 2 none, and with a greater kind it is above 30.
 fn calls_hold(kind: u8, calls: u8) -> bool
     ensures { λ a. ⌜ a ≡ kindTest kind calls ⌝ }
 {
