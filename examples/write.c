@@ -1,5 +1,5 @@
 /* Writes the plan file of case P (docs/SPEC.md) to standard output, after the library has checked it and read it back. With
- * the argument 2, the file is of the second edition.
+ * the argument 2, the third task may start 12 ticks late, and the file is of the second edition (samples/p_jitter_12.plan).
  *
  * gcc -Iinclude examples/write.c target/staticlib/libplanner_c.a -o write && ./write > p.plan
  */
@@ -30,6 +30,14 @@ static int turned_back(const char *call, uint32_t refused, const size_t values[3
     return 1;
 }
 
+/* Whether the library refuses to write these entries in the first edition, and names the third one: that edition has no room
+ * for its J. The file is then untouched. */
+static int needs_second_edition(uint32_t row, const uint32_t entries[WORDS], uint8_t *file, size_t room) {
+    size_t values[3];
+    uint32_t refused = maiplur_write(1, &row, 1, entries, WORDS, file, room, values);
+    return refused == MAIPLUR_JITTER && values[0] == 0 && values[1] == 2;
+}
+
 /* Whether a file of this edition holds exactly one row and these entries. */
 static int reads_back(const uint8_t *file, size_t length, uint32_t edition, uint32_t row, const uint32_t entries[WORDS]) {
     uint32_t rows[MAIPLUR_MOST_ROWS];
@@ -53,6 +61,12 @@ int main(int count, char **arguments) {
     set_task(entries, 1, 20, 100, 100);
     set_task(entries + ENTRY_WORDS, 2, 30, 145, 145);
     set_task(entries + 2 * ENTRY_WORDS, 3, 68, 150, 150);
+    if (edition == 2) {
+        entries[WORDS - 1] = 12; /* J of the third task */
+        if (!needs_second_edition(row, entries, file, sizeof file)) {
+            return 4; /* never: a J above 0 is not dropped */
+        }
+    }
     uint32_t refused = maiplur_write(edition, &row, 1, entries, WORDS, file, sizeof file, values);
     if (refused) {
         return turned_back("write", refused, values);

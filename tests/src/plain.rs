@@ -186,10 +186,11 @@ pub fn write(edition: u32, rows: &[u32], words: &[u32], file: &mut [u8]) -> Opti
     };
     let count = count_entries(rows)?;
     let entries = words.as_chunks::<6>().0;
-    if words.len() != count * 6 || !entries.iter().all(|e| entry_holds(&session::entry(e))) {
-        return None;
-    }
-    if edition == 1 && entries.iter().any(|e| e[5] > 0) {
+    let writable = |words: &[u32; 6]| {
+        let e = session::entry(words);
+        entry_holds(&e) && (edition == 2 || e.j == 0)
+    };
+    if words.len() != count * 6 || !entries.iter().all(writable) {
         return None;
     }
     let bodies = 8 + rows.len() * 8;

@@ -2,12 +2,13 @@
 //! with the first edition of the plan file alone.
 //!
 //! It is a small implementation of its own, to compare with: if every J is 0,
-//! all answers are still these. It tries every grouping, so it is for short
-//! lists.
+//! all answers are still these. Only the time at which a test starts, which
+//! never depended on J, is that of [`crate::timing`]. The map tries every
+//! grouping, so it is for short lists.
 
-use crate::model::{Entry, Node};
+use crate::model::{Entry, Node, Row};
 use crate::refusal::Refusal;
-use crate::timing::Timing;
+use crate::timing::{initial_time, Timing};
 use std::cmp::Reverse;
 
 /// The demand of entry `i` at time `t`.
@@ -19,12 +20,6 @@ pub fn demand(entries: &[Entry], levels: &[u8], i: usize, t: u64) -> u64 {
     };
     let interference = others(levels, i).map(|j| entries[j].c * runs(j));
     own.c + own.b + interference.sum::<u64>()
-}
-
-/// The time at which the test of entry `i` starts.
-pub fn initial_time(entries: &[Entry], levels: &[u8], i: usize) -> u64 {
-    let runs: u64 = others(levels, i).map(|j| entries[j].c).sum();
-    entries[i].c + entries[i].b + runs
 }
 
 /// The completion time test of entry `i`.
@@ -103,18 +98,23 @@ pub fn check(file: &[u8]) -> Result<(), Refusal> {
     if file.len() != end {
         return Err(Refusal::plain(6));
     }
-    (0..nodes).try_for_each(|row| check_node(&node_at(file, row), row))
+    (0..nodes).try_for_each(|row| check_entries(&node_at(file, row).entries, row))
 }
 
-fn check_node(node: &Node, row: usize) -> Result<(), Refusal> {
-    for (position, e) in node.entries.iter().enumerate() {
-        if !matches!((e.kind, e.r), (1, 0..=15) | (2, 0)) {
-            return Err(Refusal::at_entry(7, row, position));
-        }
-        let top = 1_000_000_000;
-        if e.c < 1 || e.c > e.d || e.d > e.t || e.t > top || e.b > top {
-            return Err(Refusal::at_entry(8, row, position));
-        }
+/// Checks 7 and 8 on the entries of a row, entry by entry.
+fn check_entries(entries: &[Entry], row: usize) -> Result<(), Refusal> {
+    let mut places = entries.iter().enumerate();
+    places.try_for_each(|(position, entry)| check_entry(entry, row, position))
+}
+
+/// Check 7, then 8.
+fn check_entry(e: &Entry, row: usize, position: usize) -> Result<(), Refusal> {
+    if !matches!((e.kind, e.r), (1, 0..=15) | (2, 0)) {
+        return Err(Refusal::at_entry(7, row, position));
+    }
+    let top = 1_000_000_000;
+    if e.c < 1 || e.c > e.d || e.d > e.t || e.t > top || e.b > top {
+        return Err(Refusal::at_entry(8, row, position));
     }
     Ok(())
 }
@@ -151,6 +151,80 @@ fn entry_of(bytes: &[u8]) -> Entry {
         b,
         ..Entry::task(0, c, t, d)
     }
+}
+
+/// Writes a file from the buffer's start, and returns its length. Checks 3, then
+/// 4 row by row, 6, then 7 and 8 entry by entry, then 10.
+pub fn write(rows: &[Row], entries: &[Entry], buffer: &mut [u8]) -> Result<usize, Refusal> {
+    if !(1..=32).contains(&rows.len()) {
+        return Err(Refusal::plain(3));
+    }
+    let (mut least, mut counted) = (0, 0);
+    for (index, row) in rows.iter().enumerate() {
+        let [number, count] = [row.number, row.entries.into()].map(usize::from);
+        if number < least || !(1..=64).contains(&row.levels) || count > 64 {
+            return Err(Refusal::at_row(4, index));
+        }
+        (least, counted) = (number + 1, counted + count);
+    }
+    if entries.len() != counted {
+        return Err(Refusal::plain(6));
+    }
+    let mut rest = entries;
+    for (index, row) in rows.iter().enumerate() {
+        let (own, behind) = rest.split_at(row.entries.into());
+        check_entries(own, index)?;
+        rest = behind;
+    }
+    let file = bytes_of(rows, entries);
+    if buffer.len() < file.len() {
+        return Err(Refusal::plain(10));
+    }
+    buffer[..file.len()].copy_from_slice(&file);
+    Ok(file.len())
+}
+
+fn bytes_of(rows: &[Row], entries: &[Entry]) -> Vec<u8> {
+    let mut file = b"LMP1".to_vec();
+    file.extend([rows.len() as u8, 0, 0, 0]);
+    let mut offset = 8 + 8 * rows.len() as u32;
+    for row in rows {
+        file.extend(row.number.to_le_bytes());
+        file.extend([row.levels, row.entries]);
+        file.extend(offset.to_le_bytes());
+        offset += 20 * u32::from(row.entries);
+    }
+    for e in entries {
+        file.extend(e.number.to_le_bytes());
+        file.extend([e.kind, e.r]);
+        for ticks in [e.c, e.t, e.d, e.b] {
+            file.extend((ticks as u32).to_le_bytes());
+        }
+    }
+    file
+}
+
+/// What a session that held these entries holds after an insert. Checks 12, 13,
+/// 7, 8.
+pub fn inserted(held: &[Entry], position: usize, entry: Entry) -> Result<Vec<Entry>, Refusal> {
+    if position > held.len() {
+        return Err(Refusal::plain(12));
+    }
+    if held.len() == 64 {
+        return Err(Refusal::plain(13));
+    }
+    check_entry(&entry, 0, position)?;
+    Ok([&held[..position], &[entry], &held[position..]].concat())
+}
+
+/// What a session that held these entries holds after a replacement. Checks 12,
+/// 7, 8.
+pub fn replaced(held: &[Entry], position: usize, entry: Entry) -> Result<Vec<Entry>, Refusal> {
+    if position >= held.len() {
+        return Err(Refusal::plain(12));
+    }
+    check_entry(&entry, 0, position)?;
+    Ok([&held[..position], &[entry], &held[position + 1..]].concat())
 }
 
 /// The listing of a file of up to 65,536 bytes.

@@ -10,9 +10,9 @@ use lib.Dec.{leb, eqb}
 use Rattle.task_model.specs.declared.Entry.{Entry}
 use Rattle.task_model.specs.Limits.{entryAt}
 use Rattle.task_model.specs.WithoutJitter.{Punctual}
-use Rattle.completion.specs.Demand.{ceilDiv, releases, sumTo, only, moreUrgent, sharesLevel, higherLevelInterference, sameLevelInterference, demandWith, demand}
+use Rattle.completion.specs.Demand.{ceilDiv, releases, sumTo, only, moreUrgent, sharesLevel, higherLevelInterference, sameLevelInterference, demandWith, demand, initialTimeWith, initialTime}
 use Rattle.completion.specs.Test.{limit, testFrom, testWith, completionTest, roundsBound}
-use Rattle.completion.specs.WithoutJitter.{punctualReleases, punctualDemand, punctualTest, punctualBound}
+use Rattle.completion.specs.WithoutJitter.{punctualReleases, punctualDemand, punctualInitialTime, punctualTest, punctualBound}
 use Rattle.completion.proofs.Sums.{sumTo-eq}
 use Rattle.completion.proofs.Iteration.{test-same}
 
@@ -43,9 +43,14 @@ module _ (es : List Entry) (punctual : Punctual es) (level : ℕ → ℕ) (i : �
       ap (λ n. only (sharesLevel level i j) (entryAt es j .wcet * min n (entryAt es i .calls + 1)))
       (releases-punctual (entryAt es j) (punctual j l) t)))
 
+  -- The initial time is that without J, and would be with any J.
+  pub start-punctual : initialTime es level i ≡ punctualInitialTime es level i
+  unfolding initialTimeWith punctualInitialTime
+  start-punctual = refl
+
   -- The test is that without J: its time, and its rounds.
   pub test-punctual : completionTest es level i ≡ punctualTest es level i
-  unfolding testWith punctualTest
+  unfolding testWith punctualTest initialTimeWith punctualInitialTime
   test-punctual =
       rw (limit-punctual (entryAt es i) (each-punctual es punctual i)) (test-same _ _ demand-punctual (entryAt es i .deadline) _ 0)
 

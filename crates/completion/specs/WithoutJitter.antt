@@ -1,4 +1,4 @@
--- The demand and the test of entries that start on time, without J: what they were before entries had a release jitter
+-- The demand and the test of entries without J: what they were before entries had a release jitter
 -- (docs/SPEC.md, 'Entries that start late'). For entries whose J is 0, the theorems of proofs/WithoutJitter say that demand,
 -- test and bound are these.
 use Prim.Native.Nat.{ℕ, _+_, _-_, _*_, min}
@@ -8,7 +8,7 @@ use lib.ListN.{length}
 use lib.Dec.{leb, eqb}
 use Rattle.task_model.specs.declared.Entry.{Entry}
 use Rattle.task_model.specs.Limits.{entryAt}
-use Rattle.completion.specs.Demand.{ceilDiv, sumTo, only, moreUrgent, sharesLevel, initialTime}
+use Rattle.completion.specs.Demand.{ceilDiv, sumTo, only, moreUrgent, sharesLevel}
 use Rattle.completion.specs.Test.{Completion, testFrom}
 
 -- How often an entry is released in t ticks: ⌈ t / T ⌉.
@@ -24,9 +24,14 @@ punctualDemand es level i t =
     + sumTo (λ j. only (sharesLevel level i j) (entryAt es j .wcet * min (punctualReleases (entryAt es j) t) (entryAt es i .calls + 1)))
     (length es)
 
+-- The initial time of the test: B plus the C of every entry on the own and more urgent levels, the entry itself included.
+unfoldable pub punctualInitialTime : List Entry → (ℕ → ℕ) → ℕ → ℕ
+punctualInitialTime es level i =
+    entryAt es i .blocking + sumTo (λ j. only (leb (level j) (level i)) (entryAt es j .wcet)) (length es)
+
 -- The test of the entry at i: from the initial time on, up to D.
 unfoldable pub punctualTest : List Entry → (ℕ → ℕ) → ℕ → Completion
-punctualTest es level i = testFrom (punctualDemand es level i) (entryAt es i .deadline) (initialTime es level i) 0
+punctualTest es level i = testFrom (punctualDemand es level i) (entryAt es i .deadline) (punctualInitialTime es level i) 0
 
 -- The bound on rounds: 1 plus the sum of ⌈ D of i / T ⌉ - 1 over all entries but i on its own and more urgent levels.
 unfoldable pub punctualBound : List Entry → (ℕ → ℕ) → ℕ → ℕ

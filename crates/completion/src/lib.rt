@@ -41,11 +41,11 @@ fn releases_in(e: Entry, t: u32) -> u32
     requires { ⌜ EntryHolds e ⌝ ∗ ⌜ (1 ≤ t) × (t ≤ mostTicks) ⌝ }
     ensures { λ n. ⌜ n ≡ releases e t ⌝ }
 {
-    let late = t + e.jitter;
-    if late <= e.period {
+    let span = t + e.jitter;
+    if span <= e.period {
         return 1;
     }
-    (late + (e.period - 1)) / e.period
+    (span + (e.period - 1)) / e.period
 }
 
 // The interference of an entry on a higher level in `t` ticks.

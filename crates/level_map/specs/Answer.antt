@@ -14,9 +14,9 @@ use Rattle.refusals.specs.Answers.{Answer, gives, refuses, giving}
 use Rattle.task_model.specs.Limits.{Node}
 use Rattle.level_map.specs.declared.MappedNode.{MappedNode}
 use Rattle.level_map.specs.declared.MappedNode.the-variants.{Levels, Refused}
-use Rattle.level_map.specs.Assignments.{NoneLate, Passing, levelsUsed}
+use Rattle.level_map.specs.Assignments.{EntryTest, NoneLateUnder, PassingUnder, levelsUsed}
 use Rattle.completion.specs.Test.{completionTest}
-use Rattle.level_map.specs.Map.{Chosen, EntryTest, mapUnder}
+use Rattle.level_map.specs.Map.{Chosen, mapUnder}
 
 -- What the code's answer says: the count of the map's levels, or the refusal's number, row and entry.
 abbrev pub answer : MappedNode → Answer ℕ
@@ -48,29 +48,39 @@ heldCheckUnder test n room =
 unfoldable pub heldAnswerUnder : EntryTest → Node → ℕ → Answer ℕ
 heldAnswerUnder test n room = giving (heldCheckUnder test n room) (levelsUsed (levelsUnder test n))
 
--- The same under the completion time test.
-abbrev pub mapOf : Node → List ℕ
-mapOf n = levelsUnder completionTest n
-
-abbrev pub heldCheck : Node → ℕ → Outcome
-heldCheck n room = heldCheckUnder completionTest n room
-
-abbrev pub heldAnswer : Node → ℕ → Answer ℕ
-heldAnswer n room = heldAnswerUnder completionTest n room
-
 -- Promise 3 for a map m that is given with a count. Under m every entry ends by its deadline. m is the choice that
 -- docs/SPEC.md, 'The map', describes. It uses `count` different levels, and no passing assignment uses fewer.
-pub record Mapping (es : List Entry) (most count : ℕ) (m : List ℕ) : Type 0 where
-  pub passing : Passing es most m
-  pub chosen : Chosen (NoneLate es) most (length es) m
+pub record MappingUnder (test : EntryTest) (es : List Entry) (most count : ℕ) (m : List ℕ) : Type 0 where
+  pub passing : PassingUnder test es most m
+  pub chosen : Chosen (NoneLateUnder test es) most (length es) m
   pub counted : levelsUsed m ≡ count
-  pub fewest : (a : List ℕ) → Passing es most a → count ≤ levelsUsed a
+  pub fewest : (a : List ℕ) → PassingUnder test es most a → count ≤ levelsUsed a
 
 -- Promise 3 for an answer, with the map m read from the buffer's start. The answer is refusal 11 exactly if no assignment
 -- passes. Otherwise it is a count, with a map as above.
-pub record BestMapOrNone (es : List Entry) (most : ℕ) (a : Answer ℕ) (m : List ℕ) : Type 0 where
-  pub refusal : (a ≡ refuses (at 11 0 0)) ↔ ((l : List ℕ) → Passing es most l → ⊥)
-  pub given : (a ≡ refuses (at 11 0 0)) ⊎ ((count : ℕ) × (a ≡ gives count) × Mapping es most count m)
+pub record BestMapOrNoneUnder (test : EntryTest) (es : List Entry) (most : ℕ) (a : Answer ℕ) (m : List ℕ) : Type 0 where
+  pub refusal : (a ≡ refuses (at 11 0 0)) ↔ ((l : List ℕ) → PassingUnder test es most l → ⊥)
+  pub given : (a ≡ refuses (at 11 0 0)) ⊎ ((count : ℕ) × (a ≡ gives count) × MappingUnder test es most count m)
+
+-- From here on, the same under the completion time test. The levels of a node's map:
+abbrev pub mapOf : Node → List ℕ
+mapOf n = levelsUnder completionTest n
+
+-- The checks for mapping a node into a buffer of `room` bytes.
+abbrev pub heldCheck : Node → ℕ → Outcome
+heldCheck n room = heldCheckUnder completionTest n room
+
+-- The answer for mapping a node.
+abbrev pub heldAnswer : Node → ℕ → Answer ℕ
+heldAnswer n room = heldAnswerUnder completionTest n room
+
+-- Promise 3 for a map.
+abbrev pub Mapping : List Entry → ℕ → ℕ → List ℕ → Type 0
+Mapping es most count m = MappingUnder completionTest es most count m
+
+-- Promise 3 for an answer.
+abbrev pub BestMapOrNone : List Entry → ℕ → Answer ℕ → List ℕ → Type 0
+BestMapOrNone es most a m = BestMapOrNoneUnder completionTest es most a m
 
 -- Promise 3 for a node that is mapped into a long enough buffer, with the map read from the buffer's start.
 abbrev pub NodeBestMapOrNone : Node → List ℕ → Answer ℕ → List ℕ → Type 0

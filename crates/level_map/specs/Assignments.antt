@@ -6,7 +6,7 @@ use mathlib.Core.List.{List, [], _∷_}
 use lib.ListN.{length, getD}
 use lib.Dec.{eqb}
 use Rattle.task_model.specs.declared.Entry.{Entry}
-use Rattle.completion.specs.Test.{completionTest, isOnTime}
+use Rattle.completion.specs.Test.{Completion, completionTest, isOnTime}
 
 -- The level of the entry at position i. An assignment is a list with one level per entry; level 1 is the most urgent.
 abbrev pub levelOf : List ℕ → ℕ → ℕ
@@ -20,15 +20,27 @@ pub record Assignment (n most : ℕ) (a : List ℕ) : Type 0 where
   pub high : (i : ℕ) → i < n → levelOf a i ≤ most
   pub rising : (i : ℕ) → suc i < n → levelOf a i ≤ levelOf a (suc i)
 
--- No entry is late: the completion time test answers on time for each. Entries with equal levels are a group; the test
--- needs only the levels.
-abbrev pub NoneLate : List Entry → List ℕ → Type 0
-NoneLate es a = (i : ℕ) → i < length es → isOnTime (completionTest es (levelOf a) i) ≡ true
+-- A test of entries: what it answers for the entry at a position, among entries with these levels.
+abbrev pub EntryTest : Type 0
+EntryTest = List Entry → (ℕ → ℕ) → ℕ → Completion
 
--- A passing assignment: to the levels 1 to `most`, with every entry ending by its deadline.
-pub record Passing (es : List Entry) (most : ℕ) (a : List ℕ) : Type 0 where
+-- No entry is late: the test answers on time for each. Entries with equal levels are a group; the test needs only the
+-- levels.
+abbrev pub NoneLateUnder : EntryTest → List Entry → List ℕ → Type 0
+NoneLateUnder test es a = (i : ℕ) → i < length es → isOnTime (test es (levelOf a) i) ≡ true
+
+-- A passing assignment: to the levels 1 to `most`, with every entry ending by its deadline under the test.
+pub record PassingUnder (test : EntryTest) (es : List Entry) (most : ℕ) (a : List ℕ) : Type 0 where
   pub assignment : Assignment (length es) most a
-  pub inTime : NoneLate es a
+  pub inTime : NoneLateUnder test es a
+
+-- No entry is late under the completion time test.
+abbrev pub NoneLate : List Entry → List ℕ → Type 0
+NoneLate es a = NoneLateUnder completionTest es a
+
+-- A passing assignment under the completion time test.
+abbrev pub Passing : List Entry → ℕ → List ℕ → Type 0
+Passing es most a = PassingUnder completionTest es most a
 
 -- 1 if the test holds, and else 0.
 abbrev pub one : Bool → ℕ

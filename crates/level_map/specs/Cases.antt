@@ -11,7 +11,7 @@ use Rattle.refusals.specs.Refusals.{Numbered, refused}
 use Rattle.task_model.specs.Limits.{entryAt, NodeHolds}
 use Rattle.task_model.specs.Checks.{nodeCheck}
 use Rattle.completion.specs.Demand.{sumTo, only, moreUrgent, sharesLevel, higherLevelInterference, demand, initialTime}
-use Rattle.completion.specs.Test.{Completion, on-time, late, testFrom, completionTest}
+use Rattle.completion.specs.Test.{Completion, on-time, late, testFrom, completionTest, roundsBound}
 use Rattle.level_map.specs.Assignments.{levelOf, levelsUsed}
 use Rattle.level_map.specs.Map.{theMap}
 
@@ -116,6 +116,8 @@ pub data Claim : Type 0 where
   timed : (es : List Entry) (a : List ℕ) → List (Option ℕ) → Claim
   -- under the levels `a`, the answer for the entry at i
   answered-at : (es : List Entry) (a : List ℕ) (i : ℕ) → Completion → Claim
+  -- under the levels `a`, the bound on the rounds of the entry at i
+  bounded-at : (es : List Entry) (a : List ℕ) (i bound : ℕ) → Claim
   -- under the levels `a`, the entry at i is late; with a deadline of t, it would end at t
   would-take : (es : List Entry) (a : List ℕ) (i t : ℕ) → Claim
   -- under the levels `a`, the entry at i is late
@@ -136,6 +138,7 @@ Holds (no-map es levels) = theMap es levels ≡ none
 Holds (answered es a cs) = answers es a ≡ cs
 Holds (timed es a ts) = times es a ≡ ts
 Holds (answered-at es a i c) = completionTest es (levelOf a) i ≡ c
+Holds (bounded-at es a i bound) = roundsBound es (levelOf a) i ≡ bound
 Holds (would-take es a i t) =
     (timeIn (completionTest es (levelOf a) i) ≡ none)
     × (timeIn (testFrom (demand es (levelOf a) i) t (initialTime es (levelOf a) i) 0) ≡ some t)

@@ -7,8 +7,8 @@ use mathlib.Core.Option.{Option, none, some}
 use mathlib.Core.List.{List, [], _∷_, _++_, map}
 use lib.ListN.{length, replicate}
 use Rattle.task_model.specs.declared.Entry.{Entry}
-use Rattle.completion.specs.Test.{Completion, completionTest, isOnTime}
-use Rattle.level_map.specs.Assignments.{levelOf, sizeOf, levelsUsed}
+use Rattle.completion.specs.Test.{completionTest, isOnTime}
+use Rattle.level_map.specs.Assignments.{levelOf, EntryTest, sizeOf, levelsUsed}
 
 -- A map of n entries: one level per entry. Along the list, levels begin at 1, never fall, and have no gap.
 pub record IsMap (n : ℕ) (m : List ℕ) : Type 0 where
@@ -54,10 +54,6 @@ maps (suc most) n = maps most n ++ mapsWith (suc most) n
 unfoldable pub firstOf : (List ℕ → Bool) → List (List ℕ) → Option (List ℕ)
 firstOf passes [] = none
 firstOf passes (m ∷ ms) = elim (passes m) [ true ↦ some m | false ↦ firstOf passes ms ]
-
--- A test of entries: what it answers for the entry at a position, among entries with these levels.
-abbrev pub EntryTest : Type 0
-EntryTest = List Entry → (ℕ → ℕ) → ℕ → Completion
 
 -- No entry before position n is late under a test.
 unfoldable pub noneLateTo : EntryTest → List Entry → List ℕ → ℕ → Bool

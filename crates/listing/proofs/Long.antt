@@ -20,6 +20,7 @@ use Rattle.byte_words.specs.Bytes.{wordAt}
 use Rattle.plan_file.specs.Decoding.{opensAt, openingTest, editionOf, nodeCount, rowsFrom}
 use Rattle.plan_file.specs.declared.Edition.{Edition}
 use Rattle.plan_file.specs.declared.Edition.the-variants.{First, Second}
+use Rattle.plan_file.specs.Limits.{longest}
 use Rattle.plan_file.proofs.Contents.{length-rows}
 use Rattle.plan_file.proofs.Limits.{long-layout}
 use Rattle.plan_file.proofs.File.{layout-holds}
@@ -31,7 +32,7 @@ use Rattle.listing.specs.Listing.{listing}
 use Rattle.listing.proofs.Texts.{listing-refused}
 
 -- two inputs that are longer than any plan, and agree in what a header with 32 rows takes
-module _ (f g : List ℕ) (lf : 49416 < length f) (lg : 49416 < length g) (same : (k : ℕ) → k < 264 → getD g k 0 ≡ getD f k 0) where
+module _ (f g : List ℕ) (lf : longest Second < length f) (lg : longest Second < length g) (same : (k : ℕ) → k < 264 → getD g k 0 ≡ getD f k 0) where
   opens : (ed : Edition) (k : ℕ) → k < 264 → opensAt ed g k ≡ opensAt ed f k
   opens ed k h = ap (λ x. eqb x (getD (openingBytes ed) k 0)) (same k h)
 
@@ -94,7 +95,7 @@ module _ (f g : List ℕ) (lf : 49416 < length f) (lg : 49416 < length g) (same 
       (ap₂ _andThen_ (ap (λ x. mustHold (eqb x required) (at 5 i 0)) (word-same (headerLength + i * rowLength + 4) (omega arith)))
       (contents-same size (suc i) (suc (r .number)) (required + r .count * size) rs (omega arith)))
 
-module _ (f g : List ℕ) (lf : 49416 < length f) (lg : 49416 < length g) (same : (k : ℕ) → k < 264 → getD g k 0 ≡ getD f k 0) where
+module _ (f g : List ℕ) (lf : longest Second < length f) (lg : longest Second < length g) (same : (k : ℕ) → k < 264 → getD g k 0 ≡ getD f k 0) where
   -- where the rows are accepted, both end too late
   layout-same : (ed : Edition) (n : ℕ) → n ≤ 32
       → layoutCheck (entryLength ed) g 0 0 (bodiesStart n) (rowsFrom g 0 n)

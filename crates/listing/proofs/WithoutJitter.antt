@@ -107,6 +107,11 @@ module _ (p : Plan) (h : Punctual (p .entries)) where
   listed-punctual accepted = plan-text-punctual
   listed-punctual (refused r) = refl
 
+-- A file of either edition whose every J is 0 has the listing without J.
+pub listing-punctual : (f : List ℕ) → Punctual (planIn f .entries)
+    → listing f ≡ listingUnder punctualTest (fileCheck f) (planIn f)
+listing-punctual f h = listed-punctual (planIn f) h (fileCheck f)
+
 -- Every file that does not open with the second edition's bytes has its listing of before.
 pub listing-first : (f : List ℕ) → openingTest Second f ≡ false → listing f ≡ firstEditionListing f
 unfolding firstEditionListing

@@ -13,8 +13,8 @@ use Rattle.refusals.specs.Answers.{Answer, gives, refuses, giving}
 use Rattle.plan_file.specs.Check.{fileCheck}
 use Rattle.plan_file.specs.Decoding.{planIn}
 use Rattle.plan_file.specs.Find.{rowIn, nodeOfRow}
-use Rattle.level_map.specs.Assignments.{levelOf, levelsUsed}
-use Rattle.level_map.specs.Map.{EntryTest, mapUnder}
+use Rattle.level_map.specs.Assignments.{levelOf, EntryTest, levelsUsed}
+use Rattle.level_map.specs.Map.{mapUnder}
 use Rattle.listing.specs.declared.Listed.{Listed}
 use Rattle.listing.specs.declared.Listed.the-variants.{Text, Refused}
 use Rattle.listing.specs.Lines.{planLine, nodeLine, noMapLine, entryLine, refusedLine}
@@ -59,19 +59,23 @@ listingUnder test o p =
       | accepted ↦ planTextUnder test p
     ]
 
--- The same under the completion time test.
+-- From here on, the same under the completion time test. The line of an entry:
 abbrev pub entryText : List Entry → List ℕ → ℕ → List ℕ
 entryText es m i = entryTextUnder completionTest es m i
 
+-- The lines of entries.
 abbrev pub entriesText : List Entry → List ℕ → ℕ → List ℕ
 entriesText es m n = entriesTextUnder completionTest es m n
 
+-- The lines of a node.
 abbrev pub nodeText : ℕ → Node → List ℕ
 nodeText number n = nodeTextUnder completionTest number n
 
+-- The lines of nodes.
 abbrev pub nodesText : Plan → ℕ → List ℕ
 nodesText p n = nodesTextUnder completionTest p n
 
+-- The listing of a plan.
 abbrev pub planText : Plan → List ℕ
 planText p = planTextUnder completionTest p
 

@@ -1,4 +1,4 @@
--- One past the last entry i < end with D < B + the sum of C before `end`.
+-- One past the last entry i < end with D - J < B + the sum of C before `end`.
 use Prim.Native.Nat.{ℕ, zero, suc, _+_, _-_, _≤_, _<_}
 use mathlib.Core.Path.{_≡_, _∙_, refl, sym}
 use mathlib.Core.Bool.{Bool, true, false}

@@ -8,11 +8,11 @@ use node_words::entry_at;
 use task_model::Entry;
 ghost use mathlib.Core.Path.{_≡_};
 ghost use Prim.Native.Nat.{ℕ, _+_, _-_, _*_, _≤_, _<_, min};
-ghost use Rattle.task_model.specs.Limits.{mostTicks, mostEntries, AllHold, EntryHolds};
+ghost use Rattle.task_model.specs.Limits.{mostTicks, mostEntries, entryAt, AllHold, EntryHolds};
 ghost use Rattle.node_words.specs.Words.{entryOf, entriesOf};
-ghost use Rattle.completion.specs.Demand.{sumTo, demandWith};
+ghost use Rattle.completion.specs.Demand.{sumTo, demandWith, initialTimeWith};
 ghost use Rattle.completion.specs.Group.{groupLevel, InGroup};
-ghost use Rattle.completion.specs.Test.{testWith, isOnTime};
+ghost use Rattle.completion.specs.Test.{limit, testWith, isOnTime};
 ghost use Rattle.on_time.specs.Deciding.{isMet};
 ghost use Rattle.on_time.specs.Utilisation.{fullUtilisation, recurringUtilisation, recurringWcet, recurringJitter, WorkFits};
 ghost use Rattle.on_time.specs.StartBound.{startBound};
@@ -129,7 +129,8 @@ fn completion_bound(words: &NodeWords, first: usize, limit: u32, initial: u64) -
     by_utilisation
 }
 
-// Follows the rounds of the entry at `i` from `begin` on. Before `begin` its demand is not met.
+// Follows the rounds of the entry at `i` from `begin` on. Before `begin` its demand is not met. `begin` is as late as the
+// utilisation allows (`WorkFits`): from an earlier time the answer would be the same, after many more rounds.
 fn met_from(
     words: &NodeWords,
     count: usize,
@@ -141,6 +142,9 @@ fn met_from(
 ) -> Deadline
     requires { ⌜ AllHold (entriesOf (now words) count) ⌝ ∗ ⌜ InGroup count first last i ⌝
         ∗ ⌜ 1 ≤ begin ⌝
+        ∗ ⌜ (begin ≤ limit (entryAt (entriesOf (now words) count) i) →
+        WorkFits (now words) first (limit (entryAt (entriesOf (now words) count) i))
+        (initialTimeWith blocking (entriesOf (now words) count) (groupLevel first last) i) begin) ⌝
         ∗ ⌜ ((t : ℕ) → demandWith blocking (entriesOf (now words) count) (groupLevel first last) i t ≤ t → begin ≤ t) ⌝ }
     ensures { λ a.
         ⌜ isMet a ≡ isOnTime (testWith blocking (entriesOf (now (words .entry)) count) (groupLevel first last) i) ⌝ }

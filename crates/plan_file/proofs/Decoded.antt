@@ -18,13 +18,13 @@ use Rattle.plan_file.specs.declared.Row.{Row}
 use Rattle.plan_file.specs.Plan.{Plan, entryCount, rowWord, rowOf, RowFits, RowsFit, PlanFits}
 use Rattle.plan_file.specs.Encoding.{openingBytes, rowLength, headerLength, entryLength, headerBytes, rowBytes, entryBytes, bodiesStart, contentsBytes, bodiesBytes, encoding}
 use Rattle.byte_words.specs.Bytes.{low, wordAt, wordsFrom, bytesOf}
-use Rattle.plan_file.specs.Decoding.{editionOf, nodeCount, rowAt, offsetAt, rowsFrom, rowsIn, entryWordsAt, entryIn, entriesAt, entriesIn, planIn}
+use Rattle.plan_file.specs.Decoding.{editionOf, nodeCount, rowAt, offsetAt, rowsFrom, rowsIn, entryWordsAt, entryIn, entriesAt, entriesIn, planIn, fileWords}
 use Rattle.plan_file.specs.Check.{rowTest, rowsCheck, contentsCheck, layoutCheck, headerCheck, fileCheck, planCheck}
 use Rattle.plan_file.specs.Limits.{EditionFits}
 use Rattle.refusals.proofs.Outcomes.{both-accepted, demanded}
 use Rattle.plan_file.proofs.Tests.{Opens, edition-opens, opens-known, row-holds, counted-true}
 use Rattle.byte_words.proofs.Words.{length-low}
-use Rattle.plan_file.proofs.Words.{heldWords, row-bytes, entry-bytes}
+use Rattle.plan_file.proofs.Words.{row-bytes, entry-bytes}
 use Rattle.plan_file.proofs.Encoding.{entry-short, length-entry, length-encoding}
 use Rattle.plan_file.proofs.Bodies.{Each}
 use Rattle.plan_file.proofs.Header.{header-accepted}
@@ -127,13 +127,13 @@ words-there f k (w ∷ ws) rest h e =
     )
 
 -- the words of an entry, from those of them that the file has
-length-held : (ed : Edition) (e : Entry) → length (take (heldWords ed) (entryWords e)) ≡ heldWords ed
+length-held : (ed : Edition) (e : Entry) → length (take (fileWords ed) (entryWords e)) ≡ fileWords ed
 unfolding entryWords
 length-held First e = refl
 length-held Second e = refl
 
 words-held : (ed : Edition) (f : List ℕ) (k : ℕ) (e : Entry) → EditionFits ed e
-    → wordsFrom f k (heldWords ed) ≡ take (heldWords ed) (entryWords e) → entryWordsAt ed f k ≡ entryWords e
+    → wordsFrom f k (fileWords ed) ≡ take (fileWords ed) (entryWords e) → entryWordsAt ed f k ≡ entryWords e
 unfolding entryWords
 words-held First f k e z p = rw p (rw z)
 words-held Second f k e z p = p
@@ -151,12 +151,12 @@ entry-words-fit e h = rw (append-nil (entryWords e)) at (words-fit (e ∷ []) (h
 entry-there : (ed : Edition) (f : List ℕ) (k : ℕ) (e : Entry) (rest : List ℕ) → EntryFits e → EditionFits ed e
     → drop k f ≡ entryBytes ed e ++ rest → entryIn ed f k ≡ e
 entry-there ed f k e rest h z p =
-    let ws = take (heldWords ed) (entryWords e) in
+    let ws = take (fileWords ed) (entryWords e) in
     let whole : entryFrom (entryWords e) 0 ≡ e =
     ap (λ l. entryFrom l 0) (sym (append-nil (entryWords e))) ∙ read-entry e [] h in
     let bytes : entryBytes ed e ≡ bytesOf ws =
     ap (entryBytes ed) (sym whole) ∙ entry-bytes ed (entryWords e) (omega (arith, length-entry-words e)) in
-    let there = words-there f k ws rest (fit-take (heldWords ed) (entryWords e) (entry-words-fit e h)) (p ∙ ap (λ s. s ++ rest) bytes) in
+    let there = words-there f k ws rest (fit-take (fileWords ed) (entryWords e) (entry-words-fit e h)) (p ∙ ap (λ s. s ++ rest) bytes) in
     ap (λ l. entryFrom l 0) (words-held ed f k e z (rw (length-held ed e) at there)) ∙ whole
 
 pub entries-there : (ed : Edition) (f : List ℕ) (k : ℕ) (es : List Entry) (rest : List ℕ) → EntriesFit es → Each (EditionFits ed) es

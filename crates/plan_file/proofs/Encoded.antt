@@ -13,7 +13,7 @@ use Rattle.plan_file.specs.declared.Edition.the-variants.{First, Second}
 use Rattle.plan_file.specs.Plan.{entryCount}
 use Rattle.plan_file.specs.Encoding.{openingBytes, rowLength, headerLength, entryLength, headerBytes, rowBytes, entryBytes, bodiesStart, contentsBytes, bodiesBytes, encoding}
 use Rattle.byte_words.specs.Bytes.{low, Bytes, wordAt, wordsFrom, bytesOf}
-use Rattle.plan_file.specs.Decoding.{editionOf, nodeCount, rowAt, offsetAt, rowsFrom, rowsIn, entryIn, entriesAt, planIn}
+use Rattle.plan_file.specs.Decoding.{editionOf, nodeCount, rowAt, offsetAt, rowsFrom, rowsIn, entryIn, entriesAt, planIn, fileWords}
 use Rattle.plan_file.specs.Check.{contentsCheck, fileCheck}
 use Rattle.plan_file.proofs.Tests.{Opens, Counted}
 use Rattle.plan_file.proofs.Words.{row-bytes, entry-bytes}
@@ -97,10 +97,10 @@ module _ (f : List ℕ) (b : Bytes f) where
 
   entry-part : (ed : Edition) (k : ℕ) → k + entryLength ed ≤ length f → entryBytes ed (entryIn ed f k) ≡ part f k (entryLength ed)
   entry-part First k h =
-      let l = length-words f k 5 in
-      entry-bytes First (wordsFrom f k 5 ++ (0 ∷ [])) (omega (arith, l, length-append (wordsFrom f k 5) (0 ∷ [])))
-      ∙ ap bytesOf (take-at (wordsFrom f k 5) (0 ∷ []) 5 l)
-      ∙ words-part k 5 h
+      let l = length-words f k (fileWords First) in
+      entry-bytes First (wordsFrom f k (fileWords First) ++ (0 ∷ [])) (omega (arith, l, length-append (wordsFrom f k (fileWords First)) (0 ∷ [])))
+      ∙ ap bytesOf (take-at (wordsFrom f k (fileWords First)) (0 ∷ []) (fileWords First) l)
+      ∙ words-part k (fileWords First) h
   entry-part Second k h =
       let l = length-words f k entrySize in
       entry-bytes Second (wordsFrom f k entrySize) (omega (arith, l))

@@ -30,17 +30,17 @@ unfolding entryCount
 count-snoc [] r = omega arith
 count-snoc (q ∷ rs) r = omega (arith, count-snoc rs r)
 
--- an entry has at most 24 bytes
-pub entry-short : (ed : Edition) (n : ℕ) → n * entryLength ed ≤ n * 24
+-- an entry is longest in the second edition
+pub entry-short : (ed : Edition) (n : ℕ) → n * entryLength ed ≤ n * entryLength Second
 entry-short First n = omega arith
 entry-short Second n = omega arith
 
--- and at least 20
-pub entry-long : (ed : Edition) (n : ℕ) → n * 20 ≤ n * entryLength ed
+-- and shortest in the first
+pub entry-long : (ed : Edition) (n : ℕ) → n * entryLength First ≤ n * entryLength ed
 entry-long First n = omega arith
 entry-long Second n = omega arith
 
-pub size-short : (ed : Edition) (size : ℕ) → size ≡ entryLength ed → (n : ℕ) → n * size ≤ n * 24
+pub size-short : (ed : Edition) (size : ℕ) → size ≡ entryLength ed → (n : ℕ) → n * size ≤ n * entryLength Second
 size-short ed size e n = rw e (entry-short ed n)
 
 pub length-entry : (ed : Edition) (e : Entry) → length (entryBytes ed e) ≡ entryLength ed

@@ -11,6 +11,7 @@ use Rattle.node_words.specs.Words.{entrySize}
 use Rattle.refusals.specs.Refusals.{at, accepted, refused, mustHold}
 use Rattle.refusals.proofs.Outcomes.{both-accepted, then-accepted, mustHold-accepts, mustHold-refuses}
 use Rattle.node_words.proofs.Entries.{length-entries}
+use Rattle.plan_file.specs.declared.Edition.the-variants.{Second}
 use Rattle.plan_file.specs.declared.Edition.{Edition}
 use Rattle.plan_file.specs.declared.Row.{Row}
 use Rattle.plan_file.specs.Plan.{mostNodes, Plan, entryCount, planOf}
@@ -18,7 +19,7 @@ use Rattle.plan_file.specs.Check.{rowTest, rowsCheck, contentsCheck, lay
 use Rattle.plan_file.specs.Encoding.{entryLength, bodiesStart}
 use Rattle.plan_file.specs.Decoding.{rowsFrom}
 use Rattle.plan_file.specs.Find.{rowIn, nodeOfRow}
-use Rattle.plan_file.specs.Limits.{PlanHolds, EditionFits, EditionHolds}
+use Rattle.plan_file.specs.Limits.{PlanHolds, EditionFits, EditionHolds, longest}
 use Rattle.plan_file.proofs.Tests.{RowHolds, row-true}
 use Rattle.plan_file.proofs.WriterChecks.{writer-holds, writer-nodes, count-true, written-accepted, written-fits}
 use Rattle.plan_file.proofs.Finding.{rows-each, not-below}
@@ -122,7 +123,7 @@ words-plan ed rs ws a =
     rw (length-entries ws 0 (length ws / entrySize), n) a
 
 -- accepted rows end too early for a file that is longer than any plan's
-pub long-layout : (ed : Edition) (f : List ℕ) → 49416 < length f → (n : ℕ) → n ≤ mostNodes
+pub long-layout : (ed : Edition) (f : List ℕ) → longest Second < length f → (n : ℕ) → n ≤ mostNodes
     → contentsCheck (entryLength ed) f 0 0 (bodiesStart n) (rowsFrom f 0 n) ≡ accepted
     → layoutCheck (entryLength ed) f 0 0 (bodiesStart n) (rowsFrom f 0 n) ≡ refused (at 6 0 0)
 unfolding layoutCheck

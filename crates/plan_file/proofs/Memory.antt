@@ -18,7 +18,7 @@ use Rattle.byte_words.proofs.Buffers.{over-start, stored, over-next}
 use Rattle.byte_words.proofs.Runs.{run-split}
 use Rattle.plan_file.specs.declared.Edition.{Edition}
 use Rattle.plan_file.specs.declared.Edition.the-variants.{First, Second}
-use Rattle.plan_file.specs.Decoding.{editionOf, nodeCount, rowAt, offsetAt, entryWordsAt, entryIn, entriesAt}
+use Rattle.plan_file.specs.Decoding.{editionOf, nodeCount, rowAt, offsetAt, entryWordsAt, entryIn, entriesAt, fileWords}
 use Rattle.plan_file.specs.Encoding.{entryLength}
 use Rattle.plan_file.specs.Check.{fileCheck}
 use Rattle.plan_file.specs.Limits.{EditionFits}
@@ -45,7 +45,7 @@ fit-zero (suc i) = omega arith
 
 -- the words of an entry that lies in a file of bytes have 32 bits
 words-fit : (ed : Edition) (f : List ℕ) → Bytes f → (k : ℕ) → WordsFit (entryWordsAt ed f k)
-words-fit First f b k = fit-append (wordsFrom f k 5) (0 ∷ []) (words-below f b k 5) fit-zero
+words-fit First f b k = fit-append (wordsFrom f k (fileWords First)) (0 ∷ []) (words-below f b k (fileWords First)) fit-zero
 words-fit Second f b k = words-below f b k entrySize
 
 -- so the fields of such entries have their widths

@@ -27,7 +27,7 @@ use Rattle.byte_words.specs.Bytes.{Bytes, wordAt}
 use Rattle.plan_file.specs.Decoding.{editionOf, nodeCount, rowAt, offsetAt, rowsIn, entryIn, entriesIn, planIn}
 use Rattle.plan_file.specs.Check.{countTest, rowTest, rowsCheck, contentsCheck, nodesBy, headerCheck, fileCheck, writtenCheck, writerCheck, planCheck, wordsCheck}
 use Rattle.plan_file.specs.Find.{rowIn, nodeOfRow, rowOfNumber, findCheck, nodeFound}
-use Rattle.plan_file.specs.Limits.{PlanHolds, EditionFits, EditionHolds, IsPlanFile, IsPlanInMemory}
+use Rattle.plan_file.specs.Limits.{PlanHolds, EditionFits, EditionHolds, IsPlanFile, IsPlanInMemory, longest}
 use Rattle.plan_file.proofs.Words.{words-first, words-second}
 use Rattle.plan_file.proofs.Bodies.{Each, each-part}
 use Rattle.plan_file.proofs.Contents.{length-rows, length-entries-at}
@@ -132,9 +132,9 @@ module _ (row position : ℕ) (e : Entry) where
         ⊎-elim
         (λ a. first-jitter row position e a (h .2))
         (λ q.
-        let late : JitterHolds e → ⊥ =
+        let broken : JitterHolds e → ⊥ =
         λ j. not-both (entry-accepted row position e .1 (record { kind = h .0; times = h .1; jitter = j })) (q .1) in
-        first-refuses row position e _ (entry-jitter row position e .1 (h .0, h .1, late)))
+        first-refuses row position e _ (entry-jitter row position e .1 (h .0, h .1, broken)))
         (either (entryCheck row position e)),
   )
 
@@ -279,15 +279,11 @@ finds-none f a number = (
       (true-or-false (ltb (rowOfNumber number (rowsIn f)) (length (rowsIn f)))),
 )
 
--- An accepted file has at least 16 bytes, and up to 41,224 in the first edition, 49,416 in the second.
-abbrev pub longest : Edition → ℕ
-longest First = 41224
-longest Second = 49416
-
 within : (ed : Edition) (n m : ℕ) → n ≤ mostNodes → m ≤ n * mostEntries → bodiesStart n + m * entryLength ed ≤ longest ed
 within First n m h l = omega arith
 within Second n m h l = omega arith
 
+-- An accepted file has at least 16 bytes, and up to 41,224 in the first edition, 49,416 in the second.
 pub file-sizes : (f : List ℕ) → fileCheck f ≡ accepted → (16 ≤ length f) × (length f ≤ longest (editionOf f))
 file-sizes f a =
     let h = file-holds f a in
@@ -298,16 +294,16 @@ file-sizes f a =
     )
 
 -- So none has more than 49,416.
-longest-most : (ed : Edition) → longest ed ≤ 49416
+longest-most : (ed : Edition) → longest ed ≤ longest Second
 longest-most First = omega arith
 longest-most Second = omega arith
 
-pub file-most : (f : List ℕ) → fileCheck f ≡ accepted → length f ≤ 49416
+pub file-most : (f : List ℕ) → fileCheck f ≡ accepted → length f ≤ longest Second
 file-most f a = omega (arith, file-sizes f a .1, longest-most (editionOf f))
 
 -- A file of more than 49,416 bytes, and so one of more than 65,536, whose header and contents pass, is refused as 6: no
 -- plan has so many entries.
-pub long-file : (f : List ℕ) → 49416 < length f → headerCheck f ≡ accepted
+pub long-file : (f : List ℕ) → longest Second < length f → headerCheck f ≡ accepted
     → contentsCheck (entryLength (editionOf f)) f 0 0 (bodiesStart (nodeCount f)) (rowsIn f) ≡ accepted
     → fileCheck f ≡ refused (at 6 0 0)
 long-file f l h a =

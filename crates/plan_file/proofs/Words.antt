@@ -15,7 +15,7 @@ use Rattle.plan_file.specs.Encoding.{entryLength, rowBytes, fieldBytes, 
 use Rattle.byte_words.specs.Bytes.{Bytes, low, wordAt, wordsFrom, bytesOf}
 use Rattle.byte_words.proofs.Words.{head-bytes, words-run, length-words, bytes-append}
 use Rattle.byte_words.proofs.Runs.{run-split}
-use Rattle.plan_file.specs.Decoding.{entryWordsAt, entriesAt}
+use Rattle.plan_file.specs.Decoding.{entryWordsAt, entriesAt, fileWords}
 
 pub row-bytes : (offset w : ℕ) → rowBytes offset (rowOf w) ≡ low 4 w ++ low 4 offset
 unfolding rowBytes rowOf
@@ -26,14 +26,9 @@ pub row-word : (w : ℕ) → w < 4294967296 → rowWord (rowOf w) ≡ w
 unfolding rowWord rowOf
 row-word w h = omega arith
 
--- how many words of an entry a file has
-abbrev pub heldWords : Edition → ℕ
-heldWords First = 5
-heldWords Second = entrySize
-
 -- the bytes of an entry are those of the words that the edition holds
 pub entry-bytes : (ed : Edition) (ws : List ℕ) → entrySize ≤ length ws
-    → entryBytes ed (entryFrom ws 0) ≡ bytesOf (take (heldWords ed) ws)
+    → entryBytes ed (entryFrom ws 0) ≡ bytesOf (take (fileWords ed) ws)
 unfolding entryBytes fieldBytes entryFrom bytesOf
 entry-bytes ed [] l = absurd (omega arith)
 entry-bytes ed (a ∷ []) l = absurd (omega arith)
@@ -81,7 +76,7 @@ module _ (f : List ℕ) (b : Bytes f) (k : ℕ) where
       → e .period ≡ wordAt f (k + 8)
       → e .deadline ≡ wordAt f (k + 12)
       → e .blocking ≡ wordAt f (k + 16)
-      → e ≡ entryFrom (wordsFrom f k 5 ++ (e .jitter ∷ [])) 0
+      → e ≡ entryFrom (wordsFrom f k (fileWords First) ++ (e .jitter ∷ [])) 0
   unfolding entryFrom wordsFrom
   byte-entry e n kind calls c t d b =
       let e8 : k + 4 + 4 ≡ k + 8 = omega arith in
@@ -111,7 +106,7 @@ words-second f k =
     rw (e8, e12, e16, e20)
 
 -- five words and J
-pub words-jitter : (f : List ℕ) (k : ℕ) → wordsFrom f k 5 ++ (wordAt f (k + 20) ∷ []) ≡ entryWordsAt Second f k
+pub words-jitter : (f : List ℕ) (k : ℕ) → wordsFrom f k (fileWords First) ++ (wordAt f (k + 20) ∷ []) ≡ entryWordsAt Second f k
 unfolding wordsFrom
 words-jitter f k = let e : k + 4 + 4 + 4 + 4 + 4 ≡ k + 20 = omega arith in rw e
 

@@ -12,8 +12,10 @@ use Rattle.node_words.specs.Words.{entrySize, entryOf, entriesOf}
 use Rattle.node_words.proofs.Words.{entry-drop}
 use Rattle.node_words.proofs.Entries.{length-entries}
 use Rattle.plan_file.specs.declared.Edition.{Edition}
+use Rattle.plan_file.specs.declared.Edition.the-variants.{First}
 use Rattle.plan_file.specs.Plan.{rowOf, planOf}
 use Rattle.plan_file.specs.Encoding.{headerLength, entryLength, headerBytes, entryBytes, bodiesStart, contentsBytes, bodiesBytes, encoding}
+use Rattle.plan_file.specs.Decoding.{fileWords}
 use Rattle.plan_file.specs.Check.{wordsCheck}
 use Rattle.byte_words.specs.Buffers.{over}
 use Rattle.plan_file.specs.Answers.{writeAnswer}
@@ -21,19 +23,19 @@ use Rattle.refusals.specs.Answers.{gives, refuses}
 use Rattle.byte_words.proofs.Buffers.{over-next}
 use Rattle.byte_words.specs.Bytes.{bytesOf}
 use Rattle.byte_words.proofs.Runs.{run-split}
-use Rattle.plan_file.proofs.Words.{heldWords, entry-bytes}
+use Rattle.plan_file.proofs.Words.{entry-bytes}
 use Rattle.plan_file.proofs.Contents.{words-entries-run}
 use Rattle.plan_file.proofs.Encoding.{bodies-append, length-bodies, length-header, length-contents, length-encoding}
 
 module _ (ed : Edition) (ws : List ℕ) (i : ℕ) (h : i * entrySize + entrySize ≤ length ws) where
   -- entries as bytes, and one more
-  bodies-more : bodiesBytes ed (entriesOf ws i) ++ bytesOf (take (heldWords ed) (drop (i * entrySize) ws))
+  bodies-more : bodiesBytes ed (entriesOf ws i) ++ bytesOf (take (fileWords ed) (drop (i * entrySize) ws))
       ≡ bodiesBytes ed (entriesOf ws (i + 1))
   unfolding bodiesBytes
   bodies-more =
       let run = words-entries-run ws in
       let z : 0 + i * 1 ≡ i = omega arith in
-      let one : entryBytes ed (entryOf ws (0 + i * 1)) ≡ bytesOf (take (heldWords ed) (drop (i * entrySize) ws)) =
+      let one : entryBytes ed (entryOf ws (0 + i * 1)) ≡ bytesOf (take (fileWords ed) (drop (i * entrySize) ws)) =
       rw z
       (ap (entryBytes ed) (entry-drop ws (i * entrySize))
       ∙ entry-bytes ed (drop (i * entrySize) ws) (omega (arith, length-drop (i * entrySize) ws))) in
@@ -43,7 +45,7 @@ module _ (ed : Edition) (ws : List ℕ) (i : ℕ) (h : i * entrySize + entrySize
 
   -- one more is stored
   pub entry-put : (d w : List ℕ) (k : ℕ) → w ≡ over d k (bodiesBytes ed (entriesOf ws i)) → k ≤ length d
-      → over w (k + i * entryLength ed) (bytesOf (take (heldWords ed) (drop (i * entrySize) ws)))
+      → over w (k + i * entryLength ed) (bytesOf (take (fileWords ed) (drop (i * entrySize) ws)))
       ≡ over d k (bodiesBytes ed (entriesOf ws (i + 1)))
   entry-put d w k e l =
       rw e
@@ -52,8 +54,8 @@ module _ (ed : Edition) (ws : List ℕ) (i : ℕ) (h : i * entrySize + entrySize
       ∙ ap (over d k) bodies-more)
 
 -- the words of an entry that the first edition has
-pub first-words : (ws : List ℕ) (k : ℕ) → k + 5 ≤ length ws
-    → getD ws k 0 ∷ getD ws (k + 1) 0 ∷ getD ws (k + 2) 0 ∷ getD ws (k + 3) 0 ∷ getD ws (k + 4) 0 ∷ [] ≡ take 5 (drop k ws)
+pub first-words : (ws : List ℕ) (k : ℕ) → k + fileWords First ≤ length ws
+    → getD ws k 0 ∷ getD ws (k + 1) 0 ∷ getD ws (k + 2) 0 ∷ getD ws (k + 3) 0 ∷ getD ws (k + 4) 0 ∷ [] ≡ take (fileWords First) (drop k ws)
 first-words ws k h =
     let e1 : k + 1 ≡ suc k = omega arith in
     let e2 : k + 2 ≡ suc (suc k) = omega arith in

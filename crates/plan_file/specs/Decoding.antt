@@ -51,11 +51,15 @@ rowsFrom f i (suc n) = rowAt f i ∷ rowsFrom f (suc i) n
 abbrev pub rowsIn : List ℕ → List Row
 rowsIn f = rowsFrom f 0 (nodeCount f)
 
--- The words in memory of the entry from byte `k` on. In the first edition a file has the first five of them, and J is 0; in
--- the second it has all six.
+-- How many of an entry's words a file has: all but J in the first edition, all in the second.
+abbrev pub fileWords : Edition → ℕ
+fileWords First = 5
+fileWords Second = entrySize
+
+-- The words in memory of the entry from byte `k` on: those of the file, and in the first edition 0 for J.
 abbrev pub entryWordsAt : Edition → List ℕ → ℕ → List ℕ
-entryWordsAt First f k = wordsFrom f k 5 ++ (0 ∷ [])
-entryWordsAt Second f k = wordsFrom f k entrySize
+entryWordsAt First f k = wordsFrom f k (fileWords First) ++ (0 ∷ [])
+entryWordsAt Second f k = wordsFrom f k (fileWords Second)
 
 -- The entry from byte `k` on. (The theorem `entry-fields` gives each field by its bytes.)
 abbrev pub entryIn : Edition → List ℕ → ℕ → Entry

@@ -10,7 +10,7 @@ use Rattle.task_model.specs.declared.Entry.{Entry}
 use Rattle.task_model.specs.WithoutJitter.{punctualCheck}
 use Rattle.plan_file.specs.declared.Edition.the-variants.{First}
 use Rattle.plan_file.specs.Plan.{Plan, entryCount}
-use Rattle.plan_file.specs.Encoding.{bodiesStart}
+use Rattle.plan_file.specs.Encoding.{entryLength, bodiesStart}
 use Rattle.plan_file.specs.Decoding.{openingTest, nodeCount, rowsIn, entriesAt}
 use Rattle.node_words.specs.Words.{entrySize}
 use Rattle.plan_file.specs.declared.Row.{Row}
@@ -28,7 +28,7 @@ firstEditionPlan f =
 unfoldable pub firstEditionCheck : List ℕ → Outcome
 firstEditionCheck f =
     headerBy (openingTest First f) f
-    andThen layoutCheck 20 f 0 0 (bodiesStart (nodeCount f)) (rowsIn f)
+    andThen layoutCheck (entryLength First) f 0 0 (bodiesStart (nodeCount f)) (rowsIn f)
     andThen nodesBy punctualCheck 0 (rowsIn f) (firstEditionPlan f .entries)
 
 -- The writer, of rows, and of entries given in `words` words: the node count (3), 4 row by row, as many entries as the rows

@@ -1,15 +1,15 @@
 -- The limits of a plan, stated without the checks.
-use Prim.Native.Nat.{ℕ, suc, _%_, _≤_, _<_}
+use Prim.Native.Nat.{ℕ, suc, _+_, _*_, _%_, _≤_, _<_}
 use mathlib.Core.Path.{_≡_}
 use mathlib.Core.List.{List}
 use lib.ListN.{length}
 use Rattle.task_model.specs.declared.Entry.{Entry}
-use Rattle.task_model.specs.Limits.{entryAt, NodeHolds}
+use Rattle.task_model.specs.Limits.{mostEntries, entryAt, NodeHolds}
 use Rattle.node_words.specs.Words.{entrySize}
 use Rattle.plan_file.specs.declared.Edition.{Edition}
 use Rattle.plan_file.specs.declared.Edition.the-variants.{First, Second}
 use Rattle.plan_file.specs.Plan.{mostNodes, Plan, PlanFits, entryCount, planOf}
-use Rattle.plan_file.specs.Encoding.{encoding}
+use Rattle.plan_file.specs.Encoding.{entryLength, bodiesStart, encoding}
 use Rattle.plan_file.specs.Find.{rowIn, nodeOfRow}
 
 -- A plan within the limits: 1 to 32 rows, node numbers that rise from row to row, each node within its limits, and rows
@@ -39,3 +39,7 @@ IsPlanFile f = (ed : Edition) × (p : Plan) × PlanFits p × PlanHolds p × Edit
 -- left over.
 abbrev pub IsPlanInMemory : Edition → List ℕ → List ℕ → Type 0
 IsPlanInMemory ed rs ws = PlanHolds (planOf rs ws) × EditionHolds ed (planOf rs ws) × (length ws % entrySize ≡ 0)
+
+-- The most bytes of a file, with 32 nodes of 64 entries: 41,224 in the first edition, 49,416 in the second.
+abbrev pub longest : Edition → ℕ
+longest ed = bodiesStart mostNodes + mostNodes * mostEntries * entryLength ed

@@ -63,6 +63,9 @@ const FIRST_ENTRY_BYTES: usize = 20;
 
 const SECOND_ENTRY_BYTES: usize = 24;
 
+// How many of an entry's words a file of the first edition has: all but J.
+const FIRST_ENTRY_WORDS: usize = 5;
+
 // The most nodes of a plan.
 const MOST_NODES: u8 = 32;
 

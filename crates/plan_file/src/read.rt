@@ -16,7 +16,7 @@ ghost use lib.ListN.{length};
 ghost use Prim.Native.Nat.{_+_, _*_, _≤_, _<_};
 ghost use Rattle.plan_file.specs.Plan.{rowWord, rowOf};
 ghost use Rattle.plan_file.specs.Encoding.{entryLength, bodiesStart};
-ghost use Rattle.plan_file.specs.Decoding.{rowsFrom, entryIn, entriesAt};
+ghost use Rattle.plan_file.specs.Decoding.{rowsFrom, fileWords, entryIn, entriesAt};
 ghost use Rattle.node_words.specs.Words.{entrySize, entryFrom, wordsOf};
 ghost use Rattle.byte_words.specs.Bytes.{wordsFrom};
 ghost use Rattle.byte_words.specs.Buffers.{over};
@@ -36,7 +36,7 @@ pub(crate) fn row_of(word: u32) -> Row
 // that checking an entry takes no word apart.
 fn entry_at(file: &[u8], k: usize, jitter: u32) -> Entry
     requires { ⌜ k + entryLength Edition.First ≤ length (now file) ⌝ }
-    ensures { λ e. ⌜ e ≡ entryFrom (wordsFrom (now (file .entry)) k 5 ++ (jitter ∷ [])) 0 ⌝ }
+    ensures { λ e. ⌜ e ≡ entryFrom (wordsFrom (now (file .entry)) k (fileWords Edition.First) ++ (jitter ∷ [])) 0 ⌝ }
 {
     Entry {
         number: (wide(file[k]) + wide(file[k + 1]) * 256) as u16,
@@ -58,12 +58,12 @@ pub(crate) fn first_entry(file: &[u8], k: usize) -> Entry
     entry_at(file, k, 0)
 }
 
-// The entry in a file of the second edition from byte `k` on.
+// The entry in a file of the second edition from byte `k` on. J lies behind the bytes that both editions have.
 pub(crate) fn second_entry(file: &[u8], k: usize) -> Entry
     requires { ⌜ k + entryLength Edition.Second ≤ length (now file) ⌝ }
     ensures { λ e. ⌜ e ≡ entryIn Edition.Second (now (file .entry)) k ⌝ }
 {
-    entry_at(file, k, word_at(file, k + 20))
+    entry_at(file, k, word_at(file, k + FIRST_ENTRY_BYTES))
 }
 
 // The entry in a file of an edition from byte `k` on.

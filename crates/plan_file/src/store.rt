@@ -1,6 +1,7 @@
 // Stores the parts of a plan file into a buffer.
 use super::Edition;
 use super::FIRST_ENTRY_BYTES;
+use super::FIRST_ENTRY_WORDS;
 use super::HEADER_BYTES;
 use super::ROW_BYTES;
 use super::editions::entry_bytes;
@@ -80,7 +81,7 @@ fn put_first(file: &mut [u8], k: usize, words: &[u32], count: usize)
             words[from + 3],
             words[from + 4],
         ];
-        put_words(file, k + i * FIRST_ENTRY_BYTES, &fields, 5);
+        put_words(file, k + i * FIRST_ENTRY_BYTES, &fields, FIRST_ENTRY_WORDS);
         i += 1;
     }
 }

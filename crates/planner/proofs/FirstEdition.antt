@@ -1,4 +1,5 @@
--- A file that does not open as the second edition is mapped as it was before there was one.
+-- A file that does not open as the second edition is mapped as it was before there was one, and a node of either edition
+-- without jitter as it was before entries had a J.
 use Prim.Native.Nat.{ℕ}
 use mathlib.Core.Path.{_≡_, _∙_, ap}
 use mathlib.Core.Bool.{false}
@@ -16,7 +17,7 @@ use Rattle.plan_file.proofs.Theorems.{first-nodes-punctual}
 use Rattle.level_map.specs.Answer.{mapOf, levelsUnder}
 use Rattle.level_map.proofs.WithoutJitter.{levels-punctual, held-check-punctual}
 use Rattle.planner.specs.Mapping.{fileAnswer}
-use Rattle.planner.specs.FirstEdition.{firstEditionNode, firstEditionAnswer}
+use Rattle.planner.specs.FirstEdition.{firstEditionNode, firstEditionAnswer, punctualAnswer}
 
 module _ (f : List ℕ) (number : ℕ) (first : openingTest Second f ≡ false) where
   node-first : nodeFound f number ≡ firstEditionNode f number
@@ -40,3 +41,9 @@ module _ (f : List ℕ) (number : ℕ) (first : openingTest Second f ≡ false) 
         first-edition f first,
         then-assoc,
       )
+
+-- A node of either edition whose every J is 0 has the answer without J.
+pub answer-punctual : (f : List ℕ) (number : ℕ) → Punctual (nodeFound f number .entries) → (room : ℕ)
+    → fileAnswer f number room ≡ punctualAnswer f number room
+unfolding fileAnswer punctualAnswer
+answer-punctual f number h room = rw (levels-punctual (nodeFound f number) h, held-check-punctual (nodeFound f number) h room)

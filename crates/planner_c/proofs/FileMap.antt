@@ -160,9 +160,46 @@ module _ (ed : Edition) (s : Session) (h : Sound s) (number : ℕ) (short : numb
     one-node ed (nodeIn s) kept number short placed,
   )
 
+  -- Mapping that file answers as mapping the session does.
+  pub one-row-answers : (room : ℕ) → fileAnswer (encoding ed (oneRow number (nodeIn s))) number room ≡ mapAnswer (nodeIn s) room
+  one-row-answers =
+      let r = one-row-read in file-answers s (encoding ed (oneRow number (nodeIn s))) (r .0) 0 number (r .1) (r .2) (r .3)
+
+  -- And it leaves any buffer as mapping the session does.
+  pub one-row-writes : (buffer : List ℕ)
+      → left (fileAnswer (encoding ed (oneRow number (nodeIn s))) number (length buffer))
+      (mapOf (nodeFound (encoding ed (oneRow number (nodeIn s))) number)) buffer
+      ≡ left (mapAnswer (nodeIn s) (length buffer)) (mapOf (nodeIn s)) buffer
+  one-row-writes =
+      let r = one-row-read in file-writes s (encoding ed (oneRow number (nodeIn s))) (r .0) 0 number (r .1) (r .2) (r .3)
+
 -- The second edition has a place for every node, and the first for a node without jitter.
 pub second-placed : (number : ℕ) (n : Node) → EditionHolds Second (oneRow number n)
 second-placed number n j l = tt
 
 pub first-placed : (number : ℕ) (n : Node) → Punctual (n .entries) → EditionHolds First (oneRow number n)
 first-placed number n h = h
+
+-- So the map of a session, in any buffer, is that of the same node in a file of the second edition,
+pub second-maps : (s : Session) → Sound s → (number : ℕ) → number < 65536 → (buffer : List ℕ)
+    → (fileAnswer (encoding Second (oneRow number (nodeIn s))) number (length buffer) ≡ mapAnswer (nodeIn s) (length buffer))
+    × (left (fileAnswer (encoding Second (oneRow number (nodeIn s))) number (length buffer))
+    (mapOf (nodeFound (encoding Second (oneRow number (nodeIn s))) number)) buffer
+    ≡ left (mapAnswer (nodeIn s) (length buffer)) (mapOf (nodeIn s)) buffer)
+second-maps s h number short buffer =
+    let placed = second-placed number (nodeIn s) in (
+      one-row-answers Second s h number short placed (length buffer),
+      one-row-writes Second s h number short placed buffer,
+    )
+
+-- and that in a file of the first edition if every J is 0.
+pub first-maps : (s : Session) → Sound s → (number : ℕ) → number < 65536 → Punctual (nodeIn s .entries) → (buffer : List ℕ)
+    → (fileAnswer (encoding First (oneRow number (nodeIn s))) number (length buffer) ≡ mapAnswer (nodeIn s) (length buffer))
+    × (left (fileAnswer (encoding First (oneRow number (nodeIn s))) number (length buffer))
+    (mapOf (nodeFound (encoding First (oneRow number (nodeIn s))) number)) buffer
+    ≡ left (mapAnswer (nodeIn s) (length buffer)) (mapOf (nodeIn s)) buffer)
+first-maps s h number short punctual buffer =
+    let placed = first-placed number (nodeIn s) punctual in (
+      one-row-answers First s h number short placed (length buffer),
+      one-row-writes First s h number short placed buffer,
+    )

@@ -45,7 +45,7 @@ use Rattle.session.specs.Operations.{
 }
 use Rattle.refusals.specs.Answers.{gives, refuses}
 use Rattle.session.specs.Timing.{timeAnswer, timeAnswerBy}
-use Rattle.session.specs.Steps.{sessionMade, sessionAfter}
+use Rattle.session.specs.Steps.{sessionMade, sessionAfter, sessionAfterBy}
 
 -- 1 to 64 levels
 pub levels-low : (levels : ℕ) → levels < 1 → levelsCheck levels ≡ refused (at 4 0 0)
@@ -158,12 +158,12 @@ module _ (n : Node) (first last i : ℕ) where
 -- what a call leaves
 module _ (o : Operation) (s : Session) where
   pub after-refused : (r : Numbered) → stepCheck o (nodeIn s) ≡ refused r → sessionAfter o s ≡ s
-  unfolding sessionAfter
-  after-refused r p = rw (p, sessionAfter)
+  unfolding sessionAfterBy
+  after-refused r p = rw (p, sessionAfterBy)
 
   pub after-accepted : stepCheck o (nodeIn s) ≡ accepted → sessionAfter o s ≡ sessionMade o s
-  unfolding sessionAfter
-  after-accepted p = rw (p, sessionAfter)
+  unfolding sessionAfterBy
+  after-accepted p = rw (p, sessionAfterBy)
 
 -- timing
 module _ (n : Node) (first last i : ℕ) where

@@ -19,7 +19,7 @@ use Rattle.session.specs.State.{nodeIn, sessionOf}
 use Rattle.node_words.specs.Lists.{zeros, zeroPadded}
 use Rattle.session.specs.Operations.{Change, Operation, inserting, removing, replacing, settingLevels, changing, emptyNode, changed, stepCheck}
 use Rattle.session.specs.Steps.{sessionMade, sessionAfter, sessionAfterAll, Follows}
-use Rattle.session.specs.InWords.{sessionSize, sessionIn, wordsIn, wordsLeft, wordsAfter, wordsAfterAll, FollowsIn}
+use Rattle.session.specs.InWords.{sessionSize, sessionIn, wordsIn, wordsLeft, wordsAfter, wordsAfterBy, wordsAfterAll, FollowsIn}
 use Rattle.session.proofs.Checking.{Ready, change-ready, after-refused, after-accepted}
 use Rattle.session.proofs.Changing.{counted, session-made}
 
@@ -30,11 +30,11 @@ words-back (levels ∷ count ∷ words) h = refl
 
 module _ (o : Operation) (w : List ℕ) where
   pub words-refused : (r : Numbered) → stepCheck o (nodeIn (sessionIn w)) ≡ refused r → wordsAfter o w ≡ w
-  unfolding wordsAfter
+  unfolding wordsAfterBy
   words-refused r p = ap (λ a. wordsLeft a (sessionAfter o (sessionIn w)) w) p
 
   pub words-accepted : stepCheck o (nodeIn (sessionIn w)) ≡ accepted → wordsAfter o w ≡ wordsIn (sessionAfter o (sessionIn w))
-  unfolding wordsAfter
+  unfolding wordsAfterBy
   words-accepted p = ap (λ a. wordsLeft a (sessionAfter o (sessionIn w)) w) p
 
   pub words-session : sessionIn (wordsAfter o w) ≡ sessionAfter o (sessionIn w)

@@ -52,10 +52,14 @@ use Rattle.session.specs.Operations.{
 use Rattle.session.proofs.Sequences.{node-changed, node-kept}
 use Rattle.session.specs.Mapping.{mapAnswer, mapAnswerBy}
 use Rattle.session.specs.Timing.{timeAnswer, timeAnswerBy}
+use Rattle.session.specs.declared.Session.{Session}
+use Rattle.session.specs.State.{nodeIn}
+use Rattle.session.specs.Steps.{sessionMade, sessionAfter, sessionAfterBy}
+use Rattle.session.specs.InWords.{sessionIn, wordsLeft, wordsAfter, wordsAfterBy}
 use Rattle.session.specs.WithoutJitter.{punctualRules, PunctualChange, PunctualOperation, AllPunctual}
 
-abbrev OnTime : Entry → Type 0
-OnTime e = e .jitter ≡ 0
+abbrev NoJitter : Entry → Type 0
+NoJitter e = e .jitter ≡ 0
 
 module _ (n : Node) where
   change-punctual : (c : Change) → PunctualChange c → changeCheckBy rules c n ≡ changeCheckBy punctualRules c n
@@ -111,11 +115,11 @@ module _ (n : Node) where
     changed-punctual : (c : Change) → PunctualChange c → Punctual (changed c n .entries)
     unfolding changed
     changed-punctual (inserting position e) z =
-        of-each OnTime (insertAt position e (n .entries)) (each-inserted OnTime position e (n .entries) z (each-of OnTime (n .entries) punctual))
+        of-each NoJitter (insertAt position e (n .entries)) (each-inserted NoJitter position e (n .entries) z (each-of NoJitter (n .entries) punctual))
     changed-punctual (removing position) z =
-        of-each OnTime (removeAt position (n .entries)) (each-removed OnTime position (n .entries) (each-of OnTime (n .entries) punctual))
+        of-each NoJitter (removeAt position (n .entries)) (each-removed NoJitter position (n .entries) (each-of NoJitter (n .entries) punctual))
     changed-punctual (replacing position e) z =
-        of-each OnTime (replaceAt position e (n .entries)) (each-replaced OnTime position e (n .entries) z (each-of OnTime (n .entries) punctual))
+        of-each NoJitter (replaceAt position e (n .entries)) (each-replaced NoJitter position e (n .entries) z (each-of NoJitter (n .entries) punctual))
     changed-punctual (settingLevels levels) z = punctual
 
     made-punctual : (o : Operation) → PunctualOperation o → Punctual (made o n .entries)
@@ -142,3 +146,16 @@ sequence-punctual (o ∷ os) z n h =
       later .0 ∙ ap (nodeAfterAllBy punctualRules os) same,
       ap₂ _∷_ (operation-punctual n h o (z .0)) (later .1 ∙ ap (answersAllBy punctualRules os) same),
     )
+
+-- An operation on a lent session, whatever made it, leaves the session that it left before entries had a jitter.
+pub session-punctual : (o : Operation) → PunctualOperation o → (s : Session) → Punctual (nodeIn s .entries)
+    → sessionAfter o s ≡ sessionAfterBy punctualRules o s
+unfolding sessionAfterBy
+session-punctual o z s h = ap (λ x. elim x [ accepted ↦ sessionMade o s | refused r ↦ s ]) (step-punctual (nodeIn s) h o z)
+
+-- And so do the words that hold one.
+pub words-punctual : (o : Operation) → PunctualOperation o → (w : List ℕ) → Punctual (nodeIn (sessionIn w) .entries)
+    → wordsAfter o w ≡ wordsAfterBy punctualRules o w
+unfolding wordsAfterBy
+words-punctual o z w h =
+    ap₂ (λ x made. wordsLeft x made w) (step-punctual (nodeIn (sessionIn w)) h o z) (session-punctual o z (sessionIn w) h)

@@ -8,8 +8,8 @@ use Rattle.refusals.specs.Refusals.{Outcome, accepted, refused, outcome}
 use Rattle.node_words.specs.Words.{nodeSize}
 use Rattle.session.specs.declared.Session.{Session}
 use Rattle.session.specs.State.{nodeIn}
-use Rattle.session.specs.Operations.{Operation, stepCheck}
-use Rattle.session.specs.Steps.{sessionAfter}
+use Rattle.session.specs.Operations.{Rules, rules, Operation, stepCheck, stepCheckBy}
+use Rattle.session.specs.Steps.{sessionAfterBy}
 
 -- How many words a session has.
 abbrev pub sessionSize : ℕ
@@ -29,8 +29,12 @@ wordsLeft accepted made w = wordsIn made
 wordsLeft (refused r) made w = w
 
 -- The words after an operation.
-unfoldable pub wordsAfter : Operation → List ℕ → List ℕ
-wordsAfter o w = wordsLeft (stepCheck o (nodeIn (sessionIn w))) (sessionAfter o (sessionIn w)) w
+unfoldable pub wordsAfterBy : Rules → Operation → List ℕ → List ℕ
+wordsAfterBy by o w = wordsLeft (stepCheckBy by o (nodeIn (sessionIn w))) (sessionAfterBy by o (sessionIn w)) w
+
+-- The same by the rules of a session.
+abbrev pub wordsAfter : Operation → List ℕ → List ℕ
+wordsAfter o w = wordsAfterBy rules o w
 
 -- The words after a sequence of operations.
 unfoldable pub wordsAfterAll : List Operation → List ℕ → List ℕ

@@ -16,6 +16,7 @@ use Rattle.session.specs.Operations.{Rules, rules, asking, mapping, step
 unfoldable pub mapAnswerBy : Rules → Node → ℕ → Answer ℕ
 mapAnswerBy by n room = giving (stepCheckBy by (asking (mapping room)) n) (levelsUsed (levelsUnder (by .test) n))
 
+-- The same by the rules of a session.
 abbrev pub mapAnswer : Node → ℕ → Answer ℕ
 mapAnswer n room = mapAnswerBy rules n room
 

@@ -11,7 +11,7 @@ use Rattle.task_model.specs.Limits.{mostLevels, mostEntries, Node}
 use Rattle.node_words.specs.Lists.{insertAt, removeAt, replaceAt}
 use Rattle.task_model.specs.Checks.{entryCheck, nodeCheckBy}
 use Rattle.completion.specs.Test.{completionTest}
-use Rattle.level_map.specs.Map.{EntryTest}
+use Rattle.level_map.specs.Assignments.{EntryTest}
 use Rattle.level_map.specs.Answer.{heldCheckUnder}
 
 -- The changes of an open session.
@@ -91,6 +91,7 @@ operationCheckBy by (opening levels) n = levelsCheck levels
 operationCheckBy by (changing c) n = changeCheckBy by c n
 operationCheckBy by (asking q) n = queryCheckBy by q n
 
+-- The same by the rules of a session.
 abbrev pub operationCheck : Operation → Node → Outcome
 operationCheck o n = operationCheckBy rules o n
 
@@ -119,6 +120,7 @@ nodeAfterBy by o n =
       | refused r ↦ n
     ]
 
+-- The same by the rules of a session.
 abbrev pub nodeAfter : Operation → Node → Node
 nodeAfter o n = nodeAfterBy rules o n
 
@@ -127,6 +129,7 @@ unfoldable pub nodeAfterAllBy : Rules → List Operation → Node → Node
 nodeAfterAllBy by [] n = n
 nodeAfterAllBy by (o ∷ os) n = nodeAfterAllBy by os (nodeAfterBy by o n)
 
+-- The same by the rules of a session.
 abbrev pub nodeAfterAll : List Operation → Node → Node
 nodeAfterAll os n = nodeAfterAllBy rules os n
 
@@ -135,6 +138,7 @@ unfoldable pub answersAllBy : Rules → List Operation → Node → List Outcome
 answersAllBy by [] n = []
 answersAllBy by (o ∷ os) n = operationCheckBy by o n ∷ answersAllBy by os (nodeAfterBy by o n)
 
+-- The same by the rules of a session.
 abbrev pub answersAll : List Operation → Node → List Outcome
 answersAll os n = answersAllBy rules os n
 
@@ -146,6 +150,7 @@ lentCheckBy by (opening levels) n = accepted
 lentCheckBy by (changing c) n = nodeCheckBy (by .check) 0 n
 lentCheckBy by (asking q) n = nodeCheckBy (by .check) 0 n
 
+-- The same by the rules of a session.
 abbrev pub lentCheck : Operation → Node → Outcome
 lentCheck o n = lentCheckBy rules o n
 
@@ -153,5 +158,6 @@ lentCheck o n = lentCheckBy rules o n
 unfoldable pub stepCheckBy : Rules → Operation → Node → Outcome
 stepCheckBy by o n = lentCheckBy by o n andThen operationCheckBy by o n
 
+-- The same by the rules of a session.
 abbrev pub stepCheck : Operation → Node → Outcome
 stepCheck o n = stepCheckBy rules o n

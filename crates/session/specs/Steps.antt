@@ -5,7 +5,7 @@ use Rattle.refusals.specs.declared.Checked.{Checked}
 use Rattle.refusals.specs.Refusals.{Outcome, accepted, refused, outcome}
 use Rattle.session.specs.declared.Session.{Session}
 use Rattle.session.specs.State.{nodeIn, sessionOf}
-use Rattle.session.specs.Operations.{Operation, opening, changing, asking, emptyNode, changed, stepCheck}
+use Rattle.session.specs.Operations.{Rules, rules, Operation, opening, changing, asking, emptyNode, changed, stepCheck, stepCheckBy}
 
 -- The session after an accepted operation: the session of an empty node, the session of the changed node, or, after a
 -- query, the same session.
@@ -15,12 +15,16 @@ sessionMade (changing c) s = sessionOf (changed c (nodeIn s))
 sessionMade (asking q) s = s
 
 -- The session after an operation. A refused operation leaves it as it was.
-unfoldable pub sessionAfter : Operation → Session → Session
-sessionAfter o s =
-    elim (stepCheck o (nodeIn s)) [
+unfoldable pub sessionAfterBy : Rules → Operation → Session → Session
+sessionAfterBy by o s =
+    elim (stepCheckBy by o (nodeIn s)) [
       | accepted ↦ sessionMade o s
       | refused r ↦ s
     ]
+
+-- The same by the rules of a session.
+abbrev pub sessionAfter : Operation → Session → Session
+sessionAfter o s = sessionAfterBy rules o s
 
 -- The session after a sequence of operations.
 unfoldable pub sessionAfterAll : List Operation → Session → Session

@@ -20,5 +20,6 @@ unfoldable pub timeAnswerBy : Rules → Node → ℕ → ℕ → ℕ → Answer 
 timeAnswerBy by n first last i =
     giving (stepCheckBy by (asking (timing first last i)) n) (by .test (n .entries) (groupLevel first last) i)
 
+-- The same by the rules of a session.
 abbrev pub timeAnswer : Node → ℕ → ℕ → ℕ → Answer Completion
 timeAnswer n first last i = timeAnswerBy rules n first last i

@@ -29,14 +29,29 @@ pub fn slow_and_late(fifth: u64, blocking: u64) -> Vec<Entry> {
     entries
 }
 
+/// The entries of [`slow`]; the fifth alone may start late, by as much as leaves
+/// it on time on a level of its own. So there is still a map if the last entry
+/// is on time.
+pub fn slow_and_fifth_late(fifth: u64, blocking: u64) -> Vec<Entry> {
+    let mut entries = slow(fifth, blocking);
+    let time = alone(&entries, SLOW - 1);
+    entries[SLOW - 1].j = fifth - time;
+    entries
+}
+
 /// These entries of [`slow`] with the last deadline `early` ticks before the
 /// completion time.
 pub fn until_the_last(mut entries: Vec<Entry>, early: u64) -> Vec<Entry> {
-    let Timing::OnTime { time, .. } = completion_in_group(&entries, SLOW, SLOW, SLOW) else {
-        panic!("the last entry ends by 10^9: {entries:?}");
-    };
-    entries[SLOW].d = time - early;
+    entries[SLOW].d = alone(&entries, SLOW) - early;
     entries
+}
+
+/// The completion time of the entry at `i` on a level of its own.
+fn alone(entries: &[Entry], i: usize) -> u64 {
+    match completion_in_group(entries, i, i, i) {
+        Timing::OnTime { time, .. } => time,
+        Timing::Late { .. } => panic!("the entry ends by its period: {entries:?}"),
+    }
 }
 
 /// A group in which the last entry waits for nearly 16 runs of each other

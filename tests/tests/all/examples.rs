@@ -1,6 +1,7 @@
 //! The examples in C and in Rust are compiled, linked and run. Examples in
 //! documents are compared with the files and the output that they show.
 
+use crate::say;
 use oracle::cases;
 use oracle::file::encode;
 use oracle::gen::plans;
@@ -13,6 +14,7 @@ use oracle::refusal::Refusal;
 use oracle::session::Session;
 use oracle::timing::Timing;
 use std::fs;
+use std::io::ErrorKind;
 use std::path::{Path, PathBuf};
 use std::process::Command;
 use std::time::Duration;
@@ -29,7 +31,13 @@ fn compile(command: &mut Command) {
     assert!(done.success(), "{command:?}");
 }
 
-/// Plans to list: two cases, a station, and a file that is refused.
+/// Case P with J 12 on its third entry, in the second edition.
+fn late_p() -> Vec<u8> {
+    cases::second_file(cases::jittered(cases::p(), 2, 12))
+}
+
+/// Plans to list: two cases in the first edition and one in the second, whatever
+/// the seed draws, then a station, and a file that is refused.
 fn files() -> Vec<Vec<u8>> {
     let mut rng = rng(240);
     let station = encode(&plans::station(&mut rng)).unwrap();
@@ -37,6 +45,7 @@ fn files() -> Vec<Vec<u8>> {
     vec![
         cases::file(cases::p()),
         cases::file(cases::f()),
+        late_p(),
         station,
         cut,
     ]
@@ -107,16 +116,20 @@ fn c_session() {
     assert_eq!(String::from_utf8_lossy(&text), due);
 }
 
-/// The example writes case P in either edition, byte for byte.
+/// The example writes case P, or in the second edition P with J 12 on its third
+/// task, byte for byte as the samples. With that J it also tries the first
+/// edition, and fails unless the library refuses it.
 #[test]
 fn c_write() {
     let program = compiled_c("examples/write.c", "write_c");
     let (file, ended) = run(&program, &[], Duration::ZERO);
     assert!(ended);
     assert_eq!(file, cases::file(cases::p()));
+    assert_eq!(file, bytes("samples/p.plan"));
     let second = Command::new(&program).arg("2").output().unwrap();
     assert!(second.status.success());
-    assert_eq!(second.stdout, cases::second_file(cases::p()));
+    assert_eq!(second.stdout, late_p());
+    assert_eq!(second.stdout, bytes("samples/p_jitter_12.plan"));
 }
 
 /// The examples call every function that the header declares.
@@ -150,7 +163,7 @@ fn spec_example() {
         .filter_map(|line| line.strip_prefix("    "))
         .flat_map(hexadecimal)
         .collect();
-    assert_eq!(bytes, fs::read(root().join("samples/p.plan")).unwrap());
+    assert_eq!(bytes, self::bytes("samples/p.plan"));
     let listing: String = rest
         .lines()
         .map_while(|line| line.strip_prefix("    ").or(line.is_empty().then_some("")))
@@ -158,6 +171,36 @@ fn spec_example() {
         .map(|line| format!("{line}\n"))
         .collect();
     assert_eq!(listing, text("samples/p.txt"));
+}
+
+/// The Python program of docs/SPEC.md writes the sample of case P. Its function
+/// also gives the sample of the second edition, if a task has its J as last
+/// number. Without python3 on the path this test is skipped, and says so.
+#[test]
+fn python() {
+    let spec = text("docs/SPEC.md");
+    let (_, program) = spec.split_once("```python\n").unwrap();
+    let (program, _) = program.split_once("```").unwrap();
+    let late = "\
+late = [task + (j,) for task, j in zip(tasks, [0, 0, 12])]
+sys.stdout.buffer.write(plan_file([(7, 2, late)], 2))
+";
+    let samples = ["samples/p.plan", "samples/p_jitter_12.plan"].map(bytes);
+    for (program, due) in [
+        (program.to_string(), samples[0].clone()),
+        (format!("{program}{late}"), samples.concat()),
+    ] {
+        let done = match Command::new("python3").args(["-c", &program]).output() {
+            Err(error) if error.kind() == ErrorKind::NotFound => {
+                say("python3 is not on the path: the example in docs/SPEC.md is not run");
+                return;
+            }
+            done => done.expect("python3 starts"),
+        };
+        let said = String::from_utf8_lossy(&done.stderr);
+        assert!(done.status.success(), "{said}");
+        assert_eq!(done.stdout, due);
+    }
 }
 
 /// `make list` says what is wrong with the name that it is given.
@@ -196,6 +239,11 @@ fn hexadecimal(line: &str) -> impl Iterator<Item = u8> + '_ {
 /// A file of the repository.
 fn text(path: &str) -> String {
     fs::read_to_string(root().join(path)).unwrap()
+}
+
+/// A file of the repository, in bytes.
+fn bytes(path: &str) -> Vec<u8> {
+    fs::read(root().join(path)).unwrap()
 }
 
 #[test]

@@ -2,12 +2,13 @@
 //! implementation: round trips, and files with parts of both.
 
 use crate::say;
+use oracle::cases;
 use oracle::compare;
 use oracle::ffi;
-use oracle::file::{contents_end, decode, edition_of, encode, entry_length, longest};
+use oracle::file::{contents_end, decode, edition_of, encode, entry_length, longest, row_at};
 use oracle::gen::damage::truncations;
 use oracle::gen::plans::{self, drawn_in, in_edition, punctual};
-use oracle::model::{Edition, Entry, Node, Plan, Row, MAX_ENTRIES, MAX_NODES};
+use oracle::model::{Edition, Entry, Node, Plan, MAX_ENTRIES, MAX_NODES};
 use oracle::options::{rng, times};
 use oracle::refusal::{Refusal, CUT_OFF, JITTER, LENGTH, OFFSET};
 use oracle::rng::Rng;
@@ -140,6 +141,9 @@ fn an_opening_on_a_body_of_the_other_edition() {
         assert_eq!(read(&file).0, edition.other());
     }
     say(format!("an opening of the other edition: {tally}"));
+    // Seven calls refuse each file.
+    assert!(tally.met(OFFSET) > times(8_000), "{tally}");
+    assert!(tally.met(LENGTH) > times(3_000), "{tally}");
 }
 
 /// 6 entries of 20 bytes are as long as 5 of 24. With the other opening and the
@@ -270,16 +274,45 @@ fn offsets_of_the_other_edition() {
     }
 }
 
+/// The files that the library writes of a plan without J.
+fn in_both_editions(nodes: Vec<Node>) -> [Vec<u8>; 2] {
+    let plan = Plan::first(nodes);
+    let rows = words::of_rows(&plan.rows());
+    let entries = words::of_entries(&plan.entries());
+    Edition::BOTH.map(|edition| written(edition, &rows, &entries).expect("a good plan"))
+}
+
 /// The rows of a plan are the same in both editions but for their offsets.
 #[test]
 fn rows_have_no_edition() {
-    let row = Row {
+    let mut nodes = vec![cases::p(), cases::v(), cases::h()];
+    for (node, number) in nodes.iter_mut().zip([7, 300, 65_535]) {
+        node.number = number;
+    }
+    let [first, second] = in_both_editions(nodes.clone());
+    assert_eq!([first[3], second[3]], [0x31, 0x32]);
+    let in_an_offset = |at: usize| at >= contents_end(0) && at % 8 >= 4;
+    for at in (0..contents_end(3)).filter(|&at| at != 3 && !in_an_offset(at)) {
+        assert_eq!(first[at], second[at], "{at}");
+    }
+    for (row, node) in nodes.iter().enumerate() {
+        assert_eq!(row_at(&first, row).0, node.row());
+    }
+    // After the three entries of P the second body begins at another place.
+    let offsets = [&first, &second].map(|file| [0, 1, 2].map(|row| row_at(file, row).1));
+    assert_eq!(offsets, [[32, 92, 132], [32, 104, 152]]);
+    assert_eq!([first.len(), second.len()], [192, 224]);
+}
+
+/// A row without entries has the same offset too.
+#[test]
+fn an_empty_row_has_no_edition() {
+    let empty = Node {
         number: 9,
         levels: 3,
-        entries: 0,
+        entries: Vec::new(),
     };
-    let files = Edition::BOTH.map(|edition| written(edition, &words::of_rows(&[row]), &[]));
-    let [first, second] = files.map(|file| file.expect("a good plan"));
+    let [first, second] = in_both_editions(vec![empty]);
     assert_eq!(first[4..], second[4..]);
     assert_eq!([first[3], second[3]], [0x31, 0x32]);
 }

@@ -21,6 +21,8 @@ use oracle::timing::{completion, Timing};
 #[derive(Debug, Default)]
 struct Met {
     nodes: u64,
+    /// Nodes in which some entry may start late.
+    late: u64,
     maps: u64,
     none: u64,
     wide_after_narrow: u64,
@@ -37,6 +39,7 @@ impl Met {
         let held = Session::holding(usize::from(levels), entries).expect("the entries are good");
         let _ = Both::of(&words_of(&held)).step(tally, &Op::Map, entries.len());
         self.nodes += 1;
+        self.late += u64::from(entries.iter().any(|entry| entry.j > 0));
         self.wide_after_narrow += u64::from(wide_passes_after_narrow(entries));
         match by_groups(entries, levels) {
             None => self.none += 1,
@@ -52,11 +55,13 @@ impl Met {
     }
 
     /// Asserts that more than half of the nodes have a map, some have none, and
-    /// most have a wide group that passes where a narrow one fails.
+    /// most have a wide group that passes where a narrow one fails. More than a
+    /// third have an entry that may start late.
     fn assert_shares(&self, name: &str) {
         say(format!("{name}: {self:?}"));
         assert!(2 * self.maps > self.nodes, "{self:?}");
         assert!(10 * self.none > self.nodes, "{self:?}");
+        assert!(3 * self.late > self.nodes, "{self:?}");
         assert!(4 * self.wide_after_narrow > 3 * self.nodes, "{self:?}");
         assert!(10 * self.wide_in_the_map > 7 * self.maps, "{self:?}");
     }

@@ -8,7 +8,7 @@ use oracle::compare;
 use oracle::compare::session::Both;
 use oracle::gen::extremes::{
     far_sums, first_group, five_full, high_demand, high_initial_time, many_releases, slow,
-    slow_and_late, until_the_last, SLOW,
+    slow_and_fifth_late, slow_and_late, until_the_last, SLOW,
 };
 use oracle::lent::words_of;
 use oracle::model::{Entry, MAX_TICKS};
@@ -47,6 +47,19 @@ fn rounds_above_65_535() {
 #[test]
 fn rounds_above_65_535_with_jitter() {
     rounds_above_65_535_of(306, slow_and_late).assert_maps(0, times(31));
+}
+
+/// The same with J on the fifth entry alone, so a node with enough levels has a
+/// map if the last entry is on time. This J often decides which one, or whether
+/// there is one.
+#[test]
+fn rounds_above_65_535_with_jitter_and_maps() {
+    let slow = |fifth, blocking| {
+        let entries = slow_and_fifth_late(fifth, blocking);
+        assert!(entries[SLOW - 1].j > 0, "{entries:?}");
+        entries
+    };
+    rounds_above_65_535_of(319, slow).assert_maps(times(20), times(31));
 }
 
 fn rounds_above_65_535_of(part: u64, slow: fn(u64, u64) -> Vec<Entry>) -> Tally {

@@ -6,8 +6,8 @@ use Rattle.completion.proofs.releases_in.Statement.{statement}
 use Rattle.completion.proofs.releases_in.Tie as tie
 
 -- t, J and T are at most 10^9 each
-add-late : tie.Need-add-late
-add-late c = omega (arith, c .before .pre .0 .times, c .before .pre .0 .jitter)
+add-span : tie.Need-add-span
+add-span c = omega (arith, c .before .pre .0 .times, c .before .pre .0 .jitter)
 
 returns : tie.Need-returns
 returns c = sym (releases-one _ (omega arith) _ (omega arith) (c .if1 .taken))
@@ -26,4 +26,4 @@ unfolding releases ceilDiv
 returns-2 c = refl
 
 pub releases-in-spec : {M : Type 1} → statement M
-releases-in-spec = tie.close (tie.spec add-late returns sub-result add-result div-result returns-2)
+releases-in-spec = tie.close (tie.spec add-span returns sub-result add-result div-result returns-2)

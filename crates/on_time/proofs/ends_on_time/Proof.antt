@@ -98,7 +98,10 @@ met-from-requires c κs =
             c .completion-bound .ensures .0,
             words-begin _ _ (p .0) (a .first) (a .last) (a .i) (omega arith) (omega arith) (a .blocking) .0,
           ),
-          not-earlier _ _ (p .0) _ _ _ (omega arith) (omega arith) (omega arith) _ _ (due k) _ _ (begins k) (c .completion-bound .ensures .1),
+          (
+            rw (due k, ← begins k) (c .completion-bound .ensures .2),
+            not-earlier _ _ (p .0) _ _ _ (omega arith) (omega arith) (omega arith) _ _ (due k) _ _ (begins k) (c .completion-bound .ensures .1),
+          ),
         ),
       ),
     )

@@ -40,7 +40,7 @@ due c = words-due _ _ (c .before .before .pre .0) _ (omega arith) _ (c .before .
 loop-holds : tie.Need-loop-holds Inv-loop μ-loop
 loop-holds c =
     let p = c .before .before .pre in
-    (p .1 .1 .1, p .1 .1 .0, words-limit _ _ (p .0) _ (omega arith) _ (c .before .entry-at .ensures) _ (c .limit-of .ensures) .1)
+    (p .1 .1 .1 .1, p .1 .1 .0, words-limit _ _ (p .0) _ (omega arith) _ (c .before .entry-at .ensures) _ (c .limit-of .ensures) .1)
 
 cast-demand-at : tie.Need-cast-demand-at Inv-loop μ-loop
 cast-demand-at c = omega arith

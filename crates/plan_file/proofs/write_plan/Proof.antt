@@ -6,6 +6,7 @@ use borrow.Author.Needs.{needs}
 use Rattle.refusals.specs.Refusals.{outcome, accepted}
 use Rattle.node_words.specs.Words.{entrySize}
 use Rattle.byte_words.proofs.Buffers.{over-start}
+use Rattle.plan_file.specs.declared.Edition.the-variants.{Second}
 use Rattle.plan_file.specs.Encoding.{entryLength, bodiesStart}
 use Rattle.plan_file.specs.Check.{wordsCheck}
 use Rattle.plan_file.specs.Plan.{mostNodes, rowOf}
@@ -46,7 +47,7 @@ long : (c : tie.After-entry-bytes)
     ≡ bodiesStart (length (at-start (c .before) .args .rows .now)) + count c * entryLength (at-start (c .before) .args .edition)
 long c = ap (λ s. 8 + length (at-start (c .before) .args .rows .now) * 8 + count c * s) (c .entry-bytes .ensures)
 
-short : (c : tie.After-entry-bytes) → count c * c .entry-bytes .result ≤ count c * 24
+short : (c : tie.After-entry-bytes) → count c * c .entry-bytes .result ≤ count c * entryLength Second
 short c = size-short (at-start (c .before) .args .edition) _ (c .entry-bytes .ensures) (count c)
 
 returns : tie.Need-returns

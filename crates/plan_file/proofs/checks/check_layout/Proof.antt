@@ -4,9 +4,10 @@ use native.Mathlib.Omega.{arith}
 use lib.ListN.{length, drop}
 use borrow.Author.Tests.{not-true, not-false, eq-eqb, ne-eqb}
 use borrow.Author.Needs.{needs}
+use Rattle.plan_file.specs.declared.Edition.the-variants.{Second}
 use Rattle.plan_file.specs.Check.{layoutCheck}
 use Rattle.plan_file.specs.Decoding.{rowsFrom}
-use Rattle.plan_file.specs.Encoding.{rowLength, headerLength, bodiesStart}
+use Rattle.plan_file.specs.Encoding.{rowLength, headerLength, bodiesStart, entryLength}
 use Rattle.byte_words.proofs.Runs.{AtHand, run-none}
 use Rattle.plan_file.proofs.Contents.{rows-run, file-row}
 use Rattle.plan_file.proofs.Encoding.{size-short}
@@ -61,7 +62,7 @@ at-row : (c : tie.After-row-at Inv-loop μ-loop)
 at-row c = file-row _ _ _ _ (c .before .loop-test .taken) (c .row-at .ensures)
 
 -- the bytes of a row's entries are few
-short : (c : tie.After-row-at Inv-loop μ-loop) → c .row-at .result .count * after-entry-bytes c .entry-bytes .result ≤ c .row-at .result .count * 24
+short : (c : tie.After-row-at Inv-loop μ-loop) → c .row-at .result .count * after-entry-bytes c .entry-bytes .result ≤ c .row-at .result .count * entryLength Second
 short c = size-short (at-start c .args .edition) _ (after-entry-bytes c .entry-bytes .ensures) _
 
 returns : tie.Need-returns Inv-loop μ-loop

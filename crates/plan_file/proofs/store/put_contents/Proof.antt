@@ -5,7 +5,8 @@ use native.Mathlib.Omega.{arith}
 use lib.Seq.{take-all}
 use lib.ListN.{length, take, length-map}
 use borrow.Author.Needs.{needs}
-use Rattle.plan_file.specs.Encoding.{bodiesStart, contentsBytes}
+use Rattle.plan_file.specs.declared.Edition.the-variants.{Second}
+use Rattle.plan_file.specs.Encoding.{bodiesStart, contentsBytes, entryLength}
 use Rattle.plan_file.specs.Plan.{entryCount, rowOf}
 use Rattle.byte_words.specs.Buffers.{over}
 use Rattle.plan_file.specs.declared.Row.{Row}
@@ -40,7 +41,7 @@ at-loop c = c .before .before .before .before .before .before .before .before
 
 -- the bytes of a row's entries are few
 short : (c : tie.After-struct-known Inv-loop μ-loop)
-    → c .before .row-of .result .count * at-loop c .before .entry-bytes .result ≤ c .before .row-of .result .count * 24
+    → c .before .row-of .result .count * at-loop c .before .entry-bytes .result ≤ c .before .row-of .result .count * entryLength Second
 short c = size-short (at-loop c .before .before .before .before .args .edition) _ (at-loop c .before .entry-bytes .ensures) _
 
 loop-again : tie.Need-loop-again Inv-loop μ-loop
