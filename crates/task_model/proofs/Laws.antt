@@ -6,8 +6,8 @@ use mathlib.Core.Logic.{⊎-elim}
 use mathlib.Core.List.{List, _∷_}
 use lib.ListN.{length}
 use native.Mathlib.Omega.{arith}
-use lib.Dec.{leb, eqb}
-use borrow.Author.Tests.{leb-true, leb-false, le-leb, lt-leb, eqb-true, eqb-false, ne-eqb}
+use lib.Dec.{leb, ltb, eqb}
+use borrow.Author.Tests.{leb-true, leb-false, ltb-true, ltb-false, le-leb, lt-leb, eqb-true, eqb-false, ne-eqb}
 use Rattle.task_model.proofs.Tests.{and-true, true-or-false, decided}
 use Rattle.task_model.specs.declared.Entry.{Entry}
 use Rattle.refusals.specs.Refusals.{Numbered, at, Outcome, accepted, refused}
@@ -36,29 +36,22 @@ module _ (kind calls : ℕ) where
   unfolding kindTest
   no-kind h k = rw (ne-eqb kind 1 h, ne-eqb kind 2 k)
 
-  -- the test as one sum, from kind 1 on
-  task-sum : kind ≡ 1 → leb (15 * kind + calls) 30 ≡ kindTest kind calls
-  task-sum k =
-      ⊎-elim (λ l. let c = leb-true calls 15 l in le-leb (15 * kind + calls) 30 (omega arith) ∙ sym (task-calls k c))
-      (λ l. let c = leb-false calls 15 l in lt-leb (15 * kind + calls) 30 (omega arith) ∙ sym (task-over k c))
-      (true-or-false (leb calls 15))
+  -- the test by the first count of calls that a kind does not allow
+  pub task-end : kind ≡ 1 → ltb calls 16 ≡ kindTest kind calls
+  task-end k =
+      ⊎-elim (λ l. let c = ltb-true calls 16 l in l ∙ sym (task-calls k (omega arith)))
+      (λ l. let c = ltb-false calls 16 l in l ∙ sym (task-over k (omega arith)))
+      (true-or-false (ltb calls 16))
 
-  section-sum : kind ≡ 2 → leb (15 * kind + calls) 30 ≡ kindTest kind calls
-  section-sum k =
-      ⊎-elim (λ l. let c = eqb-true calls 0 l in le-leb (15 * kind + calls) 30 (omega arith) ∙ sym (section-alone k c))
-      (λ l. let c = eqb-false calls 0 l in lt-leb (15 * kind + calls) 30 (omega arith) ∙ sym (section-calls k c))
-      (true-or-false (eqb calls 0))
+  pub section-end : kind ≡ 2 → ltb calls 1 ≡ kindTest kind calls
+  section-end k =
+      ⊎-elim (λ l. let c = ltb-true calls 1 l in l ∙ sym (section-alone k (omega arith)))
+      (λ l. let c = ltb-false calls 1 l in l ∙ sym (section-calls k (λ z. omega arith)))
+      (true-or-false (ltb calls 1))
 
-  other-sum : 2 < kind → leb (15 * kind + calls) 30 ≡ kindTest kind calls
-  other-sum h = lt-leb (15 * kind + calls) 30 (omega arith) ∙ sym (no-kind (λ k. omega arith) (λ k. omega arith))
-
-  pub calls-sum : 1 ≤ kind → leb (15 * kind + calls) 30 ≡ kindTest kind calls
-  calls-sum h =
-      ⊎-elim (λ k. task-sum (eqb-true kind 1 k))
-      (λ k. let n = eqb-false kind 1 k in
-      ⊎-elim (λ q. section-sum (eqb-true kind 2 q)) (λ q. let m = eqb-false kind 2 q in other-sum (omega arith))
-      (true-or-false (eqb kind 2)))
-      (true-or-false (eqb kind 1))
+  pub other-end : (kind ≡ 1 → ⊥) → (kind ≡ 2 → ⊥) → ltb calls 0 ≡ kindTest kind calls
+  other-end h k =
+      ⊎-elim (λ l. let c = ltb-true calls 0 l in absurd (omega arith)) (λ l. l ∙ sym (no-kind h k)) (true-or-false (ltb calls 0))
 
 -- 8
 module _ (e : Entry) where

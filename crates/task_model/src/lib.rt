@@ -2,6 +2,8 @@
 use refusals::Checked;
 use refusals::Refusal;
 ghost use mathlib.Core.Path.{_≡_};
+ghost use Prim.Native.Nat.{ℕ};
+ghost use lib.Dec.{ltb};
 ghost use Rattle.task_model.specs.Limits.{TimesHold};
 ghost use Rattle.refusals.specs.Refusals.{outcome};
 ghost use Rattle.task_model.specs.Checks.{kindTest, timesTest, jitterTest, entryTest, entryCheck};
@@ -91,15 +93,23 @@ pub fn check_entry(row: usize, position: usize, e: Entry) -> Checked
     Checked::Accepted
 }
 
-// The same test as kind_holds, but without a branch between kinds 1 and 2, which is often guessed wrong where both occur.
-// With kind 1 the sum allows 15 calls, with kind 2 none, and with a greater kind it is above 30.
+// The first count of remote calls that a kind does not allow; an unknown kind allows none, not even 0.
+fn calls_end(kind: u8) -> u8
+    ensures { λ n. ⌜ ((calls : ℕ) → ltb calls n ≡ kindTest kind calls) ⌝ }
+{
+    match kind {
+        1 => 16,
+        2 => 1,
+        _ => 0,
+    }
+}
+
+// The same test as kind_holds. A match that gives numbers is compiled without a branch between the kinds, which would often
+// be guessed wrong where both occur.
 fn calls_hold(kind: u8, calls: u8) -> bool
     ensures { λ a. ⌜ a ≡ kindTest kind calls ⌝ }
 {
-    if kind < 1 {
-        return false;
-    }
-    15 * kind as u32 + calls as u32 <= 30
+    calls < calls_end(kind)
 }
 
 // Whether check_entry accepts an entry. It is quicker than check_entry where most entries are accepted.

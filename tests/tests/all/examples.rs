@@ -3,16 +3,17 @@
 
 use crate::say;
 use oracle::cases;
-use oracle::file::encode;
+use oracle::file::{encode, longest};
 use oracle::gen::plans;
-use oracle::listing::list;
+use oracle::listing::{list, MOST_TEXT};
 use oracle::map::map_entries;
-use oracle::model::{Entry, Plan};
+use oracle::model::{Edition, Entry, Plan, MAX_ENTRIES, MAX_NODES};
 use oracle::options::rng;
 use oracle::programs::{root, run};
 use oracle::refusal::Refusal;
 use oracle::session::Session;
 use oracle::timing::Timing;
+use oracle::words::ENTRY_WORDS;
 use std::fs;
 use std::io::ErrorKind;
 use std::path::{Path, PathBuf};
@@ -149,6 +150,24 @@ fn every_function_is_called_from_c() {
             examples.iter().any(|example| example.contains(&call)),
             "{name}"
         );
+    }
+}
+
+/// The sizes that the header gives are those that the tests lend the library.
+#[test]
+fn sizes_in_the_header() {
+    let header = text("include/maiplur.h");
+    let words = MAX_ENTRIES * ENTRY_WORDS;
+    for size in [
+        format!("MAIPLUR_MOST_ROWS = {MAX_NODES},"),
+        format!("MAIPLUR_MOST_WORDS = {},", MAX_NODES * words),
+        format!("MAIPLUR_MOST_FILE = {},", longest(Edition::Second)),
+        format!("MAIPLUR_MOST_LEVELS = {MAX_ENTRIES},"),
+        format!("MAIPLUR_MOST_TEXT = {MOST_TEXT} "),
+        format!("uint32_t words[{words}];"),
+        format!("const uint32_t entry[{ENTRY_WORDS}], size_t values[3]"),
+    ] {
+        assert!(header.contains(&size), "{size}");
     }
 }
 

@@ -20,7 +20,7 @@ abbrev Inv-loop : tie.InvT-loop
 Inv-loop file nodes size least₀ required₀ row₀ least required row =
     (row ≤ nodes)
     × (least ≤ 65536)
-    × (required ≤ headerLength + nodes * rowLength + row * 6120)
+    × (required ≤ headerLength + nodes * rowLength + row * 255 * entryLength Second)
     × (layoutCheck size file row least required (drop row (rowsFrom file 0 nodes)) ≡ layoutCheck size file 0 0 (bodiesStart nodes) (rowsFrom file 0 nodes))
 
 abbrev μ-loop : tie.MeasureT-loop

@@ -22,7 +22,7 @@ Inv-loop file₀ rows size offset₀ row₀ file offset row =
     (row ≤ length rows)
     × (length file ≡ length file₀)
     × (offset ≡ bodiesStart (length rows) + entryCount (take row (map rowOf rows)) * size)
-    × (offset ≤ bodiesStart (length rows) + row * 6120)
+    × (offset ≤ bodiesStart (length rows) + row * 255 * entryLength Second)
     × (file ≡ over file₀ 8 (contentsBytes size (bodiesStart (length rows)) (take row (map rowOf rows))))
 
 abbrev μ-loop : tie.MeasureT-loop
