@@ -5,7 +5,7 @@ ghost use Prim.Native.Nat.{ℕ, _<_};
 ghost use lib.ListN.{length, take};
 ghost use Rattle.io.specs.Counts.{Counts};
 ghost use Rattle.listing.specs.Listing.{listing};
-ghost use Rattle.list_plan.specs.Input.{ReadOf};
+ghost use Rattle.plan_file.specs.Input.{ReadOf};
 use listing::Listed;
 
 // One byte more than an input may have. An input of this length is refused, so the rest of it need not be read.

@@ -17,7 +17,7 @@ use Rattle.task_model.specs.Checks.{entryCheck, entriesBy, entriesCheck}
 use Rattle.task_model.specs.Limits.{noEntry, entryAt, EntryHolds, AllHold}
 use Rattle.task_model.proofs.Tests.{true-or-false}
 use Rattle.task_model.proofs.Laws.{entries-next, entries-stop}
-use Rattle.task_model.proofs.Theorems.{each-accepted}
+use Rattle.task_model.proofs.Theorems.{each-accepted, each-refused}
 use Rattle.plan_file.specs.declared.Row.{Row}
 use Rattle.plan_file.specs.Check.{nodesBy}
 use Rattle.plan_file.specs.Find.{rowIn}
@@ -28,7 +28,7 @@ use Rattle.plan_file.specs.declared.Edition.the-variants.{First, Second}
 use Rattle.plan_file.specs.Encoding.{entryLength}
 use Rattle.plan_file.specs.Decoding.{entryIn, entriesAt}
 use Rattle.plan_file.proofs.Contents.{entries-run}
-use Rattle.refusals.proofs.Outcomes.{both-accepted, then-accepted}
+use Rattle.refusals.proofs.Outcomes.{either, not-both, both-accepted, then-refused, then-accepted}
 
 -- the entries of one body from position `j` on
 module _ (check : ℕ → Entry → Outcome) where
@@ -183,3 +183,61 @@ module _ (check : ℕ → ℕ → Entry → Outcome) (P : Entry → Type 0)
       (nodes-all (suc k) rs (drop c es) (q .1) (omega (arith, length-drop c es)) (j - c)
       (omega (arith, ltb-false j c t, length-drop c es))))
       (true-or-false (ltb j c))
+
+  -- the entries of row `i`
+  abbrev part : List Row → List Entry → ℕ → List Entry
+  part rs es i = take (rowIn rs i .count) (drop (entryCount (take i rs)) es)
+
+  -- rows that are refused are refused as the first entry is that is not as P says, row by row and entry by entry
+  pub record RefusedAt (k : ℕ) (rs : List Row) (es : List Entry) (r : Numbered) : Type 0 where
+    pub row : ℕ
+    pub position : ℕ
+    pub there : row < length rs
+    pub inside : position < length (part rs es row)
+    pub refuses : check (k + row) position (entryAt (part rs es row) position) ≡ refused r
+    pub before : (j : ℕ) → j < position → P (entryAt (part rs es row) j)
+    pub rowsBefore : (i : ℕ) → i < row → Each P (part rs es i)
+
+  later : (k : ℕ) (r : Row) (rs : List Row) (es : List Entry) (q : Numbered) → Each P (take (r .count) es)
+      → RefusedAt (suc k) rs (drop (r .count) es) q → RefusedAt k (r ∷ rs) es q
+  unfolding entryCount
+  later k r rs es q h t =
+      let same : (i : ℕ) → part rs (drop (r .count) es) i ≡ part (r ∷ rs) es (suc i) =
+      λ i. ap (take (rowIn rs i .count)) (drop-drop (entryCount (take i rs)) (r .count) es) in
+      let e : k + suc (t .row) ≡ suc k + t .row = omega arith in
+      record {
+        row = suc (t .row);
+        position = t .position;
+        there = omega (arith, t .there);
+        inside = rw (← same (t .row)) (t .inside);
+        refuses = rw (e, ← same (t .row)) (t .refuses);
+        before = λ j l. rw (← same (t .row)) (t .before j l);
+        rowsBefore = earlier same (t .row) (t .rowsBefore);
+      }
+    where
+      earlier : ((i : ℕ) → part rs (drop (r .count) es) i ≡ part (r ∷ rs) es (suc i)) → (n : ℕ)
+          → ((i : ℕ) → i < n → Each P (part rs (drop (r .count) es) i)) → (i : ℕ) → i < suc n → Each P (part (r ∷ rs) es i)
+      earlier same n g zero l = h
+      earlier same n g (suc i) l = rw (← same i) (g i (omega arith))
+
+  pub nodes-refused : (k : ℕ) (rs : List Row) (es : List Entry) (q : Numbered) → nodesBy check k rs es ≡ refused q → RefusedAt k rs es q
+  unfolding nodesBy entryCount
+  nodes-refused k [] es q a = absurd (not-both refl a)
+  nodes-refused k (r ∷ rs) es q a =
+      ⊎-elim
+      (λ t.
+      later k r rs es q (each-accepted (check k) P (one k) 0 _ .0 t)
+      (nodes-refused (suc k) rs (drop (r .count) es) q (sym (then-accepted (entriesBy (check k) 0 (take (r .count) es)) _ t) ∙ a)))
+      (λ t.
+      let f = each-refused (check k) P (one k) (take (r .count) es) q (t .1 ∙ sym (then-refused (entriesBy (check k) 0 (take (r .count) es)) _ _ (t .1)) ∙ a) in
+      let e : k + 0 ≡ k = omega arith in
+      record {
+        row = 0;
+        position = f .0;
+        there = omega arith;
+        inside = f .1;
+        refuses = rw e (f .3);
+        before = f .2;
+        rowsBefore = λ i l. absurd (omega arith);
+      })
+      (either (entriesBy (check k) 0 (take (r .count) es)))

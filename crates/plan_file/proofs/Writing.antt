@@ -13,7 +13,7 @@ use Rattle.node_words.proofs.Words.{entry-drop}
 use Rattle.node_words.proofs.Entries.{length-entries}
 use Rattle.plan_file.specs.declared.Edition.{Edition}
 use Rattle.plan_file.specs.declared.Edition.the-variants.{First}
-use Rattle.plan_file.specs.Plan.{rowOf, planOf}
+use Rattle.plan_file.specs.Plan.{Plan, rowOf, planOf}
 use Rattle.plan_file.specs.Encoding.{headerLength, entryLength, headerBytes, entryBytes, bodiesStart, contentsBytes, bodiesBytes, encoding}
 use Rattle.plan_file.specs.Decoding.{fileWords}
 use Rattle.plan_file.specs.Check.{wordsCheck}
@@ -73,31 +73,34 @@ first-words ws k h =
       e4,
     )
 
+-- the header, the contents and the bodies of a plan, stored one after the other, are its encoding
+pub plan-stored : (ed : Edition) (p : Plan) (n : ℕ) → n ≡ length (p .rows) → (d : List ℕ)
+    → over
+    (over (over d 0 (headerBytes ed n)) headerLength (contentsBytes (entryLength ed) (bodiesStart n) (p .rows)))
+    (bodiesStart n)
+    (bodiesBytes ed (p .entries))
+    ≡ over d 0 (encoding ed p)
+unfolding encoding
+plan-stored ed p n e d =
+    let h = headerBytes ed n in
+    let k = contentsBytes (entryLength ed) (bodiesStart n) (p .rows) in
+    let b = bodiesBytes ed (p .entries) in
+    let l : length (h ++ k) ≡ bodiesStart n =
+    length-append h k ∙ omega (arith, length-header ed n, length-contents (entryLength ed) (bodiesStart n) (p .rows)) in
+    rw (over-next d 0 headerLength h k (length-header ed n) (omega arith))
+    (ap (λ i. over (over d 0 (h ++ k)) i b) (sym (zero-add (bodiesStart n)))
+    ∙ over-next d 0 (bodiesStart n) (h ++ k) b l (omega arith)
+    ∙ ap (λ i. over d 0 (headerBytes ed i ++ contentsBytes (entryLength ed) (bodiesStart i) (p .rows) ++ b)) e)
+
 module _ (ed : Edition) (rs ws : List ℕ) where
-  -- the three stores are the encoding
+  -- of a plan in memory
   pub written : (d : List ℕ)
       → over
       (over (over d 0 (headerBytes ed (length rs))) headerLength (contentsBytes (entryLength ed) (bodiesStart (length rs)) (map rowOf rs)))
       (bodiesStart (length rs))
       (bodiesBytes ed (entriesOf ws (length ws / entrySize)))
       ≡ over d 0 (encoding ed (planOf rs ws))
-  unfolding encoding
-  written d =
-      let h = headerBytes ed (length rs) in
-      let k = contentsBytes (entryLength ed) (bodiesStart (length rs)) (map rowOf rs) in
-      let b = bodiesBytes ed (entriesOf ws (length ws / entrySize)) in
-      let n : length (h ++ k) ≡ bodiesStart (length rs) =
-      length-append h k
-      ∙ omega (
-        arith,
-        length-header ed (length rs),
-        length-contents (entryLength ed) (bodiesStart (length rs)) (map rowOf rs),
-        length-map rs rowOf,
-      ) in
-      rw (over-next d 0 headerLength h k (length-header ed (length rs)) (omega arith))
-      (ap (λ i. over (over d 0 (h ++ k)) i b) (sym (zero-add (bodiesStart (length rs))))
-      ∙ over-next d 0 (bodiesStart (length rs)) (h ++ k) b n (omega arith)
-      ∙ ap (λ i. over d 0 (headerBytes ed i ++ contentsBytes (entryLength ed) (bodiesStart i) (map rowOf rs) ++ b)) (sym (length-map rs rowOf)))
+  written d = plan-stored ed (planOf rs ws) (length rs) (sym (length-map rs rowOf)) d
 
   module _ (room : ℕ) where
     pub write-refused : (r : Numbered) → wordsCheck ed rs ws ≡ refused r → writeAnswer ed rs ws room ≡ refuses r

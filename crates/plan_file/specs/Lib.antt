@@ -8,3 +8,5 @@ pub mod Find
 pub mod Limits
 pub mod Answers
 pub mod RoundTrips
+-- Only the programs use this.
+pub mod Input

@@ -21,7 +21,7 @@ pub(crate) fn opening_of(edition: Edition) -> [u8; 4]
 }
 
 // Whether a file begins with the four opening bytes of an edition.
-pub(crate) fn opens(edition: Edition, file: &[u8]) -> bool
+pub fn opens(edition: Edition, file: &[u8]) -> bool
     requires { ⌜ headerLength ≤ length (now file) ⌝ }
     ensures { λ a. ⌜ a ≡ openingTest edition (now (file .entry)) ⌝ }
 {
@@ -39,7 +39,7 @@ pub(crate) fn opens(edition: Edition, file: &[u8]) -> bool
 }
 
 // How many bytes an entry has.
-pub(crate) fn entry_bytes(edition: Edition) -> usize
+pub fn entry_bytes(edition: Edition) -> usize
     ensures { λ n. ⌜ n ≡ entryLength edition ⌝ }
 {
     match edition {
@@ -49,7 +49,7 @@ pub(crate) fn entry_bytes(edition: Edition) -> usize
 }
 
 // How many entries so many bytes hold.
-pub(crate) fn entries_in(edition: Edition, bytes: usize) -> usize
+pub fn entries_in(edition: Edition, bytes: usize) -> usize
     ensures { λ n. ⌜ n ≡ bytes / entryLength edition ⌝ }
 {
     match edition {

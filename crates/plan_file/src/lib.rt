@@ -4,9 +4,9 @@
 // An entry is six words: its 24 bytes in a file of the second edition; or its 20 bytes in a file of the first, and J 0. Both
 // are low byte first, so fields have the same widths as in the file.
 mod checks;
-mod editions;
-mod read;
-mod store;
+pub mod editions;
+pub mod read;
+pub mod store;
 
 use byte_words::wide;
 use byte_words::word_at;
@@ -55,19 +55,19 @@ const FIRST_OPENING: [u8; 4] = *b"LMP1";
 const SECOND_OPENING: [u8; 4] = *b"LMP2";
 
 // Sizes in bytes: of the header before the contents, of a row of the contents, and of an entry in each edition.
-const HEADER_BYTES: usize = 8;
+pub const HEADER_BYTES: usize = 8;
 
-const ROW_BYTES: usize = 8;
+pub const ROW_BYTES: usize = 8;
 
-const FIRST_ENTRY_BYTES: usize = 20;
+pub const FIRST_ENTRY_BYTES: usize = 20;
 
-const SECOND_ENTRY_BYTES: usize = 24;
+pub const SECOND_ENTRY_BYTES: usize = 24;
 
 // How many of an entry's words a file of the first edition has: all but J.
-const FIRST_ENTRY_WORDS: usize = 5;
+pub const FIRST_ENTRY_WORDS: usize = 5;
 
 // The most nodes of a plan.
-const MOST_NODES: u8 = 32;
+pub const MOST_NODES: u8 = 32;
 
 // A row of the contents without its offset.
 pub struct Row {

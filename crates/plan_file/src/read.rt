@@ -78,7 +78,7 @@ pub(crate) fn entry_in(edition: Edition, file: &[u8], k: usize) -> Entry
 }
 
 // Copies the rows of a file, without their offsets, to a buffer's start.
-pub(crate) fn copy_rows(file: &[u8], rows: &mut [u32], nodes: usize)
+pub fn copy_rows(file: &[u8], rows: &mut [u32], nodes: usize)
     requires { ⌜ (bodiesStart nodes ≤ length (now file)) × (nodes ≤ length (now rows)) ⌝ }
     ensures { λ _. ⌜ now (rows .exit) ≡ over (now (rows .entry)) 0 (map rowWord (rowsFrom (now (file .entry)) 0 nodes)) ⌝ }
 {

@@ -29,7 +29,7 @@ fn put_row(file: &mut [u8], k: usize, word: u32, offset: u32)
 }
 
 // Stores the opening bytes of an edition, the node count and three zero bytes.
-pub(crate) fn put_header(edition: Edition, file: &mut [u8], nodes: usize)
+pub fn put_header(edition: Edition, file: &mut [u8], nodes: usize)
     requires { ⌜ headerLength ≤ length (now file) ⌝ }
     ensures { λ _. ⌜ now (file .exit) ≡ over (now (file .entry)) 0 (headerBytes edition nodes) ⌝ }
 {
@@ -45,7 +45,7 @@ pub(crate) fn put_header(edition: Edition, file: &mut [u8], nodes: usize)
 }
 
 // Stores the contents, each row with its offset.
-pub(crate) fn put_contents(edition: Edition, file: &mut [u8], rows: &[u32])
+pub fn put_contents(edition: Edition, file: &mut [u8], rows: &[u32])
     requires { ⌜ (length (now rows) ≤ mostNodes) × (bodiesStart (length (now rows)) ≤ length (now file)) ⌝ }
     ensures { λ _.
         ⌜ now (file .exit) ≡

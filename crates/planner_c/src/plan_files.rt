@@ -1,6 +1,7 @@
 // Plan files for C: checking, reading and writing.
 use super::returned::give;
 use super::returned::give_checked;
+use super::returned::give_written;
 use super::returned::refuse;
 ghost use mathlib.Core.Path.{_≡_};
 ghost use mathlib.Core.Logic.{_↔_};
@@ -19,7 +20,6 @@ ghost use Rattle.planner_c.specs.Returned.{returned, given, checked, edi
 ghost use Rattle.planner_c.specs.Writing.{editionFor, writeFor};
 use plan_file::Edition;
 use plan_file::ReadPlan;
-use plan_file::Written;
 use refusals::Refusal;
 
 // Checks a plan file. Returns 0 exactly for the files of plans within the limits.
@@ -98,10 +98,7 @@ fn write_in(
         (writeAnswer edition (now (rows .entry)) (now (entries .entry)) (length (now (file .entry)))) (now (file .exit)) ⌝ }
 {
     let written = plan_file::write_plan(edition, rows, entries, file);
-    match written {
-        Written::Length(n) => give(n, 0, 0, values),
-        Written::Refused(r) => refuse(r, values),
-    }
+    give_written(written, values)
 }
 
 // Writes a plan as a file of edition 1 or 2 from the buffer's start. Gives the file's length. From the written file,

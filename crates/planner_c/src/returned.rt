@@ -1,7 +1,9 @@
 // How every function returns its answer.
 ghost use mathlib.Core.Path.{_≡_};
 ghost use Rattle.refusals.specs.Refusals.{numbered, outcome};
-ghost use Rattle.planner_c.specs.Returned.{returned, back, given, checked};
+ghost use Rattle.plan_file.specs.Answers.{writeGives};
+ghost use Rattle.planner_c.specs.Returned.{returned, back, given, checked, sized};
+use plan_file::Written;
 use refusals::Checked;
 use refusals::Refusal;
 
@@ -29,5 +31,15 @@ pub(crate) fn give_checked(found: Checked, values: &mut [usize; 3]) -> u32
     match found {
         Checked::Accepted => give(0, 0, 0, values),
         Checked::Refused(r) => refuse(r, values),
+    }
+}
+
+// Returns the answer of a call that writes a file: the file's length, or the refusal.
+pub(crate) fn give_written(written: Written, values: &mut [usize; 3]) -> u32
+    ensures { λ a. ⌜ returned a (now (values .exit)) ≡ sized (writeGives written) ⌝ }
+{
+    match written {
+        Written::Length(n) => give(n, 0, 0, values),
+        Written::Refused(r) => refuse(r, values),
     }
 }

@@ -18,6 +18,7 @@ use Rattle.refusals.specs.declared.Refusal.the-variants.{
   OutsideList,
   FullList,
   Jitter,
+  JitterLost,
 }
 use Rattle.refusals.specs.Refusals.{Numbered, at, numbered}
 
@@ -41,3 +42,4 @@ number-some NoMap p = omega arith
 number-some OutsideList p = omega arith
 number-some FullList p = omega arith
 number-some (Jitter row position) p = omega arith
+number-some (JitterLost row position) p = omega arith

@@ -17,6 +17,7 @@ use Rattle.refusals.specs.declared.Refusal.the-variants.{
   OutsideList,
   FullList,
   Jitter,
+  JitterLost,
 }
 use Rattle.refusals.specs.declared.Numbers.{Numbers}
 use Rattle.refusals.specs.declared.Checked.{Checked}
@@ -48,6 +49,7 @@ numbered NoMap = at 11 0 0
 numbered OutsideList = at 12 0 0
 numbered FullList = at 13 0 0
 numbered (Jitter row position) = at 14 row position
+numbered (JitterLost row position) = at 15 row position
 
 -- The same, from the struct that the code returns.
 abbrev pub numbersIn : Numbers → Numbered

@@ -19,6 +19,7 @@ pub enum Refusal {
     OutsideList,
     FullList,
     Jitter { row: usize, position: usize },
+    JitterLost { row: usize, position: usize },
 }
 
 pub enum Checked {
@@ -58,6 +59,7 @@ fn look_up(r: Refusal) -> Numbers
         Refusal::OutsideList => numbers_at(12, 0, 0),
         Refusal::FullList => numbers_at(13, 0, 0),
         Refusal::Jitter { row, position } => numbers_at(14, row, position),
+        Refusal::JitterLost { row, position } => numbers_at(15, row, position),
     }
 }
 

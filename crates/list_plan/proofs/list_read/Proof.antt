@@ -10,7 +10,7 @@ use Rattle.listing.specs.declared.Listed.the-variants.{Text}
 use Rattle.listing.specs.Listing.{listing}
 use Rattle.listing.proofs.Texts.{listed-size, listed-text}
 use Rattle.listing.proofs.Long.{long-listing}
-use Rattle.list_plan.specs.Input.{ReadOf}
+use Rattle.plan_file.specs.Input.{ReadOf}
 use Rattle.list_plan.proofs.list_read.Statement.{statement}
 use Rattle.list_plan.proofs.list_read.Tie as tie
 

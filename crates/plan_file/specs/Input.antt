@@ -1,4 +1,4 @@
--- The part of an input that was read.
+-- The part of a program's input that was read.
 use Prim.Native.Nat.{ℕ}
 use mathlib.Core.Path.{_≡_}
 use mathlib.Core.List.{List}

@@ -1,0 +1,3 @@
+-- What a reader of the converter must believe.
+pub mod Conversion
+pub mod RoundTrip

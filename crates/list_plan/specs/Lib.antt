@@ -1,2 +1,0 @@
--- What a reader of the program must believe.
-pub mod Input

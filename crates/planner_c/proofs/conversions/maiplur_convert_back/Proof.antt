@@ -1,0 +1,15 @@
+use mathlib.Core.Path.{_∙_, ap}
+use borrow.Author.Needs.{needs}
+use Rattle.planner_c.specs.Returned.{sized}
+use Rattle.planner_c.proofs.conversions.maiplur_convert_back.Statement.{statement}
+use Rattle.planner_c.proofs.conversions.maiplur_convert_back.Tie as tie
+
+returns : tie.Need-returns
+returns c =
+    let e = c .before .before .before .before .back .ensures in (
+      c .give-written .ensures ∙ ap sized (e .0 .answer),
+      (rw (e .0 .answer) at (e .0 .there), rw (e .0 .answer) at (e .1)),
+    )
+
+pub maiplur-convert-back-spec : {M : Type 1} → statement M
+maiplur-convert-back-spec = tie.close (tie.spec (λ c κs. search needs) (λ c κs. search needs) (λ c. search needs) returns)
