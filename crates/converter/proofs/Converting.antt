@@ -3,7 +3,6 @@ use Prim.Native.Nat.{ℕ, _+_, _*_, _≤_, _<_}
 use mathlib.Core.Path.{_≡_, _∙_, sym}
 use mathlib.Core.Bool.{true, false}
 use mathlib.Core.List.{List, _++_}
-use native.Mathlib.Omega.{arith}
 use lib.ListN.{length, drop}
 use lib.Dec.{leb}
 use borrow.Author.Tests.{le-leb, lt-leb}
@@ -54,6 +53,10 @@ module _ (to : Edition) (f : List ℕ) where
       ∙ rw (length-rows f 0 (nodeCount f), length-entries-at (editionOf f) f (bodiesStart (nodeCount f)) (entryCount (rowsIn f))) (sym e)
 
   module _ (room : ℕ) where
+    pub convert-refused : (r : Numbered) → convertCheck to f ≡ refused r → convertAnswer to f room ≡ refuses r
+    unfolding convertAnswer
+    convert-refused r p = rw p
+
     -- check by check, in their order
     pub convert-file : (r : Numbered) → fileCheck f ≡ refused r → convertAnswer to f room ≡ refuses r
     unfolding convertAnswer convertCheck

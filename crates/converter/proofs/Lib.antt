@@ -7,3 +7,6 @@ pub mod Lost
 pub mod Converting
 -- Converting again undoes it.
 pub mod RoundTrip
+-- What the calls leave.
+pub mod Theorems
+pub mod Examples

@@ -1,15 +1,18 @@
 -- Laws of what would be lost in the first edition: the J of entries.
-use Prim.Native.Nat.{ℕ, _+_, _*_, _<_}
-use mathlib.Core.Path.{_≡_, _∙_, refl, sym, ap}
-use mathlib.Core.Logic.{_↔_}
+use Prim.Native.Nat.{ℕ, zero, suc, _+_, _*_, _<_}
+use mathlib.Core.Path.{_≡_, _∙_, refl, sym}
+use mathlib.Core.Logic.{_↔_, ⊎-elim}
+use mathlib.Core.Bool.{true≢false}
 use mathlib.Core.List.{List}
 use native.Mathlib.Omega.{arith}
 use lib.ListN.{drop}
+use lib.Dec.{eqb}
 use borrow.Author.Tests.{eqb-true, eq-eqb, ne-eqb}
-use Rattle.refusals.specs.Refusals.{at, accepted, refused}
-use Rattle.refusals.proofs.Outcomes.{mustHold-accepts, mustHold-refuses, demanded}
+use Rattle.refusals.specs.Refusals.{Numbered, at, accepted, refused}
+use Rattle.refusals.proofs.Outcomes.{not-both, mustHold-accepts, mustHold-refuses, demanded}
 use Rattle.task_model.specs.declared.Entry.{Entry}
 use Rattle.task_model.specs.Checks.{entriesBy}
+use Rattle.task_model.proofs.Tests.{true-or-false}
 use Rattle.node_words.specs.Words.{entryFrom}
 use Rattle.byte_words.specs.Bytes.{wordAt}
 use Rattle.byte_words.proofs.Runs.{AtHand, run-hand}
@@ -58,3 +61,22 @@ module _ (f : List ℕ) (row start count position j : ℕ) (h : position < count
       → entriesBy (lossCheck First row) position (drop position (entriesAt Second f start count))
       ≡ entriesBy (lossCheck First row) (position + 1) (drop (position + 1) (entriesAt Second f start count))
   kept-here p = body-here (lossCheck First row) at-entry accepted (kept-exactly First row position entry .1 (same ∙ p))
+
+-- refusals that are the same have the same number and places
+refused-same : {q r : Numbered} → refused q ≡ refused r → q ≡ r
+refused-same e = cc
+
+positive : (n : ℕ) → (n ≡ 0 → ⊥) → 0 < n
+positive zero h = absurd (h refl)
+positive (suc n) h = omega arith
+
+-- a refused entry has a J above zero, and the refusal names its place
+pub loss-place : (row p : ℕ) (e : Entry) (r : Numbered) → lossCheck First row p e ≡ refused r → (0 < e .jitter) × (r ≡ at 15 row p)
+unfolding lossCheck
+loss-place row p e r q =
+    ⊎-elim
+    (λ t. absurd (not-both (mustHold-accepts _ _ t) q))
+    (λ t.
+    let n : e .jitter ≡ 0 → ⊥ = λ z. true≢false (sym (eq-eqb (e .jitter) 0 z) ∙ t) in
+    (positive (e .jitter) n, refused-same (sym q ∙ mustHold-refuses _ _ t)))
+    (true-or-false (eqb (e .jitter) 0))

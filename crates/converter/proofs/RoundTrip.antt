@@ -6,7 +6,6 @@ use mathlib.Core.List.{List, _++_}
 use native.Mathlib.Omega.{arith}
 use borrow.Author.Tests.{le-leb, leb-true}
 use lib.ListN.{length, take, drop}
-use lib.Dec.{leb}
 use lib.Seq.{take-at}
 use Rattle.refusals.specs.Refusals.{accepted}
 use Rattle.refusals.specs.Answers.{Answer, gives, refuses, left}

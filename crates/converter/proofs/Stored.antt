@@ -1,6 +1,6 @@
 -- Laws of the rows and the entries of a file of one edition, stored as those of another.
 use Prim.Native.Nat.{ℕ, _+_, _*_, _≤_}
-use mathlib.Core.Path.{_≡_, _∙_, refl, sym, ap}
+use mathlib.Core.Path.{_≡_, _∙_, sym, ap}
 use mathlib.Core.List.{List, [], _∷_, _++_, map, append-nil}
 use native.Mathlib.Omega.{arith}
 use lib.ListN.{length, take}

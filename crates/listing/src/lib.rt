@@ -127,7 +127,8 @@ fn put_entry_line(
     put_bytes(out, next, b"\n")
 }
 
-fn put_refused_line(out: &mut [u8], at: usize, r: Refusal) -> usize
+// The line of a refusal.
+pub fn put_refused_line(out: &mut [u8], at: usize, r: Refusal) -> usize
     requires { ⌜ at + 64 ≤ length (now out) ⌝ }
     ensures { λ end. ⌜ Upto (now (out .entry)) at 64 (refusedLine (numbered r)) (now (out .exit)) end ⌝ }
 {

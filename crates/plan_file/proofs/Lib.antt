@@ -28,6 +28,8 @@ pub mod Limits
 pub mod Theorems
 -- The same for the buffers, as the calls leave them.
 pub mod RoundTrips
+-- An input that is longer than any plan.
+pub mod Long
 -- What functions promise beside their answer.
 pub mod Ensured
 -- A file without a release jitter is checked as before there was one.

@@ -279,7 +279,7 @@ finds-none f a number = (
       (true-or-false (ltb (rowOfNumber number (rowsIn f)) (length (rowsIn f)))),
 )
 
-within : (ed : Edition) (n m : ℕ) → n ≤ mostNodes → m ≤ n * mostEntries → bodiesStart n + m * entryLength ed ≤ longest ed
+pub within : (ed : Edition) (n m : ℕ) → n ≤ mostNodes → m ≤ n * mostEntries → bodiesStart n + m * entryLength ed ≤ longest ed
 within First n m h l = omega arith
 within Second n m h l = omega arith
 

@@ -28,6 +28,7 @@ use refusals::Refusal;
 use store::put_contents;
 use store::put_entries;
 use store::put_header;
+use task_model::MOST_ENTRIES;
 ghost use mathlib.Core.Path.{_≡_};
 ghost use mathlib.Core.Logic.{_↔_};
 ghost use lib.ListN.{length};
@@ -68,6 +69,13 @@ pub const FIRST_ENTRY_WORDS: usize = 5;
 
 // The most nodes of a plan.
 pub const MOST_NODES: u8 = 32;
+
+// The most bytes of a file in each edition, with 32 nodes of 64 entries: 41,224 and 49,416.
+pub const MOST_FIRST: usize = HEADER_BYTES
+    + MOST_NODES as usize * (ROW_BYTES + MOST_ENTRIES * FIRST_ENTRY_BYTES);
+
+pub const MOST_SECOND: usize = HEADER_BYTES
+    + MOST_NODES as usize * (ROW_BYTES + MOST_ENTRIES * SECOND_ENTRY_BYTES);
 
 // A row of the contents without its offset.
 pub struct Row {

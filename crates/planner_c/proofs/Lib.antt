@@ -4,3 +4,4 @@ pub mod Mapping
 pub mod Checking
 pub mod Writing
 pub mod FileMap
+pub mod Converted

@@ -2,7 +2,6 @@ use Prim.Native.Nat.{_*_}
 use mathlib.Core.Path.{ap}
 use native.Mathlib.Omega.{arith}
 use borrow.Author.Needs.{needs}
-use Rattle.plan_file.specs.declared.Edition.{Edition}
 use Rattle.plan_file.specs.Encoding.{entryLength}
 use Rattle.converter.specs.Conversion.{other}
 use Rattle.converter.proofs.put_bodies.Statement.{statement}

@@ -1,0 +1,2 @@
+-- Laws for the proofs of functions.
+pub mod Writes

@@ -1,0 +1,3 @@
+-- What a reader of the program must believe.
+pub mod Direction
+pub mod Output
