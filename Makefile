@@ -1,8 +1,8 @@
 PLAN ?= samples/p.plan
 # Passed through the environment, so that the shell takes any name as one word.
-export PLAN
+export PLAN WAY FROM TO
 
-.PHONY: list test bench fuzz mutants wrong samples fmt
+.PHONY: list carry test bench fuzz mutants wrong samples fmt
 
 # Proves and builds the listing program, unless that is already done, and lists a plan file.
 list:
@@ -16,6 +16,23 @@ list:
 	@mkdir -p target
 	@rt check list_plan >target/list.log 2>&1 || { tail -n 20 target/list.log >&2; exit 1; }
 	@target/bin/list_plan <"$$PLAN"
+
+# Converts the plan file FROM to the other edition, as the file TO: WAY=forward to the second, WAY=back to the first. The new
+# file is written beside TO and takes its name only when it is complete, so that TO stays as it was if the plan is refused.
+carry:
+	@problem=; \
+	if test "$$WAY" != forward && test "$$WAY" != back; then problem='say WAY=forward or WAY=back'; \
+	elif test -z "$$FROM"; then problem='FROM is empty; name a plan file, as in FROM=samples/p.plan'; \
+	elif test ! -e "$$FROM"; then problem="there is no file '$$FROM'"; \
+	elif test -d "$$FROM"; then problem="'$$FROM' is a directory"; \
+	elif test ! -r "$$FROM"; then problem="'$$FROM' cannot be read"; \
+	elif test -z "$$TO"; then problem='TO is empty; name the file to be written'; \
+	elif test -d "$$TO"; then problem="'$$TO' is a directory"; \
+	fi; \
+	if test -n "$$problem"; then printf 'make carry: %s\n' "$$problem" >&2; exit 1; fi
+	@mkdir -p target
+	@rt check carry_plan >target/carry.log 2>&1 || { tail -n 20 target/carry.log >&2; exit 1; }
+	@tools/carry "$$WAY" "$$FROM" "$$TO"
 
 # Everything that is proved and tested.
 test:
