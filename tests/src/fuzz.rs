@@ -4,12 +4,14 @@
 //! Files with a new kind of answer are kept and changed further.
 
 use crate::compare;
+use crate::compare::convert::Ways;
 use crate::corpus;
 use crate::file::{check, decode, encode};
 use crate::gen::budget;
 use crate::gen::ops::sequence;
-use crate::gen::plans;
+use crate::gen::plans::{self, in_edition, punctual};
 use crate::listing::list;
+use crate::model::Edition;
 use crate::mutate::mutate;
 use crate::rng::Rng;
 use crate::tally::Tally;
@@ -29,6 +31,7 @@ pub struct Fuzz {
     files: u64,
     sequences: u64,
     tally: Tally,
+    conversions: Ways,
     sessions: Tally,
 }
 
@@ -53,7 +56,12 @@ impl Fuzz {
             plans::at_limits,
         ] {
             for _ in 0..5 {
-                pool.push(encode(&draw(&mut rng)).expect("a good plan"));
+                let plan = draw(&mut rng);
+                // Without J it goes forward and back.
+                let second = in_edition(&punctual(plan.clone()), Edition::Second);
+                for plan in [plan, second] {
+                    pool.push(encode(&plan).expect("a good plan"));
+                }
             }
         }
         Fuzz {
@@ -63,6 +71,7 @@ impl Fuzz {
             files: 0,
             sequences: 0,
             tally: Tally::default(),
+            conversions: Ways::default(),
             sessions: Tally::default(),
         }
     }
@@ -95,6 +104,11 @@ impl Fuzz {
         &self.tally
     }
 
+    /// The answers of the conversions of files.
+    pub fn conversions(&self) -> &Ways {
+        &self.conversions
+    }
+
     /// The answers for session operations.
     pub fn sessions(&self) -> &Tally {
         &self.sessions
@@ -120,8 +134,12 @@ impl Fuzz {
         );
         let file = mutate(&mut self.rng, &self.pool[one], &self.pool[other]);
         self.files += 1;
-        let tally = &mut self.tally;
-        let compared = panic::catch_unwind(AssertUnwindSafe(|| compare::file(tally, &file)));
+        let (tally, ways) = (&mut self.tally, &mut self.conversions);
+        let rng = &mut self.rng;
+        let compared = panic::catch_unwind(AssertUnwindSafe(|| {
+            compare::file(tally, &file);
+            compare::convert::both(ways, rng, &file);
+        }));
         if compared.is_err() {
             return Err(Difference {
                 end: "plan",
@@ -149,6 +167,7 @@ impl fmt::Display for Fuzz {
     fn fmt(&self, f: &mut fmt::Formatter<'_>) -> fmt::Result {
         let (files, kinds, sequences) = (self.files, self.kinds.len(), self.sequences);
         writeln!(f, "{files} files, {kinds} kinds of answers: {}", self.tally)?;
+        writeln!(f, "conversions of these files: {}", self.conversions)?;
         write!(
             f,
             "{sequences} sequences of session operations: {}",

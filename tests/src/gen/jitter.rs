@@ -1,6 +1,6 @@
 //! Release jitter for generated entries, within the limits.
 
-use crate::model::Entry;
+use crate::model::{Entry, Plan};
 use crate::rng::Rng;
 
 /// How the entries of a node get their J.
@@ -75,6 +75,18 @@ pub fn thirds(mut entries: Vec<Entry>) -> Vec<Entry> {
         entry.j = third(entry);
     }
     entries
+}
+
+/// Row and position of the first entry with J.
+pub fn first_late(plan: &Plan) -> Option<(usize, usize)> {
+    let places = plan.nodes.iter().enumerate().flat_map(|(row, node)| {
+        let entries = node.entries.iter().enumerate();
+        entries.map(move |(position, entry)| (row, position, entry.j))
+    });
+    places
+        .filter(|&(_, _, j)| j > 0)
+        .map(|(row, position, _)| (row, position))
+        .next()
 }
 
 /// Any J of an entry, often 0.

@@ -4,6 +4,7 @@ use std::fmt::Display;
 use std::io::Write;
 
 mod calls;
+mod converting;
 mod examples;
 mod files;
 mod generators;
