@@ -1,6 +1,6 @@
 //! Files from one edition into the other.
 
-use super::{check, edition, load, Entry};
+use super::{check, edition, entry, Entry};
 
 /// Converts a file of the first edition into one of the second, with every J 0,
 /// and returns its length.
@@ -9,7 +9,7 @@ pub fn convert_forward(file: &[u8], out: &mut [u8]) -> Option<usize> {
     if !check(file) || edition(file)? != (20, 1) {
         return None;
     }
-    convert::<24>(file, b"LMP2", out)
+    convert::<20, 24>(file, b"LMP2", out)
 }
 
 /// Converts a file of the second edition into one of the first, unless an entry
@@ -20,36 +20,37 @@ pub fn convert_back(file: &[u8], out: &mut [u8]) -> Option<usize> {
         return None;
     }
     let bodies = &file[8 + usize::from(file[4]) * 8..];
-    let mut entries = bodies.as_chunks::<24>().0.iter().map(super::entry);
+    let mut entries = bodies.as_chunks::<24>().0.iter().map(entry);
     if entries.any(|entry| entry.j > 0) {
         return None;
     }
-    convert::<20>(file, b"LMP1", out)
+    convert::<24, 20>(file, b"LMP1", out)
 }
 
-/// Writes the nodes of an accepted file with this opening and entries of N
-/// bytes.
-fn convert<const N: usize>(file: &[u8], opening: &[u8; 4], out: &mut [u8]) -> Option<usize> {
-    let nodes = usize::from(file[4]);
-    let rows = file[8..8 + nodes * 8].as_chunks::<8>().0;
-    let count: usize = rows.iter().map(|row| usize::from(row[3])).sum();
-    let mut offset = 8 + nodes * 8;
-    let out = out.get_mut(..offset + count * N)?;
+/// Writes the nodes of an accepted file, with entries of M bytes, with this
+/// opening and entries of N bytes.
+fn convert<const M: usize, const N: usize>(
+    file: &[u8],
+    opening: &[u8; 4],
+    out: &mut [u8],
+) -> Option<usize> {
+    let contents = 8 + usize::from(file[4]) * 8;
+    let (rows, entries) = (&file[8..contents], file[contents..].as_chunks::<M>().0);
+    let out = out.get_mut(..contents + entries.len() * N)?;
     out[..4].copy_from_slice(opening);
-    out[4..8].copy_from_slice(&[nodes as u8, 0, 0, 0]);
-    for (row, at) in (8..).step_by(8).take(nodes).enumerate() {
-        let node = load(file, row);
-        out[at..at + 2].copy_from_slice(&node.number.to_le_bytes());
-        out[at + 2] = node.levels;
-        out[at + 3] = node.count as u8;
-        out[at + 4..at + 8].copy_from_slice(&(offset as u32).to_le_bytes());
-        let body = out[offset..].as_chunks_mut::<N>().0;
-        for (target, entry) in body.iter_mut().zip(&node.entries[..node.count]) {
-            put_entry(target, entry);
-        }
-        offset += node.count * N;
+    out[4..8].copy_from_slice(&file[4..8]);
+    let mut offset = contents as u32;
+    let targets = out[8..contents].as_chunks_mut::<8>().0;
+    for (target, row) in targets.iter_mut().zip(rows.as_chunks::<8>().0) {
+        target[..4].copy_from_slice(&row[..4]);
+        target[4..].copy_from_slice(&offset.to_le_bytes());
+        offset += u32::from(row[3]) * N as u32;
     }
-    Some(offset)
+    let targets = out[contents..].as_chunks_mut::<N>().0;
+    for (target, bytes) in targets.iter_mut().zip(entries) {
+        put_entry(target, &entry(bytes));
+    }
+    Some(out.len())
 }
 
 /// Writes an entry; in 20 bytes there is no room for J.
