@@ -11,6 +11,7 @@ use oracle::listing::list;
 use oracle::model::{Edition, Entry, Node, Plan, MAX_ENTRIES, MAX_NODES, SECTION};
 use oracle::options::{rng, times};
 use oracle::refusal::{Refusal, BUFFER, JITTER, JITTER_LOST, OPENING};
+use oracle::rng::Rng;
 
 /// The example of docs/SPEC.md.
 const P: &str = "
@@ -210,51 +211,57 @@ fn jitter_beyond_its_limit_is_14() {
     }
 }
 
+/// A small plan with an entry that has J, the same without J, and the latter in
+/// the first edition.
+fn three_plans(rng: &mut Rng) -> [Plan; 3] {
+    let late = plans::late(rng);
+    let first = punctual(late.clone());
+    [late, in_edition(&first, Edition::Second), first]
+}
+
+/// Asserts the refusal of a file, and that it leaves a buffer as it was: one
+/// without any room, and one that always suffices.
+fn assert_refused(from: Edition, file: &[u8], due: Refusal) {
+    for room in [0, longest(Edition::Second)] {
+        let mut buffer = known(room);
+        assert_eq!(convert(from, file, &mut buffer), Err(due), "{file:?}");
+        assert_eq!(buffer, known(room));
+    }
+}
+
 /// The file's own checks come before 2, 15 and 10, whatever the edition.
-///
-/// 2 and 15 never meet: 15 is a check of the way back alone, and there a file
-/// of the wrong edition is of the first, in which every J is 0.
 #[test]
-fn own_checks_then_2_then_15_then_10() {
+fn own_checks_come_first() {
     let mut rng = rng(402);
     for _ in 0..times(100) {
-        let late = plans::late(&mut rng);
-        let (row, at) = first_late(&late).expect("an entry has J");
-        let on_time = in_edition(&punctual(late.clone()), Edition::Second);
-        let first = punctual(late.clone());
-        for plan in [&late, &on_time, &first] {
+        for plan in three_plans(&mut rng) {
             for aim in AIMS {
-                let damaged = damage(&mut rng, plan, &[aim]);
+                let damaged = damage(&mut rng, &plan, &[aim]);
                 for from in Edition::BOTH {
-                    for room in [0, longest(Edition::Second)] {
-                        let mut buffer = known(room);
-                        let answer = convert(from, &damaged.file, &mut buffer);
-                        assert_eq!(answer, Err(damaged.due), "{aim:?} in {plan:?}");
-                        assert_eq!(buffer, known(room));
-                    }
+                    assert_refused(from, &damaged.file, damaged.due);
                 }
             }
         }
-        for (from, plan, due) in [
-            (Edition::First, &late, Refusal::plain(OPENING)),
-            (Edition::First, &on_time, Refusal::plain(OPENING)),
-            (Edition::Second, &first, Refusal::plain(OPENING)),
-            (
-                Edition::Second,
-                &late,
-                Refusal::at_entry(JITTER_LOST, row, at),
-            ),
-        ] {
-            let file = encode(plan).unwrap();
-            for room in [0, longest(Edition::Second)] {
-                let mut buffer = known(room);
-                assert_eq!(convert(from, &file, &mut buffer), Err(due), "{plan:?}");
-                assert_eq!(buffer, known(room));
-            }
-        }
-        for (from, plan) in [(Edition::First, &first), (Edition::Second, &on_time)] {
-            let file = encode(plan).unwrap();
-            let answer = convert(from, &file, &mut []);
+    }
+}
+
+/// 2 and 15 never meet: 15 is a check of the way back alone, and there a file of
+/// the wrong edition is of the first, in which every J is 0.
+#[test]
+fn then_2_then_15_then_10() {
+    let mut rng = rng(403);
+    let wrong = Refusal::plain(OPENING);
+    for _ in 0..times(100) {
+        let plans = three_plans(&mut rng);
+        let (row, at) = first_late(&plans[0]).expect("an entry has J");
+        let [late, second, first] = plans.map(|plan| encode(&plan).unwrap());
+        assert_refused(Edition::First, &late, wrong);
+        assert_refused(Edition::First, &second, wrong);
+        assert_refused(Edition::Second, &first, wrong);
+        let lost = Refusal::at_entry(JITTER_LOST, row, at);
+        assert_refused(Edition::Second, &late, lost);
+        for (from, file) in [(Edition::First, &first), (Edition::Second, &second)] {
+            let answer = convert(from, file, &mut []);
             assert_eq!(answer, Err(Refusal::plain(BUFFER)));
         }
     }
