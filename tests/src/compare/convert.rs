@@ -77,8 +77,8 @@ pub fn rooms_of(from: Edition, file: &[u8]) -> impl Iterator<Item = usize> {
     rooms(needed(from, file)).into_iter().chain([most])
 }
 
-/// Bytes of the converted file, if it is not refused; those of an accepted file
-/// with its entries in the other edition are the ones that 10 would ask for.
+/// Bytes that the plan of an accepted file has in the edition that it would be
+/// converted into; of a refused file, its own length.
 pub fn needed(from: Edition, file: &[u8]) -> usize {
     match file::decode(file) {
         Ok(plan) => {

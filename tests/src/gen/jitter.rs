@@ -1,6 +1,6 @@
 //! Release jitter for generated entries, within the limits.
 
-use crate::model::{Entry, Plan};
+use crate::model::{Entry, Node, Plan};
 use crate::rng::Rng;
 
 /// How the entries of a node get their J.
@@ -79,14 +79,9 @@ pub fn thirds(mut entries: Vec<Entry>) -> Vec<Entry> {
 
 /// Row and position of the first entry with J.
 pub fn first_late(plan: &Plan) -> Option<(usize, usize)> {
-    let places = plan.nodes.iter().enumerate().flat_map(|(row, node)| {
-        let entries = node.entries.iter().enumerate();
-        entries.map(move |(position, entry)| (row, position, entry.j))
-    });
-    places
-        .filter(|&(_, _, j)| j > 0)
-        .map(|(row, position, _)| (row, position))
-        .next()
+    let late = |node: &Node| node.entries.iter().position(|entry| entry.j > 0);
+    let mut rows = plan.nodes.iter().enumerate();
+    rows.find_map(|(row, node)| Some((row, late(node)?)))
 }
 
 /// Any J of an entry, often 0.

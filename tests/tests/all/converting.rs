@@ -281,7 +281,7 @@ fn fields_at_their_limits() {
     let nodes = (0..MAX_NODES as u16).map(|row| Node {
         number: u16::MAX - 31 + row,
         levels: 64,
-        entries: vec![most, section].repeat(MAX_ENTRIES / 2),
+        entries: [most, section].repeat(MAX_ENTRIES / 2),
     });
     let plan = Plan::first(nodes.collect());
     let [first, second] = Edition::BOTH.map(|e| encode(&in_edition(&plan, e)).unwrap());
