@@ -8,10 +8,11 @@ use crate::compare::convert::Ways;
 use crate::corpus;
 use crate::file::{check, decode, encode};
 use crate::gen::budget;
+use crate::gen::jitter::thirds;
 use crate::gen::ops::sequence;
 use crate::gen::plans::{self, in_edition, punctual};
 use crate::listing::list;
-use crate::model::Edition;
+use crate::model::{Edition, Plan};
 use crate::mutate::mutate;
 use crate::rng::Rng;
 use crate::tally::Tally;
@@ -56,12 +57,8 @@ impl Fuzz {
             plans::at_limits,
         ] {
             for _ in 0..5 {
-                let plan = draw(&mut rng);
-                // Without J it goes forward and back.
-                let second = in_edition(&punctual(plan.clone()), Edition::Second);
-                for plan in [plan, second] {
-                    pool.push(encode(&plan).expect("a good plan"));
-                }
+                let plans = for_both_ways(draw(&mut rng));
+                pool.extend(plans.map(|plan| encode(&plan).expect("a good plan")));
             }
         }
         Fuzz {
@@ -174,6 +171,18 @@ impl fmt::Display for Fuzz {
             self.sessions
         )
     }
+}
+
+/// The plan, the same without J in both editions, which goes forward and back,
+/// and the same with J, which does not go back.
+fn for_both_ways(plan: Plan) -> [Plan; 4] {
+    let first = punctual(plan.clone());
+    let second = in_edition(&first, Edition::Second);
+    let mut late = second.clone();
+    for node in &mut late.nodes {
+        node.entries = thirds(node.entries.clone());
+    }
+    [plan, first, second, late]
 }
 
 /// The kind of an answer: the refusal with its places, or the levels that each

@@ -29,7 +29,7 @@ fn a_short_run() {
             assert!(ways.met(number) >= times(300), "{number}: {ways}");
         }
     }
-    assert!(back.met(15) >= times(1_000), "{back}");
+    assert!(back.met(15) >= times(900), "{back}");
     for number in [4, 7, 8, 10, 11, 12, 13, 14] {
         assert!(sessions.met(number) >= times(250), "{number}: {sessions}");
     }
