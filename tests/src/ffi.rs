@@ -4,7 +4,6 @@
 //! the form of the second implementation.
 
 pub mod session;
-mod stand_in;
 
 use crate::model::Edition;
 use crate::refusal::{Refusal, NUMBERS};
