@@ -87,7 +87,7 @@ fn longest(table: &mut Table, rng: &mut Rng, edition: Edition) -> Option<String>
     let converted = table.row(&Converting::of(plan, edition, name));
     let ratio = converted? / read?;
     Some(format!(
-        "Converting the longest plan {way} takes {ratio:.2} times as long as reading it (goal: at most 2.00)."
+        "converting the longest plan {way}: {ratio:.2} of the time of reading it, goal 2.00 or less"
     ))
 }
 
