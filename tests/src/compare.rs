@@ -4,6 +4,7 @@
 //! Each buffer is lent with known contents, so a byte written beyond the
 //! result, or by a refused call, is found.
 
+pub mod convert;
 pub mod session;
 
 use crate::ffi;

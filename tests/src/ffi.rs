@@ -50,6 +50,20 @@ extern "C" {
         text_length: usize,
         values: *mut Values,
     ) -> u32;
+    fn maiplur_convert_forward(
+        file: *const u8,
+        file_length: usize,
+        out: *mut u8,
+        out_length: usize,
+        values: *mut Values,
+    ) -> u32;
+    fn maiplur_convert_back(
+        file: *const u8,
+        file_length: usize,
+        out: *mut u8,
+        out_length: usize,
+        values: *mut Values,
+    ) -> u32;
 }
 
 /// Accepts a plan file, or refuses it.
@@ -139,6 +153,40 @@ pub fn list(file: &[u8], text: &mut [u8]) -> Result<usize, Refusal> {
             file.len(),
             text.as_mut_ptr(),
             text.len(),
+            &mut values,
+        )
+    };
+    one(answer(number, values)?)
+}
+
+/// Converts a first-edition file into the second edition, and returns the new
+/// length.
+pub fn convert_forward(file: &[u8], out: &mut [u8]) -> Result<usize, Refusal> {
+    let mut values = [UNSET; 3];
+    // SAFETY: as above.
+    let number = unsafe {
+        maiplur_convert_forward(
+            file.as_ptr(),
+            file.len(),
+            out.as_mut_ptr(),
+            out.len(),
+            &mut values,
+        )
+    };
+    one(answer(number, values)?)
+}
+
+/// Converts a second-edition file without J into the first edition, and returns
+/// the new length.
+pub fn convert_back(file: &[u8], out: &mut [u8]) -> Result<usize, Refusal> {
+    let mut values = [UNSET; 3];
+    // SAFETY: as above.
+    let number = unsafe {
+        maiplur_convert_back(
+            file.as_ptr(),
+            file.len(),
+            out.as_mut_ptr(),
+            out.len(),
             &mut values,
         )
     };

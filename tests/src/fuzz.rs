@@ -4,12 +4,15 @@
 //! Files with a new kind of answer are kept and changed further.
 
 use crate::compare;
+use crate::compare::convert::Ways;
 use crate::corpus;
 use crate::file::{check, decode, encode};
 use crate::gen::budget;
+use crate::gen::jitter::thirds;
 use crate::gen::ops::sequence;
-use crate::gen::plans;
+use crate::gen::plans::{self, in_edition, punctual};
 use crate::listing::list;
+use crate::model::{Edition, Plan};
 use crate::mutate::mutate;
 use crate::rng::Rng;
 use crate::tally::Tally;
@@ -29,6 +32,7 @@ pub struct Fuzz {
     files: u64,
     sequences: u64,
     tally: Tally,
+    conversions: Ways,
     sessions: Tally,
 }
 
@@ -53,7 +57,8 @@ impl Fuzz {
             plans::at_limits,
         ] {
             for _ in 0..5 {
-                pool.push(encode(&draw(&mut rng)).expect("a good plan"));
+                let plans = for_both_ways(draw(&mut rng));
+                pool.extend(plans.map(|plan| encode(&plan).expect("a good plan")));
             }
         }
         Fuzz {
@@ -63,6 +68,7 @@ impl Fuzz {
             files: 0,
             sequences: 0,
             tally: Tally::default(),
+            conversions: Ways::default(),
             sessions: Tally::default(),
         }
     }
@@ -95,6 +101,11 @@ impl Fuzz {
         &self.tally
     }
 
+    /// The answers of the conversions of files.
+    pub fn conversions(&self) -> &Ways {
+        &self.conversions
+    }
+
     /// The answers for session operations.
     pub fn sessions(&self) -> &Tally {
         &self.sessions
@@ -120,8 +131,12 @@ impl Fuzz {
         );
         let file = mutate(&mut self.rng, &self.pool[one], &self.pool[other]);
         self.files += 1;
-        let tally = &mut self.tally;
-        let compared = panic::catch_unwind(AssertUnwindSafe(|| compare::file(tally, &file)));
+        let (tally, ways) = (&mut self.tally, &mut self.conversions);
+        let rng = &mut self.rng;
+        let compared = panic::catch_unwind(AssertUnwindSafe(|| {
+            compare::file(tally, &file);
+            compare::convert::both(ways, rng, &file);
+        }));
         if compared.is_err() {
             return Err(Difference {
                 end: "plan",
@@ -149,12 +164,25 @@ impl fmt::Display for Fuzz {
     fn fmt(&self, f: &mut fmt::Formatter<'_>) -> fmt::Result {
         let (files, kinds, sequences) = (self.files, self.kinds.len(), self.sequences);
         writeln!(f, "{files} files, {kinds} kinds of answers: {}", self.tally)?;
+        writeln!(f, "conversions of these files: {}", self.conversions)?;
         write!(
             f,
             "{sequences} sequences of session operations: {}",
             self.sessions
         )
     }
+}
+
+/// The plan, the same without J in both editions, which goes forward and back,
+/// and the same with J, which does not go back.
+fn for_both_ways(plan: Plan) -> [Plan; 4] {
+    let first = punctual(plan.clone());
+    let second = in_edition(&first, Edition::Second);
+    let mut late = second.clone();
+    for node in &mut late.nodes {
+        node.entries = thirds(node.entries.clone());
+    }
+    [plan, first, second, late]
 }
 
 /// The kind of an answer: the refusal with its places, or the levels that each

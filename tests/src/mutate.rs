@@ -43,7 +43,7 @@ fn change(rng: &mut Rng, file: &mut Vec<u8>, other: &[u8]) {
         return;
     }
     let at = rng.index(file.len());
-    match rng.below(10) {
+    match rng.below(11) {
         0 => file[at] = rng.word() as u8,
         1 => file[at] ^= 1 << rng.below(8),
         2 => file[at] = rng.pick(&TELLING) as u8,
@@ -56,6 +56,7 @@ fn change(rng: &mut Rng, file: &mut Vec<u8>, other: &[u8]) {
         }
         7 => change_edition(file),
         8 => change_jitter(rng, file),
+        9 => clear_jitter(file),
         _ => take_over(rng, file, other),
     }
 }
@@ -70,21 +71,35 @@ fn change_edition(file: &mut [u8]) {
     }
 }
 
-/// Sets J of an entry of the second edition to D - C, or a tick more or less.
+/// Sets J of an entry of the second edition to D - C, a tick more or less, or
+/// one tick.
 fn change_jitter(rng: &mut Rng, file: &mut [u8]) {
-    if file.len() < HEAD_BYTES || edition_of(file) != Some(Edition::Second) {
-        return;
-    }
-    let bodies = contents_end(usize::from(file[4])).min(file.len());
-    let entries = file[bodies..].as_chunks_mut::<SECOND_ENTRY>().0;
+    let entries = second_entries(file);
     if entries.is_empty() {
         return;
     }
     let at = rng.index(entries.len());
     let words = entries[at].as_chunks_mut::<4>().0;
     let [c, d] = [1, 3].map(|field| u32::from_le_bytes(words[field]));
-    let j = d.wrapping_sub(c).wrapping_add(rng.pick(&[0, 1, u32::MAX]));
+    let most = d.wrapping_sub(c);
+    let j = rng.pick(&[most, most.wrapping_add(1), most.wrapping_sub(1), 1]);
     words[5] = j.to_le_bytes();
+}
+
+/// Sets every J of the second edition to 0.
+fn clear_jitter(file: &mut [u8]) {
+    for entry in second_entries(file) {
+        entry[FIRST_ENTRY..].fill(0);
+    }
+}
+
+/// The entries of a file of the second edition; of another, none.
+fn second_entries(file: &mut [u8]) -> &mut [[u8; SECOND_ENTRY]] {
+    if file.len() < HEAD_BYTES || edition_of(file) != Some(Edition::Second) {
+        return &mut [];
+    }
+    let bodies = contents_end(usize::from(file[4])).min(file.len());
+    file[bodies..].as_chunks_mut().0
 }
 
 fn put_word(file: &mut [u8], at: usize, value: u32) {

@@ -6,7 +6,10 @@
 //! its time is measured, and its answers are compared. [`crate::tuned`] is the
 //! other program to compare with.
 
+mod convert;
 pub mod session;
+
+pub use convert::{convert_back, convert_forward};
 
 use std::io::Write;
 

@@ -30,13 +30,15 @@ pub const POSITION: u8 = 12;
 pub const FULL: u8 = 13;
 /// J is outside its range, or has no room in the edition to be written.
 pub const JITTER: u8 = 14;
+/// A conversion into the first edition would lose a J above zero.
+pub const JITTER_LOST: u8 = 15;
 /// How many numbers there are.
-pub const NUMBERS: u8 = 14;
+pub const NUMBERS: u8 = 15;
 
 /// Why a call was refused, and where.
 #[derive(Clone, Copy, Debug, PartialEq, Eq, Hash)]
 pub struct Refusal {
-    /// The number in the table, 1 to 14.
+    /// The number in the table, 1 to 15.
     pub number: u8,
     /// Row of the contents, from 0.
     pub row: usize,

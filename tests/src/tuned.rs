@@ -6,6 +6,7 @@
 //! implementation. It reads entries in place, in the bytes of a file or in the
 //! words of a session, and copies only what it must.
 
+mod convert;
 mod entry;
 mod file;
 mod listing;
@@ -14,6 +15,7 @@ pub mod session;
 mod text;
 mod timing;
 
+pub use convert::{convert_back, convert_forward};
 pub use file::{check, read, write};
 pub use listing::list;
 pub use map::map;

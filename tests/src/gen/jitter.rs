@@ -1,6 +1,6 @@
 //! Release jitter for generated entries, within the limits.
 
-use crate::model::Entry;
+use crate::model::{Entry, Node, Plan};
 use crate::rng::Rng;
 
 /// How the entries of a node get their J.
@@ -75,6 +75,13 @@ pub fn thirds(mut entries: Vec<Entry>) -> Vec<Entry> {
         entry.j = third(entry);
     }
     entries
+}
+
+/// Row and position of the first entry with J.
+pub fn first_late(plan: &Plan) -> Option<(usize, usize)> {
+    let late = |node: &Node| node.entries.iter().position(|entry| entry.j > 0);
+    let mut rows = plan.nodes.iter().enumerate();
+    rows.find_map(|(row, node)| Some((row, late(node)?)))
 }
 
 /// Any J of an entry, often 0.

@@ -188,6 +188,16 @@ pub fn punctual(mut plan: Plan) -> Plan {
     Plan::first(plan.nodes)
 }
 
+/// A small plan of the second edition in which an entry has J.
+pub fn late(rng: &mut Rng) -> Plan {
+    loop {
+        let plan = small(rng);
+        if !plan.is_punctual() {
+            return plan;
+        }
+    }
+}
+
 /// A plan of either edition; `draw` draws the entries of a node, with the given
 /// jitter.
 fn plan(rng: &mut Rng, nodes: usize, draw: impl FnMut(&mut Rng, Jitter) -> Vec<Entry>) -> Plan {

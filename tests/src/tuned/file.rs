@@ -5,7 +5,7 @@ use crate::model::Edition;
 use crate::refusal::{Refusal, BUFFER, COUNT, CUT_OFF, JITTER, LENGTH, OFFSET, OPENING, ROW};
 
 /// Bytes before the contents.
-const HEAD: usize = 8;
+pub const HEAD: usize = 8;
 /// Most nodes of a plan.
 const MOST_NODES: usize = 32;
 
@@ -122,6 +122,16 @@ impl<'a, E: InFile> Plan<'a, E> {
         self.entries.len()
     }
 
+    /// The entries of all nodes.
+    pub fn entries(&self) -> &'a [E] {
+        self.entries
+    }
+
+    /// Each row without its offset, as a word.
+    pub fn row_words(&self) -> impl ExactSizeIterator<Item = u32> + 'a {
+        self.rows.iter().map(|bytes| words_of(bytes)[0])
+    }
+
     /// Each row with its entries.
     pub fn nodes(&self) -> impl Iterator<Item = (Row, &'a [E])> {
         let mut rest = self.entries;
@@ -199,7 +209,7 @@ pub fn write(edition: u32, rows: &[u32], words: &[u32], file: &mut [u8]) -> Resu
     let length = bodies + entries.len() * size;
     let file = file.get_mut(..length).ok_or(Refusal::plain(BUFFER))?;
     let (contents, bodies) = file.split_at_mut(bodies);
-    put_contents(opening, rows, contents, size);
+    put_contents(opening, rows.iter().copied(), contents, size);
     match edition {
         Edition::First => put_entries::<20>(entries, bodies),
         Edition::Second => put_entries::<24>(entries, bodies),
@@ -208,15 +218,20 @@ pub fn write(edition: u32, rows: &[u32], words: &[u32], file: &mut [u8]) -> Resu
 }
 
 /// Writes head and rows.
-fn put_contents(opening: &[u8; 4], rows: &[u32], contents: &mut [u8], size: usize) {
+pub fn put_contents(
+    opening: &[u8; 4],
+    rows: impl ExactSizeIterator<Item = u32>,
+    contents: &mut [u8],
+    size: usize,
+) {
     let mut offset = contents.len() as u32;
     let (head, contents) = contents.split_at_mut(HEAD);
     head[..4].copy_from_slice(opening);
     head[4..].copy_from_slice(&[rows.len() as u8, 0, 0, 0]);
     for (target, word) in contents.as_chunks_mut().0.iter_mut().zip(rows) {
-        let both: u64 = u64::from(*word) | u64::from(offset) << 32;
+        let both: u64 = u64::from(word) | u64::from(offset) << 32;
         *target = both.to_le_bytes();
-        offset += (*word >> 24) * size as u32;
+        offset += (word >> 24) * size as u32;
     }
 }
 

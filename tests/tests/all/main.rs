@@ -4,6 +4,7 @@ use std::fmt::Display;
 use std::io::Write;
 
 mod calls;
+mod converting;
 mod examples;
 mod files;
 mod generators;
@@ -11,6 +12,7 @@ mod jitter;
 mod listing;
 mod mapping;
 mod odd;
+mod proved_converting;
 mod proved_counts;
 mod proved_damage;
 mod proved_editions;

@@ -7,6 +7,7 @@ use oracle::compare;
 use oracle::ffi;
 use oracle::file::{contents_end, decode, edition_of, encode, entry_length, longest, row_at};
 use oracle::gen::damage::truncations;
+use oracle::gen::jitter::first_late;
 use oracle::gen::plans::{self, drawn_in, in_edition, punctual};
 use oracle::model::{Edition, Entry, Node, Plan, MAX_ENTRIES, MAX_NODES};
 use oracle::options::{rng, times};
@@ -78,9 +79,7 @@ fn jitter_has_no_room_in_the_first_edition() {
     let (mut rng, mut tally) = (rng(362), Tally::default());
     for _ in 0..times(2_000) {
         let plan = plans::any(&mut rng);
-        let late = |node: &Node| node.entries.iter().position(|entry| entry.j > 0);
-        let mut places = plan.nodes.iter().enumerate();
-        let first = places.find_map(|(row, node)| Some((row, late(node)?)));
+        let first = first_late(&plan);
         let (rows, entries, room) = (plan.rows(), plan.entries(), longest(Edition::First));
         let answer = compare::write(&mut tally, 1, &rows, &entries, room);
         match first {

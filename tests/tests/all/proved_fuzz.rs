@@ -22,6 +22,14 @@ fn a_short_run() {
     for number in (1..=11).chain([14]) {
         assert!(files.met(number) >= times(500), "{number}: {files}");
     }
+    let (forward, back) = (&fuzz.conversions().forward, &fuzz.conversions().back);
+    for ways in [forward, back] {
+        assert!(ways.accepted() >= times(500), "{ways}");
+        for number in (1..=8).chain([10, 14]) {
+            assert!(ways.met(number) >= times(300), "{number}: {ways}");
+        }
+    }
+    assert!(back.met(15) >= times(900), "{back}");
     for number in [4, 7, 8, 10, 11, 12, 13, 14] {
         assert!(sessions.met(number) >= times(250), "{number}: {sessions}");
     }

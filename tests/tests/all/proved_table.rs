@@ -2,7 +2,7 @@
 
 use oracle::cases;
 use oracle::ffi::session::Session;
-use oracle::ffi::{check, list, map, write};
+use oracle::ffi::{check, convert_back, convert_forward, list, map, write};
 use oracle::file::encode;
 use oracle::lent::SESSION_WORDS;
 use oracle::model::{Entry, Plan};
@@ -141,6 +141,27 @@ fn example_14_3_10_10_with_j_8() {
     session.words[5] = 8;
     assert_eq!(session.map(&mut [0]).map(|_| ()), due);
     assert_eq!(session.time(0, 0, 0).map(|_| ()), due);
+}
+
+#[test]
+fn example_15_p_with_j_12_sent_back() {
+    let file = cases::second_file(cases::jittered(cases::p(), 2, 12));
+    let mut buffer = [0xAA; 76];
+    let due = Err(Refusal::at_entry(15, 0, 2));
+    assert_eq!(convert_back(&file, &mut buffer), due);
+    assert_eq!(convert_back(&file, &mut []), due);
+    assert_eq!(buffer, [0xAA; 76]);
+    let (first, second) = (cases::file(cases::p()), cases::second_file(cases::p()));
+    assert_eq!(convert_back(&second, &mut buffer), Ok(76));
+    assert_eq!(buffer[..], first);
+    let mut buffer = [0xAA; 88];
+    assert_eq!(convert_forward(&first, &mut buffer), Ok(88));
+    assert_eq!(buffer[..], second);
+    // A file of the wrong edition is 2, and a short buffer 10.
+    assert_eq!(convert_forward(&second, &mut buffer), Err(PLAIN(2)));
+    assert_eq!(convert_back(&first, &mut buffer), Err(PLAIN(2)));
+    assert_eq!(convert_forward(&first, &mut buffer[1..]), Err(PLAIN(10)));
+    assert_eq!(buffer[..], second);
 }
 
 #[test]

@@ -1,13 +1,14 @@
 //! Each refusal number comes up many times; the run prints how often.
 
 use crate::say;
-use oracle::file::{check, encode, write};
+use oracle::file::{check, convert, encode, write};
 use oracle::gen::buffers::room;
 use oracle::gen::damage::{damage, AIMS};
 use oracle::gen::ops::{levels, next_op, Course};
 use oracle::gen::parts::{damage_parts, PART_AIMS};
 use oracle::gen::plans;
 use oracle::map::map_node;
+use oracle::model::Edition;
 use oracle::options::{rng, times};
 use oracle::refusal::NUMBERS;
 use oracle::rng::Rng;
@@ -29,6 +30,14 @@ fn note_writer(rng: &mut Rng, tally: &mut Tally) {
         let mut buffer = vec![0; parts.room];
         let (edition, rows) = (parts.edition, &parts.rows);
         let _ = tally.note(write(edition, rows, &parts.entries, &mut buffer));
+    }
+}
+
+fn note_conversions(rng: &mut Rng, tally: &mut Tally) {
+    let file = encode(&plans::late(rng)).expect("a good plan");
+    for from in Edition::BOTH {
+        let mut buffer = vec![0; room(rng, file.len())];
+        let _ = tally.note(convert(from, &file, &mut buffer));
     }
 }
 
@@ -61,6 +70,7 @@ fn every_number_is_met() {
     for _ in 0..times(200) {
         note_files(&mut rng, &mut tally);
         note_writer(&mut rng, &mut tally);
+        note_conversions(&mut rng, &mut tally);
         note_maps(&mut rng, &mut tally);
         note_session(&mut rng, Course::Short, 30, &mut tally);
     }

@@ -1,7 +1,7 @@
 //! The examples of the table of refusals, by name.
 
 use oracle::cases;
-use oracle::file::{check, encode, write};
+use oracle::file::{check, convert_back, encode, write};
 use oracle::map::map_node;
 use oracle::model::{Entry, Plan};
 use oracle::refusal::Refusal;
@@ -156,4 +156,16 @@ fn example_14_3_10_10_with_j_8() {
     assert_eq!(session.insert(0, node(7).entries[0]), Ok(()));
     assert_eq!(session.replace(0, node(8).entries[0]), due);
     assert_eq!(Session::holding(1, &node(8).entries).map(|_| ()), due);
+}
+
+#[test]
+fn example_15_p_with_j_12_sent_back() {
+    let file = cases::second_file(cases::jittered(cases::p(), 2, 12));
+    let mut buffer = [0xAA; 76];
+    let due = Err(Refusal::at_entry(15, 0, 2));
+    assert_eq!(convert_back(&file, &mut buffer), due);
+    assert_eq!(buffer, [0xAA; 76]);
+    let on_time = cases::second_file(cases::p());
+    assert_eq!(convert_back(&on_time, &mut buffer), Ok(76));
+    assert_eq!(buffer[..], cases::file(cases::p()));
 }

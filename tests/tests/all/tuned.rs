@@ -1,21 +1,23 @@
 //! Compares the tuned Rust of the benchmarks with the second implementation: a
 //! comparison of speed is worth nothing if the answers are wrong. Answers,
-//! refusals with their places, and every lent buffer are compared.
+//! refusals with their places, and every lent buffer are compared. Of the plain
+//! Rust, whose other calls the benchmarks compare, only the conversions are.
 
-use oracle::file::{self, encode, longest};
+use oracle::file::{self, contents_end, encode, entry_length, longest};
 use oracle::gen::budget;
 use oracle::gen::buffers::known;
 use oracle::gen::damage::{damage, truncations, AIMS};
 use oracle::gen::jitter::most;
 use oracle::gen::listings::long_listing;
 use oracle::gen::ops::sequence;
-use oracle::gen::plans;
+use oracle::gen::plans::{self, in_edition, punctual};
 use oracle::lent;
 use oracle::listing;
 use oracle::map::map_node;
 use oracle::model::{Edition, Entry, Plan, Row};
 use oracle::options::{rng, times};
-use oracle::refusal::{Refusal, BUFFER};
+use oracle::plain;
+use oracle::refusal::{Refusal, BUFFER, JITTER_LOST};
 use oracle::rng::Rng;
 use oracle::session::{Op, Reply};
 use oracle::tally::Tally;
@@ -55,6 +57,33 @@ fn compare_file(tally: &mut Tally, bytes: &[u8]) {
     if budget::plan_fits(&plan) {
         compare_list(bytes);
     }
+    for from in Edition::BOTH {
+        let entries = entries.len() * entry_length(from.other());
+        for room in rooms(contents_end(rows.len()) + entries) {
+            let _ = compare_convert(from, bytes, room);
+        }
+    }
+}
+
+fn compare_convert(from: Edition, bytes: &[u8], room: usize) -> Result<usize, Refusal> {
+    let mut due_buffer = known(room);
+    let due = file::convert(from, bytes, &mut due_buffer);
+    let (mut tuned_buffer, mut plain_buffer) = (known(room), known(room));
+    let (tuned, plain) = match from {
+        Edition::First => (
+            tuned::convert_forward(bytes, &mut tuned_buffer),
+            plain::convert_forward(bytes, &mut plain_buffer),
+        ),
+        Edition::Second => (
+            tuned::convert_back(bytes, &mut tuned_buffer),
+            plain::convert_back(bytes, &mut plain_buffer),
+        ),
+    };
+    assert_eq!(tuned, due, "out of {from:?}: {bytes:?}");
+    assert_eq!(plain, due.ok(), "out of {from:?}: {bytes:?}");
+    assert_eq!(tuned_buffer, due_buffer, "out of {from:?}: {bytes:?}");
+    assert_eq!(plain_buffer, due_buffer, "out of {from:?}: {bytes:?}");
+    due
 }
 
 fn compare_read(bytes: &[u8], row_room: usize, word_room: usize) {
@@ -137,6 +166,28 @@ fn plans_of_every_kind() {
         }
     }
     tally.assert_maps(times(1_500), times(1_000));
+}
+
+#[test]
+fn conversions() {
+    let (mut rng, mut tally) = (rng(344), Tally::default());
+    for _ in 0..times(300) {
+        let plan = plans::any(&mut rng);
+        let on_time = in_edition(&punctual(plan.clone()), Edition::Second);
+        for plan in [&plan, &on_time, &plans::late(&mut rng)] {
+            let file = encode(plan).expect("generators give good plans");
+            for from in Edition::BOTH {
+                for room in [0, file.len() / 2, longest(from.other())] {
+                    let _ = tally.note(compare_convert(from, &file, room));
+                }
+            }
+        }
+    }
+    let accepted = tally.accepted();
+    assert!(accepted > times(400), "{tally}");
+    for number in [2, BUFFER, JITTER_LOST] {
+        assert!(tally.met(number) > times(400), "{number}: {tally}");
+    }
 }
 
 #[test]

@@ -14,22 +14,23 @@ mod stations;
 
 use measure::Table;
 use oracle::ffi;
-use oracle::file::{edition_of, encode};
+use oracle::file::{decode, edition_of, encode};
 use oracle::gen::entries;
 use oracle::gen::plans;
 use oracle::listing::MOST_TEXT;
 use oracle::model::{Edition, Entry};
 use oracle::rng::Rng;
-use rows::{Checking, Listing, Mapping, Reading, Writing};
+use rows::{Checking, Converting, Listing, Mapping, Reading, Writing};
 use stations::{mapped_entries, one_node, station, Starts};
 
 /// Entries of a node of a station.
 const COUNT: usize = 12;
 
-fn files(table: &mut Table) {
+/// Files without jitter; returns what [`longest`] does.
+fn files(table: &mut Table) -> Option<String> {
     let mut rng = Rng::new(7);
     maps(table, &mut rng, Starts::Punctual);
-    longest(table, &mut rng, Edition::First);
+    let ratio = longest(table, &mut rng, Edition::First);
     let any = [1, 4, 8, 16, 32].map(|nodes| station(nodes, || entries::many(&mut rng, COUNT)));
     let mapped =
         [1, 4, 8, 16, 32].map(|nodes| station(nodes, || drawn(&mut rng, Starts::Punctual)));
@@ -39,17 +40,19 @@ fn files(table: &mut Table) {
     for file in [&any[0], &mapped[0], &mapped[4]] {
         table.row(&listing(file, Room::Exact));
     }
+    ratio
 }
 
 /// The same with entries that start late, in the second edition.
-fn late_files(table: &mut Table) {
+fn late_files(table: &mut Table) -> Option<String> {
     let mut rng = Rng::new(9);
     maps(table, &mut rng, Starts::Late);
-    longest(table, &mut rng, Edition::Second);
+    let ratio = longest(table, &mut rng, Edition::Second);
     for nodes in [1, 32] {
         let file = station(nodes, || drawn(&mut rng, Starts::Late));
         table.row(&listing(&file, Room::Any));
     }
+    ratio
 }
 
 /// The entries of a node of a station with a map.
@@ -67,16 +70,45 @@ fn maps(table: &mut Table, rng: &mut Rng, starts: Starts) {
     }
 }
 
-/// Checking, reading and writing the longest plan of an edition.
-fn longest(table: &mut Table, rng: &mut Rng, edition: Edition) {
-    let file = &encode(&plans::longest_in(rng, edition)).expect("a good plan");
+/// Checking, reading, writing and converting the longest plan of an edition.
+/// Returns how the times of converting and of reading compare.
+fn longest(table: &mut Table, rng: &mut Rng, edition: Edition) -> Option<String> {
+    let plan = plans::longest_in(rng, edition);
+    let file = &encode(&plan).expect("a good plan");
     let what = match edition {
         Edition::First => "the longest plan, 32 nodes of 64 entries",
         Edition::Second => "the longest plan of the second edition, 32 nodes of 64 entries",
     };
     table.row(&Checking { file, what });
-    table.row(&Reading { file, what });
+    let read = table.row(&Reading { file, what });
     table.row(&Writing::of(file, what));
+    let way = way(edition);
+    let name = format!("convert the longest plan {way}, 32 nodes of 64 entries");
+    let converted = table.row(&Converting::of(plan, edition, name));
+    let ratio = converted? / read?;
+    Some(format!(
+        "converting the longest plan {way}: {ratio:.2} of the time of reading it, goal 2.00 or less"
+    ))
+}
+
+/// The way out of an edition.
+fn way(from: Edition) -> &'static str {
+    match from {
+        Edition::First => "forward",
+        Edition::Second => "back",
+    }
+}
+
+/// Converting a station of 8 nodes both ways.
+fn conversions(table: &mut Table) {
+    let mut rng = Rng::new(11);
+    let file = station(8, || entries::many(&mut rng, COUNT));
+    for from in Edition::BOTH {
+        let plan = decode(&file).expect("a good plan");
+        let way = way(from);
+        let name = format!("convert a station of 8 nodes of {COUNT} entries {way}");
+        table.row(&Converting::of(plan, from, name));
+    }
 }
 
 /// How long a lent buffer is.
@@ -126,10 +158,14 @@ fn main() {
         }
     }
     let mut table = Table::new(&arguments);
-    files(&mut table);
+    let forward = files(&mut table);
+    conversions(&mut table);
     sessions::rows(&mut table);
-    late_files(&mut table);
+    let back = late_files(&mut table);
     sessions::late_rows(&mut table);
+    for ratio in [forward, back].into_iter().flatten() {
+        println!("\n{ratio}");
+    }
     odd::rounds(&mut Table::of_long_calls(&arguments), 8);
     if arguments.is_empty() {
         odd::families();

@@ -60,11 +60,12 @@ impl<'a> Table<'a> {
         }
     }
 
-    /// Compares the answers, then measures, and writes the line.
-    pub fn row<R: Row>(&mut self, row: &R) {
+    /// Compares the answers, then measures, and writes the line. Returns the
+    /// seconds of the proved library, unless the row is left out.
+    pub fn row<R: Row>(&mut self, row: &R) -> Option<f64> {
         let name = row.name();
         if !self.asked.is_empty() && !self.asked.iter().any(|part| name.contains(part)) {
-            return;
+            return None;
         }
         let all: [Run<R>; 3] = [run::<R, Proved>, run::<R, Tuned>, run::<R, Plain>];
         let mut lent = all.map(|run| {
@@ -88,7 +89,9 @@ impl<'a> Table<'a> {
                 best[who] = best[who].min(seconds / f64::from(calls[who]));
             }
         }
-        self.line(&name, best.map(|seconds| seconds / row.parts() as f64));
+        let best = best.map(|seconds| seconds / row.parts() as f64);
+        self.line(&name, best);
+        Some(best[0])
     }
 
     /// Writes a row, and before the first one the head of the table.

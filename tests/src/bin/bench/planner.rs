@@ -17,6 +17,8 @@ pub trait Planner {
     /// How many rows and entries, and the edition.
     fn read(file: &[u8], rows: &mut [u32], words: &mut [u32]) -> Option<(usize, usize, u32)>;
     fn write(edition: u32, rows: &[u32], words: &[u32], file: &mut [u8]) -> Option<usize>;
+    /// Converts a file out of this edition into the other.
+    fn convert(from: Edition, file: &[u8], out: &mut [u8]) -> Option<usize>;
     fn map(file: &[u8], number: u16, levels: &mut [u8]) -> Option<usize>;
     fn list(file: &[u8], text: &mut [u8]) -> Option<usize>;
     fn insert(session: &mut Session, position: usize, entry: &Entry) -> bool;
@@ -40,6 +42,13 @@ impl Planner for Proved {
 
     fn write(edition: u32, rows: &[u32], words: &[u32], file: &mut [u8]) -> Option<usize> {
         ffi::write(edition, rows, words, file).ok()
+    }
+
+    fn convert(from: Edition, file: &[u8], out: &mut [u8]) -> Option<usize> {
+        match from {
+            Edition::First => ffi::convert_forward(file, out).ok(),
+            Edition::Second => ffi::convert_back(file, out).ok(),
+        }
     }
 
     fn map(file: &[u8], number: u16, levels: &mut [u8]) -> Option<usize> {
@@ -83,6 +92,13 @@ impl Planner for Tuned {
         tuned::write(edition, rows, words, file).ok()
     }
 
+    fn convert(from: Edition, file: &[u8], out: &mut [u8]) -> Option<usize> {
+        match from {
+            Edition::First => tuned::convert_forward(file, out).ok(),
+            Edition::Second => tuned::convert_back(file, out).ok(),
+        }
+    }
+
     fn map(file: &[u8], number: u16, levels: &mut [u8]) -> Option<usize> {
         tuned::map(file, number, levels).ok()
     }
@@ -122,6 +138,13 @@ impl Planner for Plain {
 
     fn write(edition: u32, rows: &[u32], words: &[u32], file: &mut [u8]) -> Option<usize> {
         plain::write(edition, rows, words, file)
+    }
+
+    fn convert(from: Edition, file: &[u8], out: &mut [u8]) -> Option<usize> {
+        match from {
+            Edition::First => plain::convert_forward(file, out),
+            Edition::Second => plain::convert_back(file, out),
+        }
     }
 
     fn map(file: &[u8], number: u16, levels: &mut [u8]) -> Option<usize> {

@@ -3,7 +3,9 @@
 use crate::measure::Row;
 use crate::planner::Planner;
 use oracle::ffi;
-use oracle::model::{MAX_ENTRIES, MAX_NODES};
+use oracle::file::encode;
+use oracle::gen::plans::{in_edition, punctual};
+use oracle::model::{Edition, Plan, MAX_ENTRIES, MAX_NODES};
 use oracle::words::ENTRY_WORDS;
 use std::hint::black_box;
 
@@ -125,6 +127,44 @@ impl Row for Writing<'_> {
 
     fn call<P: Planner>(&self, (file, written): &mut Self::Lent) {
         *written = P::write(self.edition, black_box(&self.rows), &self.words, file);
+    }
+}
+
+/// Converting a file out of this edition into the other, into an exact buffer.
+pub struct Converting {
+    pub name: String,
+    from: Edition,
+    file: Vec<u8>,
+    length: usize,
+}
+
+impl Converting {
+    /// The conversion of this plan, without J.
+    pub fn of(plan: Plan, from: Edition, name: String) -> Converting {
+        let plan = punctual(plan);
+        let in_bytes = |edition| encode(&in_edition(&plan, edition)).expect("a good plan");
+        Converting {
+            name,
+            from,
+            file: in_bytes(from),
+            length: in_bytes(from.other()).len(),
+        }
+    }
+}
+
+impl Row for Converting {
+    type Lent = (Vec<u8>, Option<usize>);
+
+    fn name(&self) -> String {
+        self.name.clone()
+    }
+
+    fn lent(&self) -> Self::Lent {
+        (vec![0; self.length], None)
+    }
+
+    fn call<P: Planner>(&self, (out, length): &mut Self::Lent) {
+        *length = P::convert(self.from, black_box(&self.file), out);
     }
 }
 
