@@ -19,10 +19,14 @@ use oracle::refusal::{Refusal, JITTER_LOST, LENGTH, OPENING};
 use oracle::rng::Rng;
 use oracle::tally::Tally;
 use std::ffi::{OsStr, OsString};
-use std::fs::{File, OpenOptions};
+use std::fs::{self, File, OpenOptions};
 use std::os::unix::ffi::OsStrExt;
+use std::path::Path;
 use std::process::{Command, Output, Stdio};
 use std::time::Duration;
+
+/// The line of a plan that is accepted, but cannot be written.
+const NOT_WRITTEN: &str = "carry_plan: the plan could not be written\n";
 
 fn program() -> Command {
     let mut program = Command::new(root().join("target/bin/carry_plan"));
@@ -360,20 +364,16 @@ fn sample(name: &str) -> Stdio {
     Stdio::from(File::open(plan).expect("the sample is there"))
 }
 
+fn sample_bytes(name: &str) -> Vec<u8> {
+    fs::read(root().join("samples").join(name)).expect("the sample is there")
+}
+
 /// A refused plan has nothing to write.
 #[test]
 fn output_that_cannot_be_written_is_told_on_standard_error() {
     for (way, name, due) in [
-        (
-            "forward",
-            "p.plan",
-            "carry_plan: the plan could not be written\n",
-        ),
-        (
-            "forward",
-            "station.plan",
-            "carry_plan: the plan could not be written\n",
-        ),
+        ("forward", "p.plan", NOT_WRITTEN),
+        ("forward", "station.plan", NOT_WRITTEN),
         ("back", "p_jitter_12.plan", "refused 15 row 0 entry 2\n"),
     ] {
         let full = OpenOptions::new().write(true).open("/dev/full").unwrap();
@@ -381,6 +381,38 @@ fn output_that_cannot_be_written_is_told_on_standard_error() {
         assert_eq!(String::from_utf8_lossy(&done.stderr), due);
         assert!(done.status.success());
     }
+}
+
+/// What the program writes to a file, and to standard error, if the shell first
+/// runs a command.
+fn run_after(before: &str, way: &str, plan: &str) -> (Vec<u8>, String) {
+    let place = Path::new(env!("CARGO_TARGET_TMPDIR")).join("carry_output");
+    let output = File::create(&place).expect("a file can be made");
+    let mut shell = Command::new("sh");
+    shell.args(["-c", &format!(r#"{before}; exec "$0" "$1""#)]);
+    shell.arg(program().get_program()).arg(way);
+    let done = shell.stdin(sample(plan)).stdout(output).output();
+    let done = done.expect("the shell starts");
+    let file = fs::read(place).expect("the file can be read");
+    (file, String::from_utf8_lossy(&done.stderr).into_owned())
+}
+
+/// Where only a part can be written, as on a disk that fills up, standard error
+/// says so; the part stays. A closed output cannot be written either.
+#[test]
+fn a_part_of_the_plan_is_told_on_standard_error() {
+    let whole = carry(Edition::First, &sample_bytes("station.plan")).unwrap();
+    let (part, said) = run_after("trap '' XFSZ; ulimit -f 2", "forward", "station.plan");
+    assert!(!part.is_empty() && part.len() < whole.len());
+    assert!(whole.starts_with(&part));
+    assert_eq!(said, NOT_WRITTEN);
+    let all = run_after("ulimit -f 200", "forward", "station.plan");
+    assert!(all == (whole, String::new()));
+    let closed = run_after("exec >&-", "forward", "p.plan");
+    assert_eq!(closed, (Vec::new(), NOT_WRITTEN.to_string()));
+    let input = run_after("exec <&-", "forward", "p.plan");
+    let refused = "refused 1 row 0 entry 0\n".to_string();
+    assert_eq!(input, (Vec::new(), refused));
 }
 
 /// A directory can be opened but not read; a read that fails ends the input.

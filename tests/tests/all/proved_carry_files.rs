@@ -295,8 +295,9 @@ fn permissions() {
     }
 }
 
-/// A signal ends the program where a file grows above a limit. A part of the
-/// plan is no plan: the target is left alone.
+/// Where a file grows above a limit, a signal ends the program, or it is told
+/// that it cannot write. A part of the plan is no plan: the target is left
+/// alone.
 #[test]
 fn a_part_of_the_plan_is_not_kept() {
     let folder = fresh("carry_part");
@@ -304,11 +305,19 @@ fn a_part_of_the_plan_is_not_kept() {
     let to = folder.join("old.plan");
     put_old(&to, b"as it was");
     let before = state(&to);
-    let done = run_after("ulimit -c 0; ulimit -f 2", &from, &to);
-    assert_eq!(done.status.code(), Some(1));
-    assert!(!said(&done).is_empty());
-    assert_eq!(state(&to), before);
-    assert_eq!(files(&folder).len(), 1);
+    for (limit, due) in [
+        ("ulimit -c 0; ulimit -f 2", "the plan was not written\n"),
+        (
+            "trap '' XFSZ; ulimit -f 2",
+            "the plan could not be written\n",
+        ),
+    ] {
+        let done = run_after(limit, &from, &to);
+        assert_eq!(done.status.code(), Some(1));
+        assert!(said(&done).ends_with(&format!("carry_plan: {due}")));
+        assert_eq!(state(&to), before);
+        assert_eq!(files(&folder).len(), 1);
+    }
     let done = run_after("ulimit -f 200", &from, &to);
     assert!(done.status.success());
     let file = fs::read(&from).unwrap();
