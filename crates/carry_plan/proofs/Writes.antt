@@ -8,17 +8,17 @@ use lib.ListN.{length, take}
 use lib.Seq.{take-all}
 use Rattle.refusals.specs.Refusals.{Numbered, accepted, refused}
 use Rattle.refusals.specs.Answers.{gives, refuses}
-use Rattle.refusals.proofs.Outcomes.{then-refused, giving-gives, giving-refuses}
+use Rattle.refusals.proofs.Outcomes.{giving-gives, giving-refuses}
 use Rattle.plan_file.specs.declared.Edition.{Edition}
 use Rattle.plan_file.specs.declared.Edition.the-variants.{First, Second}
 use Rattle.plan_file.specs.Encoding.{encoding}
 use Rattle.plan_file.specs.Decoding.{planIn}
-use Rattle.plan_file.specs.Check.{fileCheck}
 use Rattle.plan_file.specs.Limits.{longest}
 use Rattle.plan_file.specs.Input.{ReadOf}
 use Rattle.plan_file.proofs.Long.{long-refused}
 use Rattle.listing.specs.Lines.{refusedLine}
 use Rattle.converter.specs.Conversion.{convertCheck, ConvertCall}
+use Rattle.converter.proofs.Converting.{check-own}
 use Rattle.converter.proofs.RoundTrip.{convert-given, written-part}
 use Rattle.converter.proofs.Theorems.{suffices}
 use Rattle.carry_plan.specs.Output.{standardOutput, standardError}
@@ -37,10 +37,6 @@ module _ (to : Edition) (f : List ℕ) where
   unfolding standardOutput standardError
   refused-writes r a = rw (a, standardOutput, standardError) (refl, refl)
 
-  file-refused : (r : Numbered) → fileCheck f ≡ refused r → convertCheck to f ≡ refused r
-  unfolding convertCheck
-  file-refused r a = then-refused (fileCheck f) _ r a
-
 -- what was read of an input is converted as the whole input is
 pub read-alike : (to : Edition) (input array : List ℕ) (n : ℕ) → 65536 < length array → ReadOf input array n → Alike to (take n array) input
 read-alike to input array n h p =
@@ -48,8 +44,8 @@ read-alike to input array n h p =
     (⊎-elim
     (λ l. rw (take-all (length array) input l) (record { output = refl; error = refl }))
     (λ r.
-    let part = refused-writes to (take (length array) input) (r .0) (file-refused to (take (length array) input) (r .0) (r .1)) in
-    let whole = refused-writes to input (r .0) (file-refused to input (r .0) (r .2)) in
+    let part = refused-writes to (take (length array) input) (r .0) (check-own to (take (length array) input) (r .0) (r .1)) in
+    let whole = refused-writes to input (r .0) (check-own to input (r .0) (r .2)) in
     record { output = part .0 ∙ sym (whole .0); error = part .1 ∙ sym (whole .1) })
     (long-refused (length array) h input))
 

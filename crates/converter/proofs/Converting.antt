@@ -52,28 +52,29 @@ module _ (to : Edition) (f : List ℕ) where
       length-encoding to (planIn f)
       ∙ rw (length-rows f 0 (nodeCount f), length-entries-at (editionOf f) f (bodiesStart (nodeCount f)) (entryCount (rowsIn f))) (sym e)
 
+  -- check by check, in their order
+  pub check-own : (r : Numbered) → fileCheck f ≡ refused r → convertCheck to f ≡ refused r
+  unfolding convertCheck
+  check-own r p = rw p
+
+  pub check-edition : fileCheck f ≡ accepted → openingTest (other to) f ≡ false → convertCheck to f ≡ refused (at 2 0 0)
+  unfolding convertCheck
+  check-edition a p = rw (a, p)
+
+  pub check-rest : fileCheck f ≡ accepted → openingTest (other to) f ≡ true
+      → convertCheck to f ≡ nodesBy (lossCheck to) 0 (rowsIn f) (entriesIn f)
+  unfolding convertCheck
+  check-rest a p = rw (a, p)
+
   module _ (room : ℕ) where
+    -- the answer after the checks
     pub convert-refused : (r : Numbered) → convertCheck to f ≡ refused r → convertAnswer to f room ≡ refuses r
     unfolding convertAnswer
     convert-refused r p = rw p
 
-    -- check by check, in their order
-    pub convert-file : (r : Numbered) → fileCheck f ≡ refused r → convertAnswer to f room ≡ refuses r
-    unfolding convertAnswer convertCheck
-    convert-file r p = rw p
-
-    pub convert-edition : fileCheck f ≡ accepted → openingTest (other to) f ≡ false → convertAnswer to f room ≡ refuses (at 2 0 0)
-    unfolding convertAnswer convertCheck
-    convert-edition a p = rw (a, p)
-
-    module _ (a : fileCheck f ≡ accepted) (o : openingTest (other to) f ≡ true) where
-      pub convert-lost : (r : Numbered) → nodesBy (lossCheck to) 0 (rowsIn f) (entriesIn f) ≡ refused r → convertAnswer to f room ≡ refuses r
-      unfolding convertAnswer convertCheck
-      convert-lost r p = rw (a, o, p)
-
-      pub convert-room : nodesBy (lossCheck to) 0 (rowsIn f) (entriesIn f) ≡ accepted → convertAnswer to f room ≡ roomAnswer to f room
-      unfolding convertAnswer convertCheck
-      convert-room p = rw (a, o, p)
+    pub convert-accepted : convertCheck to f ≡ accepted → convertAnswer to f room ≡ roomAnswer to f room
+    unfolding convertAnswer
+    convert-accepted p = rw p
 
     -- the room
     module _ (n : ℕ) (e : n ≡ bodiesStart (nodeCount f) + entryCount (rowsIn f) * entryLength to) where

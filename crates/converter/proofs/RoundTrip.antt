@@ -30,7 +30,7 @@ use Rattle.plan_file.proofs.Theorems.{read-write, plan-accepted, plan-limits}
 use Rattle.converter.specs.Conversion.{other, lossCheck, convertCheck, convertAnswer, ConvertCall}
 use Rattle.converter.specs.RoundTrip.{ConvertedAgain}
 use Rattle.converter.proofs.Lost.{kept-exactly}
-use Rattle.converter.proofs.Converting.{opened, roomAnswer, convert-room}
+use Rattle.converter.proofs.Converting.{opened, roomAnswer, check-rest, convert-accepted}
 
 other-other : (to : Edition) → other (other to) ≡ to
 other-other First = refl
@@ -58,6 +58,9 @@ unfolding convertCheck
 passes to f p =
     let p1 = both-accepted (fileCheck f) _ p in
     let p2 = both-accepted _ _ (p1 .1) in record { file = p1 .0; opens = demanded _ _ (p2 .0); kept = p2 .1 }
+
+pub accepts : (to : Edition) (f : List ℕ) → Passes to f → convertCheck to f ≡ accepted
+accepts to f h = check-rest to f (h .file) (h .opens) ∙ h .kept
 
 -- where a file is given
 pub convert-given : (to : Edition) (f : List ℕ) (room n : ℕ) → gives n ≡ convertAnswer to f room
@@ -114,7 +117,7 @@ module _ (to : Edition) (f : List ℕ) (b : Bytes f) (h : Passes to f) where
       let g = encoding to (planIn f) in
       let k = passes-back in
       let answered : roomAnswer (other to) g (length old) ≡ gives (length f) = rw (encoded-back, le-leb (length f) (length old) l) in
-      let t : a ≡ gives (length f) = c .answer ∙ convert-room (other to) g (length old) (k .file) (k .opens) (k .kept) ∙ answered in (
+      let t : a ≡ gives (length f) = c .answer ∙ convert-accepted (other to) g (length old) (accepts (other to) g k) ∙ answered in (
         t,
         c .there ∙ ap (λ o. left o (encoding (other to) (planIn g)) old) t ∙ ap (λ s. s ++ drop (length s) old) encoded-back,
       )

@@ -32,7 +32,7 @@ use Rattle.plan_file.proofs.File.{file-holds}
 use Rattle.plan_file.proofs.Theorems.{within}
 use Rattle.converter.specs.Conversion.{other, lossCheck, convertCheck, ConvertCall}
 use Rattle.converter.proofs.Lost.{kept-exactly, lost, loss-place}
-use Rattle.converter.proofs.Converting.{opened, long, convert-refused, convert-edition, convert-lost, convert-room, roomAnswer}
+use Rattle.converter.proofs.Converting.{opened, long, roomAnswer, check-edition, check-rest, convert-refused, convert-accepted}
 use Rattle.converter.proofs.RoundTrip.{all-kept, nothing-lost, Passes, passes, convert-given, encoded-accepted, encoded-plan, written-part, converted-again}
 
 -- A file of the first edition that goes forward, and what was written then back, is the same bytes.
@@ -99,9 +99,8 @@ suffices {to} {f} {old} l c =
     c .answer
     ∙ ⊎-elim
     (λ q.
-    let h = passes to f q in
-    convert-room to f (length old) (h .file) (h .opens) (h .kept)
-    ∙ rw (q, le-leb (length (encoding to (planIn f))) (length old) (omega (arith, never-longer to f (h .file)))))
+    convert-accepted to f (length old) q
+    ∙ rw (q, le-leb (length (encoding to (planIn f))) (length old) (omega (arith, never-longer to f (passes to f q .file)))))
     (λ q. convert-refused to f (length old) (q .0) (q .1) ∙ rw (q .1))
     (either (convertCheck to f))
 
@@ -115,8 +114,9 @@ pub wrong-edition : {to : Edition} {f old new : List ℕ} {a : Answer ℕ} → f
     → ConvertCall to f old a new → a ≡ refuses (at 2 0 0)
 wrong-edition {to} {f} {old} h e c =
     c .answer
-    ∙ convert-edition to f (length old) h
-    (⊎-elim (λ p. absurd (differ to (sym e ∙ opened (other to) f p))) (λ p. p) (true-or-false (openingTest (other to) f)))
+    ∙ convert-refused to f (length old) _
+    (check-edition to f h
+    (⊎-elim (λ p. absurd (differ to (sym e ∙ opened (other to) f p))) (λ p. p) (true-or-false (openingTest (other to) f))))
 
 -- an accepted file opens as its edition
 opens-as : (ed : Edition) (f : List ℕ) → fileCheck f ≡ accepted → editionOf f ≡ ed → openingTest ed f ≡ true
@@ -134,7 +134,7 @@ converts-exactly {to} {f} {old} c = (
   λ h. (
     length (encoding to (planIn f)),
     c .answer
-        ∙ convert-room to f (length old) (h .0) (opens-as (other to) f (h .0) (h .1)) (nothing-lost to f (h .2))
+        ∙ convert-accepted to f (length old) (check-rest to f (h .0) (opens-as (other to) f (h .0) (h .1)) ∙ nothing-lost to f (h .2))
         ∙ rw (le-leb (length (encoding to (planIn f))) (length old) (h .3)),
   ),
 )
@@ -222,10 +222,10 @@ module _ {f old new : List ℕ} {a : Answer ℕ} (h : fileCheck f ≡ accepted) 
   -- where nothing is lost, the answer is not 15
   no-loss : nodesBy (lossCheck First) 0 (rowsIn f) (entriesIn f) ≡ accepted → (row position : ℕ) → a ≡ refuses (at 15 row position) → ⊥
   no-loss k row position p =
-      room-not-15 First f (length old) row position (sym (convert-room First f (length old) h opens-second k) ∙ sym (c .answer) ∙ p)
+      room-not-15 First f (length old) row position (sym (convert-accepted First f (length old) (check-rest First f h opens-second ∙ k)) ∙ sym (c .answer) ∙ p)
 
   lost-answer : (r : Numbered) → nodesBy (lossCheck First) 0 (rowsIn f) (entriesIn f) ≡ refused r → a ≡ refuses r
-  lost-answer r p = c .answer ∙ convert-lost First f (length old) h opens-second r p
+  lost-answer r p = c .answer ∙ convert-refused First f (length old) r (check-rest First f h opens-second ∙ p)
 
   -- It is refused as 15, with a row and a position, exactly if its first entry with a J above zero stands there.
   pub lost-at : (row position : ℕ) → a ≡ refuses (at 15 row position) ↔ FirstLate (planIn f) row position

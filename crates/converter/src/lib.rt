@@ -25,7 +25,7 @@ ghost use mathlib.Core.Bool.{true};
 ghost use lib.ListN.{length};
 ghost use lib.Dec.{leb};
 ghost use Prim.Native.Nat.{_+_, _*_, _≤_};
-ghost use Rattle.refusals.specs.Refusals.{at, accepted, mustHold};
+ghost use Rattle.refusals.specs.Refusals.{at, accepted, mustHold, outcome};
 ghost use Rattle.refusals.specs.Answers.{giving, left};
 ghost use Rattle.plan_file.specs.Plan.{mostNodes};
 ghost use Rattle.plan_file.specs.Encoding.{headerLength, entryLength, bodiesStart, contentsBytes, bodiesBytes, encoding};
@@ -33,8 +33,36 @@ ghost use Rattle.plan_file.specs.Decoding.{openingTest, rowsFrom, entriesAt, pl
 ghost use Rattle.plan_file.specs.Check.{fileCheck};
 ghost use Rattle.plan_file.specs.Answers.{writeGives};
 ghost use Rattle.byte_words.specs.Buffers.{over};
-ghost use Rattle.converter.specs.Conversion.{other, ConvertCall};
+ghost use Rattle.converter.specs.Conversion.{other, convertCheck, ConvertCall};
 ghost use Rattle.converter.specs.RoundTrip.{ConvertedAgain};
+
+// The edition that a file must have, to be converted to this one.
+fn other_edition(to: Edition) -> Edition
+    ensures { λ e. ⌜ e ≡ other to ⌝ }
+{
+    match to {
+        Edition::First => Edition::Second,
+        Edition::Second => Edition::First,
+    }
+}
+
+// Checks a file that is to be converted, but for the buffer: as check_file does, then that it is of the other edition (2), and
+// that nothing of its entries is lost (15).
+fn check_conversion(to: Edition, file: &[u8]) -> Checked
+    ensures { λ a. ⌜ outcome a ≡ convertCheck to (now (file .entry)) ⌝ }
+{
+    let checked = check_file(file);
+    let Checked::Accepted = checked else {
+        return checked;
+    };
+    if !opens(other_edition(to), file) {
+        return Checked::Refused(Refusal::OpeningBytes);
+    }
+    match to {
+        Edition::First => check_losses(file, node_count(file)),
+        Edition::Second => Checked::Accepted,
+    }
+}
 
 // Stores the contents for an edition: the rows of a file, each with its new offset.
 fn put_rows(to: Edition, file: &[u8], out: &mut [u8], nodes: usize)
@@ -85,14 +113,16 @@ fn write_converted(to: Edition, file: &[u8], out: &mut [u8]) -> Written
     Written::Length(length)
 }
 
-// The edition that a file must have, to be converted to this one.
-fn other_edition(to: Edition) -> Edition
-    ensures { λ e. ⌜ e ≡ other to ⌝ }
+// Converts a file to an edition, from the buffer's start.
+fn convert(to: Edition, file: &[u8], out: &mut [u8]) -> Written
+    ensures { λ a. ⌜ ConvertCall to (now (file .entry)) (now (out .entry)) (writeGives a) (now (out .exit)) ⌝ }
+    ensures { λ a. ⌜ ConvertedAgain to (now (file .entry)) (writeGives a) (now (out .exit)) ⌝ }
 {
-    match to {
-        Edition::First => Edition::Second,
-        Edition::Second => Edition::First,
+    let checked = check_conversion(to, file);
+    if let Checked::Refused(r) = checked {
+        return Written::Refused(r);
     }
+    write_converted(to, file, out)
 }
 
 // Converts a file of the first edition to the second, with every J 0, from the buffer's start. Refuses as check_file does,
@@ -103,14 +133,7 @@ pub fn forward(file: &[u8], out: &mut [u8]) -> Written
         ⌜ ConvertCall Edition.Second (now (file .entry)) (now (out .entry)) (writeGives a) (now (out .exit)) ⌝ }
     ensures { λ a. ⌜ ConvertedAgain Edition.Second (now (file .entry)) (writeGives a) (now (out .exit)) ⌝ }
 {
-    let checked = check_file(file);
-    if let Checked::Refused(r) = checked {
-        return Written::Refused(r);
-    }
-    if !opens(Edition::First, file) {
-        return Written::Refused(Refusal::OpeningBytes);
-    }
-    write_converted(Edition::Second, file, out)
+    convert(Edition::Second, file, out)
 }
 
 // Converts a file of the second edition to the first, from the buffer's start. Refuses as check_file does, then a file of
@@ -121,16 +144,5 @@ pub fn back(file: &[u8], out: &mut [u8]) -> Written
         ⌜ ConvertCall Edition.First (now (file .entry)) (now (out .entry)) (writeGives a) (now (out .exit)) ⌝ }
     ensures { λ a. ⌜ ConvertedAgain Edition.First (now (file .entry)) (writeGives a) (now (out .exit)) ⌝ }
 {
-    let checked = check_file(file);
-    if let Checked::Refused(r) = checked {
-        return Written::Refused(r);
-    }
-    if !opens(Edition::Second, file) {
-        return Written::Refused(Refusal::OpeningBytes);
-    }
-    let lost = check_losses(file, node_count(file));
-    if let Checked::Refused(r) = lost {
-        return Written::Refused(r);
-    }
-    write_converted(Edition::First, file, out)
+    convert(Edition::First, file, out)
 }
