@@ -4,10 +4,10 @@
 //! each answer in the plainest way: agreement with that text matters here,
 //! speed does not. Its functions take numbers and byte slices.
 //!
-//! - [`mod@file`], [`map`], [`listing`] and [`session`] implement that text, on
-//!   top of [`timing`]. [`assignments`] lists assignments to check maps with,
-//!   and [`lent`] keeps a session in lent memory. [`punctual`] is what all of it
-//!   was while no entry started late.
+//! - [`mod@file`], [`map`], [`listing`], [`carrying`] and [`session`] implement
+//!   that text, on top of [`timing`]. [`assignments`] lists assignments to check
+//!   maps with, and [`lent`] keeps a session in lent memory. [`punctual`] is
+//!   what all of it was while no entry started late.
 //! - [`cases`] has the cases of that text, and [`gen`] generates others.
 //!   [`options`] sets the seed and the size of a run.
 //! - [`ffi`] calls the proved library, and [`words`] has the form in which it
@@ -19,6 +19,7 @@
 #![warn(missing_docs)]
 
 pub mod assignments;
+pub mod carrying;
 pub mod cases;
 pub mod compare;
 pub mod corpus;

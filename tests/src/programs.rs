@@ -1,8 +1,9 @@
 //! Runs programs with a file on standard input.
 
+use crate::rng::Rng;
 use std::io::{ErrorKind, Read, Write};
 use std::path::{Path, PathBuf};
-use std::process::{Command, Stdio};
+use std::process::{Child, Command, Output, Stdio};
 use std::thread;
 use std::time::{Duration, Instant};
 
@@ -15,10 +16,28 @@ pub fn root() -> PathBuf {
         .to_path_buf()
 }
 
+/// The file in pieces of up to `most` bytes.
+pub fn pieces<'a>(rng: &mut Rng, mut file: &'a [u8], most: usize) -> Vec<&'a [u8]> {
+    let mut pieces = Vec::new();
+    while !file.is_empty() {
+        let (piece, rest) = file.split_at(rng.count(1, most.min(file.len())));
+        pieces.push(piece);
+        file = rest;
+    }
+    pieces
+}
+
 /// The program's output if its input comes in these pieces, with a pause after
 /// each, and whether its exit status is 0.
 pub fn run(program: &Path, pieces: &[&[u8]], pause: Duration) -> (Vec<u8>, bool) {
-    let mut child = Command::new(program)
+    let done = feed(&mut Command::new(program), pieces, pause);
+    (done.stdout, done.status.success())
+}
+
+/// What the command writes if its input comes in these pieces, with a pause
+/// after each. Standard error is only in it if the command lends a pipe.
+pub fn feed(command: &mut Command, pieces: &[&[u8]], pause: Duration) -> Output {
+    let mut child = command
         .stdin(Stdio::piped())
         .stdout(Stdio::piped())
         .spawn()
@@ -33,8 +52,7 @@ pub fn run(program: &Path, pieces: &[&[u8]], pause: Duration) -> (Vec<u8>, bool)
         }
     }
     drop(input);
-    let done = child.wait_with_output().expect("the program ends");
-    (done.stdout, done.status.success())
+    child.wait_with_output().expect("the program ends")
 }
 
 /// The command's output on this input, and whether its exit status is 0. A
@@ -55,17 +73,23 @@ pub fn run_within(command: &mut Command, input: &[u8], limit: Duration) -> (Vec<
         output.read_to_end(&mut text).expect("output can be read");
         text
     });
+    let ended = wait_within(&mut child, limit);
+    (reader.join().expect("the reader ends"), ended)
+}
+
+/// Whether the program's exit status is 0, once it ends. A program that runs to
+/// the time limit is killed, and the value is `None`.
+pub fn wait_within(child: &mut Child, limit: Duration) -> Option<bool> {
     let until = Instant::now() + limit;
-    let ended = loop {
+    loop {
         if let Some(status) = child.try_wait().expect("the program can be waited for") {
-            break Some(status.success());
+            return Some(status.success());
         }
         if Instant::now() >= until {
             child.kill().expect("the program can be ended");
             child.wait().expect("the program ends");
-            break None;
+            return None;
         }
         thread::sleep(Duration::from_millis(2));
-    };
-    (reader.join().expect("the reader ends"), ended)
+    }
 }

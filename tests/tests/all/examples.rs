@@ -2,22 +2,26 @@
 //! documents are compared with the files and the output that they show.
 
 use crate::say;
+use oracle::carrying::{carry, complaint, way};
 use oracle::cases;
 use oracle::file::{encode, longest};
-use oracle::gen::plans;
+use oracle::gen::plans::{self, in_edition};
 use oracle::listing::{list, MOST_TEXT};
 use oracle::map::map_entries;
 use oracle::model::{Edition, Entry, Plan, MAX_ENTRIES, MAX_NODES};
 use oracle::options::rng;
-use oracle::programs::{root, run};
-use oracle::refusal::Refusal;
+use oracle::programs::{feed, root, run};
+use oracle::refusal::{
+    Refusal, BUFFER, COUNT, CUT_OFF, FULL, JITTER, JITTER_LOST, KIND, LENGTH, NO_MAP, NO_NODE,
+    NUMBERS, OFFSET, OPENING, POSITION, ROW, TICKS,
+};
 use oracle::session::Session;
 use oracle::timing::Timing;
 use oracle::words::ENTRY_WORDS;
 use std::fs;
 use std::io::ErrorKind;
 use std::path::{Path, PathBuf};
-use std::process::Command;
+use std::process::{Command, Stdio};
 use std::time::Duration;
 
 fn built(name: &str) -> PathBuf {
@@ -133,6 +137,49 @@ fn c_write() {
     assert_eq!(second.stdout, bytes("samples/p_jitter_12.plan"));
 }
 
+/// What the example in C that converts plans writes for an input, and its
+/// status.
+fn converted(program: &Path, arguments: &[&str], input: &[u8]) -> (Vec<u8>, String, i32) {
+    let mut command = Command::new(program);
+    let command = command.args(arguments).stderr(Stdio::piped());
+    let done = feed(command, &[input], Duration::ZERO);
+    let said = String::from_utf8_lossy(&done.stderr).into_owned();
+    (done.stdout, said, done.status.code().expect("no signal"))
+}
+
+/// The example converts each plan both ways, or says why not.
+#[test]
+fn c_convert() {
+    let program = compiled_c("examples/convert.c", "convert_c");
+    let mut rng = rng(241);
+    let longest = plans::longest_in(&mut rng, Edition::First);
+    let mut files = files();
+    for edition in Edition::BOTH {
+        for plan in [&longest, &Plan::first(vec![cases::e()])] {
+            files.push(encode(&in_edition(plan, edition)).unwrap());
+        }
+    }
+    let longer = files.iter().map(|file| [&file[..], &[0; 50_000]].concat());
+    files.extend(longer.collect::<Vec<Vec<u8>>>());
+    let mut written = 0;
+    for (file, from) in files
+        .iter()
+        .flat_map(|file| Edition::BOTH.map(|e| (file, e)))
+    {
+        let due = carry(from, file);
+        written += u32::from(due.is_ok());
+        let status = i32::from(due.is_err());
+        let due = (due.unwrap_or_default(), complaint(from, file), status);
+        assert!(converted(&program, &[way(from)], file) == due);
+    }
+    assert!(written >= 6, "{written}");
+    for arguments in [vec![], vec!["on"], vec!["back", "back"]] {
+        let (file, said, status) = converted(&program, &arguments, &files[0]);
+        assert!(file.is_empty() && status == 2);
+        assert!(said.starts_with("usage: convert "), "{said}");
+    }
+}
+
 /// The examples call every function that the header declares.
 #[test]
 fn every_function_is_called_from_c() {
@@ -142,8 +189,9 @@ fn every_function_is_called_from_c() {
         .filter_map(|line| line.strip_prefix("uint32_t "))
         .map(|line| line.split('(').next().unwrap())
         .collect();
-    assert_eq!(declared.len(), 12);
-    let examples = ["list.c", "session.c", "write.c"].map(|name| text(&format!("examples/{name}")));
+    assert_eq!(declared.len(), 14);
+    let examples = ["convert.c", "list.c", "session.c", "write.c"];
+    let examples = examples.map(|name| text(&format!("examples/{name}")));
     for name in declared {
         let call = format!("{name}(");
         assert!(
@@ -162,6 +210,7 @@ fn sizes_in_the_header() {
         format!("MAIPLUR_MOST_ROWS = {MAX_NODES},"),
         format!("MAIPLUR_MOST_WORDS = {},", MAX_NODES * words),
         format!("MAIPLUR_MOST_FILE = {},", longest(Edition::Second)),
+        format!("MAIPLUR_MOST_FIRST = {},", longest(Edition::First)),
         format!("MAIPLUR_MOST_LEVELS = {MAX_ENTRIES},"),
         format!("MAIPLUR_MOST_TEXT = {MOST_TEXT} "),
         format!("uint32_t words[{words}];"),
@@ -169,6 +218,39 @@ fn sizes_in_the_header() {
     ] {
         assert!(header.contains(&size), "{size}");
     }
+}
+
+/// The header has a name for every number of a refusal, and no other.
+#[test]
+fn refusals_in_the_header() {
+    let header = text("include/maiplur.h");
+    let (_, names) = header.split_once("/* The refusals. */\nenum {\n").unwrap();
+    let (names, _) = names.split_once("\n};").unwrap();
+    let named = |line: &str| {
+        let (name, rest) = line.trim().split_once(" = ").unwrap();
+        let number = rest.split([' ', ',']).next().unwrap();
+        (name.to_string(), number.parse().unwrap())
+    };
+    let names: Vec<(String, u8)> = names.lines().map(named).collect();
+    let due = [
+        ("SHORT_FILE", CUT_OFF),
+        ("OPENING_BYTES", OPENING),
+        ("NODE_COUNT", COUNT),
+        ("ROW", ROW),
+        ("OFFSET", OFFSET),
+        ("FILE_LENGTH", LENGTH),
+        ("KIND", KIND),
+        ("TIMES", TICKS),
+        ("NO_SUCH_NODE", NO_NODE),
+        ("SHORT_BUFFER", BUFFER),
+        ("NO_MAP", NO_MAP),
+        ("OUTSIDE_LIST", POSITION),
+        ("FULL_LIST", FULL),
+        ("JITTER", JITTER),
+        ("JITTER_LOST", JITTER_LOST),
+    ];
+    assert_eq!(names, due.map(|(name, n)| (format!("MAIPLUR_{name}"), n)));
+    assert_eq!(due.map(|(_, n)| n).to_vec(), Vec::from_iter(1..=NUMBERS));
 }
 
 /// The example in docs/SPEC.md equals the sample of case P and its listing.

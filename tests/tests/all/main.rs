@@ -12,6 +12,8 @@ mod jitter;
 mod listing;
 mod mapping;
 mod odd;
+mod proved_carry;
+mod proved_carry_files;
 mod proved_converting;
 mod proved_counts;
 mod proved_damage;

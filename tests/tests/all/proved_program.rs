@@ -10,21 +10,9 @@ use oracle::gen::plans;
 use oracle::listing::list;
 use oracle::model::Edition;
 use oracle::options::{rng, times};
-use oracle::programs::{root, run};
-use oracle::rng::Rng;
+use oracle::programs::{pieces, root, run};
 use std::path::PathBuf;
 use std::time::Duration;
-
-/// The file in pieces of up to `most` bytes.
-fn pieces<'a>(rng: &mut Rng, mut file: &'a [u8], most: usize) -> Vec<&'a [u8]> {
-    let mut pieces = Vec::new();
-    while !file.is_empty() {
-        let (piece, rest) = file.split_at(rng.count(1, most.min(file.len())));
-        pieces.push(piece);
-        file = rest;
-    }
-    pieces
-}
 
 fn program() -> PathBuf {
     root().join("target/bin/list_plan")

@@ -6,7 +6,13 @@ use std::path::{Path, PathBuf};
 
 /// A test file that contains one of these compares the second implementation
 /// with the proved library or program.
-const COMPARING: [&str; 4] = ["::compare", "::ffi", "list_plan", "libplanner_c"];
+const COMPARING: [&str; 5] = [
+    "::compare",
+    "::ffi",
+    "list_plan",
+    "carry_plan",
+    "libplanner_c",
+];
 
 /// What is not copied, or not unchanged.
 const APART: [&str; 4] = [".git", "crates", "target", "tests"];
@@ -14,8 +20,10 @@ const APART: [&str; 4] = [".git", "crates", "target", "tests"];
 /// Replaces the build script, which would prove everything again: this one
 /// links the library as it is.
 const BUILD: &str = r#"fn main() {
-    println!("cargo:rustc-check-cfg=cfg(list_plan)");
-    println!("cargo:rustc-cfg=list_plan");
+    for program in ["list_plan", "carry_plan"] {
+        println!("cargo:rustc-check-cfg=cfg({program})");
+        println!("cargo:rustc-cfg={program}");
+    }
     println!("cargo:rustc-link-search=native={}", LIBRARY);
     println!("cargo:rustc-link-lib=static=planner_c");
 }
