@@ -35,7 +35,7 @@ extern "C" {
 /* The refusals. */
 enum {
     MAIPLUR_SHORT_FILE = 1,     /* fewer than 8 bytes, or the contents cut off */
-    MAIPLUR_OPENING_BYTES = 2,  /* of neither edition; to the writer: no such edition; to the converter: the other edition */
+    MAIPLUR_OPENING_BYTES = 2,  /* of neither edition; to the writer: no such edition; to the converter: of the edition asked for */
     MAIPLUR_NODE_COUNT = 3,     /* no node, more than 32, or one of bytes 5 to 7 is not 0 */
     MAIPLUR_ROW = 4,            /* node numbers that do not rise, no level or more than 64, more than 64 entries */
     MAIPLUR_OFFSET = 5,
@@ -104,18 +104,18 @@ uint32_t maiplur_read(const uint8_t *file, size_t file_length, uint32_t *rows, s
 uint32_t maiplur_write(uint32_t edition, const uint32_t *rows, size_t row_count, const uint32_t *entries,
                        size_t word_count, uint8_t *file, size_t file_length, size_t values[3]);
 
-/* Converts a plan file of edition 1 to edition 2, with every J 0, from the start of `out`, and keeps what lies beyond. Values:
- * the new file's length in bytes, 4 more for each entry. Refuses as maiplur_check does, then a file of edition 2 (2), and a
- * buffer that is too short (10). Both files list and map alike, and maiplur_convert_back turns the new file into the same
- * bytes again. MAIPLUR_MOST_FILE bytes always suffice.
+/* Writes the plan of a file of edition 1 in edition 2, with every J 0, from the start of `out`, and keeps what lies beyond.
+ * Values: the new file's length in bytes, 4 more for each entry. Refuses as maiplur_check does, then a file of edition 2 (2),
+ * and a buffer that is too short (10). Both files list and map alike. From what it wrote, maiplur_convert_back gives the lent
+ * file again, byte for byte. MAIPLUR_MOST_FILE bytes always suffice.
  */
 uint32_t maiplur_convert_forward(const uint8_t *file, size_t file_length, uint8_t *out, size_t out_length,
                                  size_t values[3]);
 
-/* Converts a plan file of edition 2 whose every J is 0 to edition 1, likewise; the new file has 4 bytes less for each entry.
- * Refuses as maiplur_check does, then a file of edition 1 (2), the first entry with a J above 0 (15), row by row, and a
- * buffer that is too short (10). maiplur_convert_forward turns the new file into the same bytes again. MAIPLUR_MOST_FIRST
- * bytes always suffice.
+/* Writes the plan of a file of edition 2 whose every J is 0 in edition 1, likewise; the new file has 4 bytes less for each
+ * entry. Refuses as maiplur_check does, then a file of edition 1 (2), the first entry with a J above 0 (15), row by row, and a
+ * buffer that is too short (10). From what it wrote, maiplur_convert_forward gives the lent file again, byte for byte.
+ * MAIPLUR_MOST_FIRST bytes always suffice.
  */
 uint32_t maiplur_convert_back(const uint8_t *file, size_t file_length, uint8_t *out, size_t out_length, size_t values[3]);
 

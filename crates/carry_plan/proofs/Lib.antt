@@ -1,2 +1,3 @@
 -- Laws for the proofs of functions.
+pub mod Ways
 pub mod Writes

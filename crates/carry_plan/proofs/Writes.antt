@@ -21,21 +21,21 @@ use Rattle.converter.specs.Conversion.{convertCheck, ConvertCall}
 use Rattle.converter.proofs.Converting.{check-own}
 use Rattle.converter.proofs.RoundTrip.{convert-given, written-part}
 use Rattle.converter.proofs.Theorems.{suffices}
-use Rattle.carry_plan.specs.Output.{standardOutput, standardError}
+use Rattle.carry_plan.specs.Output.{convertedFile, refusalLine}
 
 -- two inputs of which the program writes the same
 pub record Alike (to : Edition) (f g : List ℕ) : Type 0 where
-  pub output : standardOutput to f ≡ standardOutput to g
-  pub error : standardError to f ≡ standardError to g
+  pub output : convertedFile to f ≡ convertedFile to g
+  pub error : refusalLine to f ≡ refusalLine to g
 
 module _ (to : Edition) (f : List ℕ) where
-  pub accepted-writes : convertCheck to f ≡ accepted → (standardOutput to f ≡ encoding to (planIn f)) × (standardError to f ≡ [])
-  unfolding standardOutput standardError
-  accepted-writes a = rw (a, standardOutput, standardError) (refl, refl)
+  pub accepted-writes : convertCheck to f ≡ accepted → (convertedFile to f ≡ encoding to (planIn f)) × (refusalLine to f ≡ [])
+  unfolding convertedFile refusalLine
+  accepted-writes a = rw (a, convertedFile, refusalLine) (refl, refl)
 
-  pub refused-writes : (r : Numbered) → convertCheck to f ≡ refused r → (standardOutput to f ≡ []) × (standardError to f ≡ refusedLine r)
-  unfolding standardOutput standardError
-  refused-writes r a = rw (a, standardOutput, standardError) (refl, refl)
+  pub refused-writes : (r : Numbered) → convertCheck to f ≡ refused r → (convertedFile to f ≡ []) × (refusalLine to f ≡ refusedLine r)
+  unfolding convertedFile refusalLine
+  refused-writes r a = rw (a, convertedFile, refusalLine) (refl, refl)
 
 -- what was read of an input is converted as the whole input is
 pub read-alike : (to : Edition) (input array : List ℕ) (n : ℕ) → 65536 < length array → ReadOf input array n → Alike to (take n array) input
@@ -57,7 +57,7 @@ enough Second = omega arith
 module _ {to : Edition} {f old new : List ℕ} (room : length old ≡ 49416) where
   -- a file that was converted
   pub converted-writes : {n : ℕ} → ConvertCall to f old (gives n) new
-      → (n ≤ length old) × (take n new ≡ standardOutput to f) × ([] ≡ standardError to f)
+      → (n ≤ length old) × (take n new ≡ convertedFile to f) × ([] ≡ refusalLine to f)
   converted-writes c =
       let g = giving-gives (convertCheck to f) _ _ (suffices (omega (arith, enough to)) c) in
       let w = accepted-writes to f (g .0) in
@@ -65,7 +65,7 @@ module _ {to : Edition} {f old new : List ℕ} (room : length old ≡ 49416) whe
       (omega (arith, k .1, k .2), written-part c ∙ sym (w .0), sym (w .1))
 
   -- and one that was refused
-  pub nothing-writes : {r : Numbered} → ConvertCall to f old (refuses r) new → ([] ≡ standardOutput to f) × (refusedLine r ≡ standardError to f)
+  pub nothing-writes : {r : Numbered} → ConvertCall to f old (refuses r) new → ([] ≡ convertedFile to f) × (refusedLine r ≡ refusalLine to f)
   nothing-writes c =
       let q = giving-refuses (convertCheck to f) _ _ (suffices (omega (arith, enough to)) c) in
       let w = refused-writes to f _ q in

@@ -1,4 +1,4 @@
--- What the program's argument asks for.
+-- What the words that the program is called with ask for.
 use Prim.Native.Nat.{ℕ}
 use mathlib.Core.Path.{_≡_}
 use mathlib.Core.List.{List}
@@ -7,8 +7,9 @@ use Rattle.plan_file.specs.declared.Edition.the-variants.{First, Second}
 use Rattle.carry_plan.specs.declared.Direction.{Direction}
 use Rattle.carry_plan.specs.declared.Direction.the-variants.{To, Unknown}
 
--- `forward` asks for the second edition, `back` for the first, and any other argument for none.
-abbrev pub Asks : Direction → List ℕ → Type 0
-Asks (To Second) argument = argument ≡ text "forward"
-Asks (To First) argument = argument ≡ text "back"
-Asks Unknown argument = (argument ≡ text "forward" → ⊥) × (argument ≡ text "back" → ⊥)
+-- The program is called with `count` words, its own name among them; `word` is the one after that name. With two words,
+-- `forward` asks for the second edition and `back` for the first. Everything else asks for none.
+abbrev pub Asks : Direction → ℕ → List ℕ → Type 0
+Asks (To Second) count word = (count ≡ 2) × (word ≡ text "forward")
+Asks (To First) count word = (count ≡ 2) × (word ≡ text "back")
+Asks Unknown count word = (count ≡ 2 → word ≡ text "forward" → ⊥) × (count ≡ 2 → word ≡ text "back" → ⊥)

@@ -1,4 +1,4 @@
--- Case P in both editions, a node whose fourth entry starts late, and what their conversions answer.
+-- Case P in both editions, a plan with J in its last entry only, and what conversions of them and of damaged ones answer.
 use Prim.Native.Nat.{ℕ}
 use mathlib.Core.Path.{_≡_, refl}
 use mathlib.Core.List.{List, [], _∷_, _++_}
@@ -27,8 +27,8 @@ secondP =
     ∷ 3 ∷ 0 ∷ 1 ∷ 0 ∷ 68 ∷ 0 ∷ 0 ∷ 0 ∷ 150 ∷ 0 ∷ 0 ∷ 0 ∷ 150 ∷ 0 ∷ 0 ∷ 0 ∷ 0 ∷ 0 ∷ 0 ∷ 0 ∷ 0 ∷ 0 ∷ 0 ∷ 0 ∷ []
 
 -- Two nodes, 3 and 7, each with 1 level and two entries of 1/9/9, and J 8 on the last entry of node 7.
-abbrev pub lastLate : List ℕ
-lastLate =
+abbrev pub lastJitter : List ℕ
+lastJitter =
     0x4C ∷ 0x4D ∷ 0x50 ∷ 0x32 ∷ 2 ∷ 0 ∷ 0 ∷ 0
     ∷ 3 ∷ 0 ∷ 1 ∷ 2 ∷ 24 ∷ 0 ∷ 0 ∷ 0
     ∷ 7 ∷ 0 ∷ 1 ∷ 2 ∷ 72 ∷ 0 ∷ 0 ∷ 0
@@ -54,11 +54,11 @@ pub record Conversions : Type 0 where
   pub isFirst : convertAnswer First caseP 0 ≡ refuses (at 2 0 0)
   -- the file's own checks come first
   pub own : convertAnswer First (set caseP 18 3) 0 ≡ refuses (at 7 0 0)
-  pub ownJitter : convertAnswer First (set lastLate 116 9) 0 ≡ refuses (at 14 1 1)
+  pub ownJitter : convertAnswer First (set lastJitter 116 9) 0 ≡ refuses (at 14 1 1)
   -- J in the last entry of the last node only; the place is told before the buffer's 10
-  pub accepts : fileCheck lastLate ≡ accepted
-  pub last : convertAnswer First lastLate 0 ≡ refuses (at 15 1 1)
-  pub first : convertAnswer First (set lastLate 68 1) 0 ≡ refuses (at 15 0 1)
+  pub accepts : fileCheck lastJitter ≡ accepted
+  pub last : convertAnswer First lastJitter 0 ≡ refuses (at 15 1 1)
+  pub first : convertAnswer First (set lastJitter 68 1) 0 ≡ refuses (at 15 0 1)
   -- J in the fourth entry of the only node
   pub fourth : convertAnswer First (set (secondP ++ (4 ∷ 0 ∷ 1 ∷ 0 ∷ 1 ∷ 0 ∷ 0 ∷ 0 ∷ 9 ∷ 0 ∷ 0 ∷ 0 ∷ 9 ∷ 0 ∷ 0 ∷ 0 ∷ 0 ∷ 0 ∷ 0 ∷ 0 ∷ 1 ∷ 0 ∷ 0 ∷ 0 ∷ [])) 11 4) 100
       ≡ refuses (at 15 0 3)

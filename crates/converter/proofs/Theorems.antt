@@ -1,7 +1,7 @@
 -- The theorems of the converter. All are about calls: their answers, and the buffers as they leave them.
 use Prim.Native.Nat.{ℕ, _+_, _*_, _≤_, _<_}
 use mathlib.Core.Path.{_≡_, _∙_, refl, sym, ap, subst}
-use mathlib.Core.Logic.{_↔_, ⊎-elim}
+use mathlib.Core.Logic.{_↔_, _⊎_, inl, inr, ⊎-elim}
 use mathlib.Core.Bool.{true}
 use mathlib.Core.List.{List, _++_}
 use native.Mathlib.Omega.{arith}
@@ -11,7 +11,7 @@ use lib.Seq.{getD-take, getD-drop}
 use lib.Dec.{leb, ltb}
 use Rattle.refusals.specs.Refusals.{Numbered, at, accepted, refused}
 use Rattle.refusals.specs.Answers.{Answer, gives, refuses, giving}
-use Rattle.refusals.proofs.Outcomes.{either}
+use Rattle.refusals.proofs.Outcomes.{either, not-both}
 use Rattle.task_model.specs.Limits.{noEntry, entryAt}
 use Rattle.task_model.proofs.Tests.{true-or-false}
 use Rattle.byte_words.specs.Bytes.{Bytes}
@@ -29,10 +29,10 @@ use Rattle.plan_file.proofs.Contents.{length-rows, length-entries-at}
 use Rattle.plan_file.proofs.Nodes.{contents-rows}
 use Rattle.plan_file.proofs.Decoded.{same-edition, few-entries}
 use Rattle.plan_file.proofs.File.{file-holds}
-use Rattle.plan_file.proofs.Theorems.{within}
+use Rattle.plan_file.proofs.Theorems.{first-punctual, within}
 use Rattle.converter.specs.Conversion.{other, lossCheck, convertCheck, ConvertCall}
-use Rattle.converter.proofs.Lost.{kept-exactly, lost, loss-place}
-use Rattle.converter.proofs.Converting.{opened, long, roomAnswer, check-edition, check-rest, convert-refused, convert-accepted}
+use Rattle.converter.proofs.Lost.{kept-exactly, loss-place}
+use Rattle.converter.proofs.Converting.{opened, forward-keeps, long, roomAnswer, check-own, check-edition, check-rest, convert-refused, convert-accepted}
 use Rattle.converter.proofs.RoundTrip.{all-kept, nothing-lost, Passes, passes, convert-given, encoded-accepted, encoded-plan, written-part, converted-again}
 
 -- A file of the first edition that goes forward, and what was written then back, is the same bytes.
@@ -122,8 +122,8 @@ wrong-edition {to} {f} {old} h e c =
 opens-as : (ed : Edition) (f : List ℕ) → fileCheck f ≡ accepted → editionOf f ≡ ed → openingTest ed f ≡ true
 opens-as ed f a e = opens-true ed f (subst (λ d. Opens d f) e (file-holds f a .header .opens))
 
--- A file is converted exactly if it is accepted, is of the other edition, the edition asked for has a place for every entry,
--- and the buffer is long enough.
+-- A file is converted exactly if it is accepted, is of the other edition, the edition asked for has a place for every
+-- entry's J, and the buffer is long enough.
 pub converts-exactly : {to : Edition} {f old new : List ℕ} {a : Answer ℕ} → ConvertCall to f old a new
     → ((n : ℕ) × (a ≡ gives n))
     ↔ ((fileCheck f ≡ accepted) × (editionOf f ≡ other to) × EditionHolds to (planIn f) × (length (encoding to (planIn f)) ≤ length old))
@@ -140,30 +140,30 @@ converts-exactly {to} {f} {old} c = (
 )
 
 -- The first entry of a plan with a J above zero, row by row and entry by entry, stands at this row and this position.
-pub record FirstLate (p : Plan) (row position : ℕ) : Type 0 where
+pub record FirstJitter (p : Plan) (row position : ℕ) : Type 0 where
   pub there : row < length (p .rows)
   pub inside : position < length (nodeOfRow p row .entries)
-  pub late : 0 < entryAt (nodeOfRow p row .entries) position .jitter
+  pub above : 0 < entryAt (nodeOfRow p row .entries) position .jitter
   pub before : (j : ℕ) → j < position → entryAt (nodeOfRow p row .entries) j .jitter ≡ 0
   pub rowsBefore : (i : ℕ) → i < row → (j : ℕ) → j < length (nodeOfRow p i .entries) → entryAt (nodeOfRow p i .entries) j .jitter ≡ 0
 
 -- where a refusal of the first lost J stands
 module _ (f : List ℕ) where
-  found-late : (r : Numbered) → nodesBy (lossCheck First) 0 (rowsIn f) (entriesIn f) ≡ refused r
-      → (row : ℕ) × (position : ℕ) × (r ≡ at 15 row position) × FirstLate (planIn f) row position
+  found-jitter : (r : Numbered) → nodesBy (lossCheck First) 0 (rowsIn f) (entriesIn f) ≡ refused r
+      → (row : ℕ) × (position : ℕ) × (r ≡ at 15 row position) × FirstJitter (planIn f) row position
   unfolding nodeOfRow
-  found-late r p =
+  found-jitter r p =
       let t = nodes-refused (lossCheck First) (EditionFits First) (kept-exactly First) 0 (rowsIn f) (entriesIn f) r p in
       let z : 0 + t .row ≡ t .row = omega arith in
       let l = loss-place (t .row) (t .position) _ r (rw z at (t .refuses)) in (
         t .row,
         t .position,
         l .1,
-        record { there = t .there; inside = t .inside; late = l .0; before = t .before; rowsBefore = t .rowsBefore },
+        record { there = t .there; inside = t .inside; above = l .0; before = t .before; rowsBefore = t .rowsBefore },
       )
 
   -- the entry in its node is one of all entries
-  in-all : (row position : ℕ) → FirstLate (planIn f) row position
+  in-all : (row position : ℕ) → FirstJitter (planIn f) row position
       → (j : ℕ) × (j < length (planIn f .entries)) × (0 < entryAt (planIn f .entries) j .jitter)
   unfolding nodeOfRow
   in-all row position h =
@@ -173,16 +173,16 @@ module _ (f : List ℕ) where
       let l = length-take c (drop d es) in
       let e : entryAt (take c (drop d es)) position ≡ entryAt es (d + position) =
       getD-take c (drop d es) position noEntry (omega (arith, h .inside, l)) ∙ getD-drop d es position noEntry in
-      (d + position, omega (arith, h .inside, l, length-drop d es), rw (← e) (h .late))
+      (d + position, omega (arith, h .inside, l, length-drop d es), rw (← e) (h .above))
 
 -- there is only one
-row-first : {p : Plan} {row position row′ position′ : ℕ} → FirstLate p row position → FirstLate p row′ position′ → row < row′ → ⊥
-row-first h g l = omega (arith, h .late, g .rowsBefore _ l _ (h .inside))
+row-first : {p : Plan} {row position row′ position′ : ℕ} → FirstJitter p row position → FirstJitter p row′ position′ → row < row′ → ⊥
+row-first h g l = omega (arith, h .above, g .rowsBefore _ l _ (h .inside))
 
-position-first : {p : Plan} {row position position′ : ℕ} → FirstLate p row position → FirstLate p row position′ → position < position′ → ⊥
-position-first h g l = omega (arith, h .late, g .before _ l)
+position-first : {p : Plan} {row position position′ : ℕ} → FirstJitter p row position → FirstJitter p row position′ → position < position′ → ⊥
+position-first h g l = omega (arith, h .above, g .before _ l)
 
-same-row : {p : Plan} {row position row′ position′ : ℕ} → FirstLate p row position → FirstLate p row′ position′ → row ≡ row′
+same-row : {p : Plan} {row position row′ position′ : ℕ} → FirstJitter p row position → FirstJitter p row′ position′ → row ≡ row′
 same-row {row} {row′} h g =
     ⊎-elim (λ t. absurd (row-first h g (ltb-true row row′ t)))
     (λ t.
@@ -190,7 +190,7 @@ same-row {row} {row′} h g =
     (true-or-false (ltb row′ row)))
     (true-or-false (ltb row row′))
 
-same-position : {p : Plan} {row position position′ : ℕ} → FirstLate p row position → FirstLate p row position′ → position ≡ position′
+same-position : {p : Plan} {row position position′ : ℕ} → FirstJitter p row position → FirstJitter p row position′ → position ≡ position′
 same-position {position} {position′} h g =
     ⊎-elim (λ t. absurd (position-first h g (ltb-true position position′ t)))
     (λ t.
@@ -228,21 +228,21 @@ module _ {f old new : List ℕ} {a : Answer ℕ} (h : fileCheck f ≡ accepted) 
   lost-answer r p = c .answer ∙ convert-refused First f (length old) r (check-rest First f h opens-second ∙ p)
 
   -- It is refused as 15, with a row and a position, exactly if its first entry with a J above zero stands there.
-  pub lost-at : (row position : ℕ) → a ≡ refuses (at 15 row position) ↔ FirstLate (planIn f) row position
+  pub lost-at : (row position : ℕ) → a ≡ refuses (at 15 row position) ↔ FirstJitter (planIn f) row position
   lost-at row position = (
     λ p.
         ⊎-elim (λ k. absurd (no-loss k row position p))
         (λ q.
-        let t = found-late f (q .0) (q .1) in
+        let t = found-jitter f (q .0) (q .1) in
         let s = places (sym (t .2) ∙ refuses-same (sym (lost-answer (q .0) (q .1)) ∙ p)) in
-        subst (λ i. FirstLate (planIn f) i position) (s .0) (subst (λ j. FirstLate (planIn f) (t .0) j) (s .1) (t .3)))
+        subst (λ i. FirstJitter (planIn f) i position) (s .0) (subst (λ j. FirstJitter (planIn f) (t .0) j) (s .1) (t .3)))
         (either (nodesBy (lossCheck First) 0 (rowsIn f) (entriesIn f))),
     λ g.
         ⊎-elim (λ k. let t = in-all f row position g in absurd (omega (arith, t .2, all-kept First f k (t .0) (t .1))))
         (λ q.
-        let t = found-late f (q .0) (q .1) in
+        let t = found-jitter f (q .0) (q .1) in
         let r = same-row (t .3) g in
-        let s = same-position (subst (λ i. FirstLate (planIn f) i (t .1)) r (t .3)) g in
+        let s = same-position (subst (λ i. FirstJitter (planIn f) i (t .1)) r (t .3)) g in
         lost-answer (q .0) (q .1) ∙ ap refuses (t .2 ∙ rw (r, s)))
         (either (nodesBy (lossCheck First) 0 (rowsIn f) (entriesIn f))),
   )
@@ -254,6 +254,51 @@ module _ {f old new : List ℕ} {a : Answer ℕ} (h : fileCheck f ≡ accepted) 
     λ t. in-all f (t .0) (t .1) (lost-at (t .0) (t .1) .0 (t .2)),
     λ t.
         ⊎-elim (λ k. absurd (omega (arith, t .2, all-kept First f k (t .0) (t .1))))
-        (λ q. let g = found-late f (q .0) (q .1) in (g .0, g .1, lost-answer (q .0) (q .1) ∙ ap refuses (g .2)))
+        (λ q. let g = found-jitter f (q .0) (q .1) in (g .0, g .1, lost-answer (q .0) (q .1) ∙ ap refuses (g .2)))
         (either (nodesBy (lossCheck First) 0 (rowsIn f) (entriesIn f))),
   )
+
+-- Going forward, every J of the new file is zero.
+pub every-zero : {f old new : List ℕ} {n : ℕ} → Bytes f → ConvertCall Second f old (gives n) new
+    → (j : ℕ) → j < length (planIn (take n new) .entries) → entryAt (planIn (take n new) .entries) j .jitter ≡ 0
+every-zero {f} {n} b c =
+    let h = convert-given Second f _ n (c .answer) .0 in
+    subst (λ (p : Plan). EditionHolds First p) (sym (new-file b c .plan)) (first-punctual f (opened First f (h .opens)))
+
+-- A refusal by the file's own checks is the answer.
+pub own-refusal : {to : Edition} {f old new : List ℕ} {a : Answer ℕ} {r : Numbered} → fileCheck f ≡ refused r → ConvertCall to f old a new
+    → a ≡ refuses r
+own-refusal {to} {f} {old} {r} p c = c .answer ∙ convert-refused to f (length old) r (check-own to f r p)
+
+-- what would be lost is refused as 15
+number-15 : (to : Edition) (f : List ℕ) (r : Numbered) → nodesBy (lossCheck to) 0 (rowsIn f) (entriesIn f) ≡ refused r → r .number ≡ 15
+number-15 First f r p = ap (λ (q : Numbered). q .number) (found-jitter f r p .2)
+number-15 Second f r p = absurd (not-both (forward-keeps f) p)
+
+same-number : {r q : Numbered} → _≡_ {A = Answer ℕ} (refuses r) (refuses q) → r .number ≡ q .number
+same-number e = ap (λ (x : Numbered). x .number) (refuses-same e)
+
+-- where only the room is left to be checked
+room-number : (to : Edition) (f : List ℕ) (room : ℕ) (r : Numbered) → refuses r ≡ roomAnswer to f room → r .number ≡ 10
+room-number to f room r e =
+    ⊎-elim
+    (λ t.
+    let z : _≡_ {A = Answer ℕ} (refuses r) (gives (length (encoding to (planIn f)))) = rw t at e in
+    let y : _≡_ {A = ℕ} 0 1 = cc in
+    absurd (omega arith))
+    (λ t. let z : _≡_ {A = Answer ℕ} (refuses r) (refuses (at 10 0 0)) = rw t at e in same-number z)
+    (true-or-false (leb (length (encoding to (planIn f))) room))
+
+-- An accepted file is refused only as 2, 15 or 10: what the file's own checks accept is never 14 here.
+pub later-number : {to : Edition} {f old new : List ℕ} {r : Numbered} → fileCheck f ≡ accepted → ConvertCall to f old (refuses r) new
+    → (r .number ≡ 2) ⊎ (r .number ≡ 15) ⊎ (r .number ≡ 10)
+later-number {to} {f} {old} {r} h c =
+    ⊎-elim
+    (λ o.
+    ⊎-elim
+    (λ k. inr (inr (room-number to f (length old) r (c .answer ∙ convert-accepted to f (length old) (check-rest to f h o ∙ k)))))
+    (λ q.
+    inr (inl (same-number (c .answer ∙ convert-refused to f (length old) (q .0) (check-rest to f h o ∙ q .1)) ∙ number-15 to f (q .0) (q .1))))
+    (either (nodesBy (lossCheck to) 0 (rowsIn f) (entriesIn f))))
+    (λ o. inl (same-number (c .answer ∙ convert-refused to f (length old) (at 2 0 0) (check-edition to f h o))))
+    (true-or-false (openingTest (other to) f))

@@ -113,7 +113,7 @@ fn write_converted(to: Edition, file: &[u8], out: &mut [u8]) -> Written
     Written::Length(length)
 }
 
-// Converts a file to an edition, from the buffer's start.
+// Writes a file's plan in an edition, from the buffer's start.
 fn convert(to: Edition, file: &[u8], out: &mut [u8]) -> Written
     ensures { λ a. ⌜ ConvertCall to (now (file .entry)) (now (out .entry)) (writeGives a) (now (out .exit)) ⌝ }
     ensures { λ a. ⌜ ConvertedAgain to (now (file .entry)) (writeGives a) (now (out .exit)) ⌝ }
@@ -125,9 +125,9 @@ fn convert(to: Edition, file: &[u8], out: &mut [u8]) -> Written
     write_converted(to, file, out)
 }
 
-// Converts a file of the first edition to the second, with every J 0, from the buffer's start. Refuses as check_file does,
-// then a file of the second edition (2), and a buffer that is too short (10). From the written file, back writes the same
-// bytes again.
+// Writes the plan of a file of the first edition in the second, with every J 0, from the buffer's start. Refuses as
+// check_file does, then a file of the second edition (2), and a buffer that is too short (10). From what it wrote, back gives
+// the lent file again, byte for byte.
 pub fn forward(file: &[u8], out: &mut [u8]) -> Written
     ensures { λ a.
         ⌜ ConvertCall Edition.Second (now (file .entry)) (now (out .entry)) (writeGives a) (now (out .exit)) ⌝ }
@@ -136,9 +136,9 @@ pub fn forward(file: &[u8], out: &mut [u8]) -> Written
     convert(Edition::Second, file, out)
 }
 
-// Converts a file of the second edition to the first, from the buffer's start. Refuses as check_file does, then a file of
-// the first edition (2), the first entry with a J above zero (15), and a buffer that is too short (10). From the written
-// file, forward writes the same bytes again.
+// Writes the plan of a file of the second edition in the first, from the buffer's start. Refuses as check_file does, then a
+// file of the first edition (2), the first entry with a J above zero (15), and a buffer that is too short (10). From what it
+// wrote, forward gives the lent file again, byte for byte.
 pub fn back(file: &[u8], out: &mut [u8]) -> Written
     ensures { λ a.
         ⌜ ConvertCall Edition.First (now (file .entry)) (now (out .entry)) (writeGives a) (now (out .exit)) ⌝ }

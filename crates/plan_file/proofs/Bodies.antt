@@ -188,7 +188,7 @@ module _ (check : ℕ → ℕ → Entry → Outcome) (P : Entry → Type 0)
   abbrev part : List Row → List Entry → ℕ → List Entry
   part rs es i = take (rowIn rs i .count) (drop (entryCount (take i rs)) es)
 
-  -- rows that are refused are refused as the first entry is that is not as P says, row by row and entry by entry
+  -- the refusal is that of the first entry, row by row and entry by entry, that is not as P says
   pub record RefusedAt (k : ℕ) (rs : List Row) (es : List Entry) (r : Numbered) : Type 0 where
     pub row : ℕ
     pub position : ℕ

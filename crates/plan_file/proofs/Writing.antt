@@ -93,7 +93,7 @@ plan-stored ed p n e d =
     ∙ ap (λ i. over d 0 (headerBytes ed i ++ contentsBytes (entryLength ed) (bodiesStart i) (p .rows) ++ b)) e)
 
 module _ (ed : Edition) (rs ws : List ℕ) where
-  -- of a plan in memory
+  -- so they are for a plan in memory
   pub written : (d : List ℕ)
       → over
       (over (over d 0 (headerBytes ed (length rs))) headerLength (contentsBytes (entryLength ed) (bodiesStart (length rs)) (map rowOf rs)))

@@ -2,6 +2,8 @@
 use super::Edition;
 use super::FIRST_ENTRY_BYTES;
 use super::FIRST_OPENING;
+use super::MOST_FIRST;
+use super::MOST_SECOND;
 use super::SECOND_ENTRY_BYTES;
 use super::SECOND_OPENING;
 ghost use mathlib.Core.Path.{_≡_};
@@ -9,6 +11,7 @@ ghost use lib.ListN.{length};
 ghost use Prim.Native.Nat.{_/_, _≤_};
 ghost use Rattle.plan_file.specs.Encoding.{openingBytes, headerLength, entryLength};
 ghost use Rattle.plan_file.specs.Decoding.{openingTest};
+ghost use Rattle.plan_file.specs.Limits.{longest};
 
 // The four bytes that a file opens with.
 pub(crate) fn opening_of(edition: Edition) -> [u8; 4]
@@ -55,5 +58,15 @@ pub fn entries_in(edition: Edition, bytes: usize) -> usize
     match edition {
         Edition::First => bytes / FIRST_ENTRY_BYTES,
         Edition::Second => bytes / SECOND_ENTRY_BYTES,
+    }
+}
+
+// The most bytes of a file: a buffer of this length always suffices.
+pub fn most_bytes(edition: Edition) -> usize
+    ensures { λ n. ⌜ n ≡ longest edition ⌝ }
+{
+    match edition {
+        Edition::First => MOST_FIRST,
+        Edition::Second => MOST_SECOND,
     }
 }

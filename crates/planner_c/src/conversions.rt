@@ -10,8 +10,8 @@ ghost use Rattle.converter.specs.RoundTrip.{ConvertedAgain};
 ghost use Rattle.planner_c.specs.Returned.{returned, sized};
 use plan_file::Edition;
 
-// Converts a file of edition 1 to edition 2, with every J 0, from the buffer's start. Gives the new file's length. From the
-// written file, maiplur_convert_back writes the same bytes again.
+// Writes the plan of a file of edition 1 in edition 2, with every J 0, from the buffer's start. Gives the new file's length.
+// From what it wrote, maiplur_convert_back gives the lent file again, byte for byte.
 #[no_mangle]
 pub extern "C" fn maiplur_convert_forward(
     file: &[u8],
@@ -33,8 +33,8 @@ pub extern "C" fn maiplur_convert_forward(
     give_written(written, values)
 }
 
-// Converts a file of edition 2 to edition 1, from the buffer's start, if every J is 0. Gives the new file's length. From the
-// written file, maiplur_convert_forward writes the same bytes again.
+// Writes the plan of a file of edition 2 in edition 1, if every J is 0, from the buffer's start. Gives the new file's length.
+// From what it wrote, maiplur_convert_forward gives the lent file again, byte for byte.
 #[no_mangle]
 pub extern "C" fn maiplur_convert_back(file: &[u8], out: &mut [u8], values: &mut [usize; 3]) -> u32
     ensures { λ a.

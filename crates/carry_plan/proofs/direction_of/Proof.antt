@@ -4,18 +4,21 @@ use Rattle.carry_plan.proofs.direction_of.Statement.{statement}
 use Rattle.carry_plan.proofs.direction_of.Tie as tie
 
 returns : tie.Need-returns
-returns c = c .before .same-bytes .ensures .0 (c .if1 .taken)
+returns c = ((λ e w. c .if1 .taken e), (λ e w. c .if1 .taken e))
 
 returns-2 : tie.Need-returns-2
-returns-2 c = c .before .same-bytes2 .ensures .0 (c .if2 .taken)
+returns-2 c = (c .before .before .before .if1 .left, c .before .same-bytes .ensures .0 (c .if2 .taken))
 
 returns-3 : tie.Need-returns-3
-returns-3 c = (
-  said-no (c .before .before .before .before .same-bytes .ensures) (c .before .before .before .if1 .left),
-  said-no (c .before .same-bytes2 .ensures) (c .if2 .left),
+returns-3 c = (c .before .before .before .before .before .before .if1 .left, c .before .same-bytes2 .ensures .0 (c .if3 .taken))
+
+returns-4 : tie.Need-returns-4
+returns-4 c = (
+  (λ e. said-no (c .before .before .before .before .same-bytes .ensures) (c .before .before .before .if2 .left)),
+  (λ e. said-no (c .before .same-bytes2 .ensures) (c .if3 .left)),
 )
 
 pub direction-of-spec : {M : Type 1} → statement M
 direction-of-spec =
     tie.close (tie.spec
-    (λ c. search needs) (λ c κs. search needs) returns (λ c. search needs) (λ c κs. search needs) returns-2 returns-3)
+    returns (λ c. search needs) (λ c κs. search needs) returns-2 (λ c. search needs) (λ c κs. search needs) returns-3 returns-4)
