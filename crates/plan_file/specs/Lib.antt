@@ -8,5 +8,7 @@ pub mod Find
 pub mod Limits
 pub mod Answers
 pub mod RoundTrips
+-- A reader need not believe this: only internal functions use it.
+pub mod Quick
 -- Only the programs use this.
 pub mod Input
