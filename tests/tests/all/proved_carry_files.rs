@@ -325,28 +325,32 @@ fn a_part_of_the_plan_is_not_kept() {
 }
 
 /// Ended by a signal while it waits for the plan, it leaves the target alone
-/// and no other file behind. The signal is TERM: HUP and INT are often ignored
-/// where tests run, and a shell cannot trap what its caller ignores.
+/// and no other file behind. A shell cannot trap a signal that its caller
+/// ignores, as a job in the background ignores INT, so `env` resets them.
 #[test]
 fn ended_by_a_signal() {
-    let folder = fresh("carry_signal");
-    let (from, to) = (folder.join("pipe"), folder.join("old.plan"));
-    let made = Command::new("mkfifo").arg(&from).status();
-    assert!(made.expect("mkfifo starts").success());
-    put_old(&to, b"as it was");
-    let before = state(&to);
-    let mut tool = Command::new(root().join("tools/carry"));
-    let tool = tool.arg("forward").args([&from, &to]);
-    let mut child = tool.stderr(Stdio::null()).spawn().unwrap();
-    // Waits until the program has the other end.
-    let mut plan = File::options().write(true).open(&from).unwrap();
-    let kill = ["-s", "TERM", &child.id().to_string()].map(String::from);
-    assert!(Command::new("kill").args(kill).status().unwrap().success());
-    plan.write_all(&p(Edition::First)).unwrap();
-    drop(plan);
-    assert!(!child.wait().unwrap().success());
-    assert_eq!(state(&to), before);
-    assert_eq!(fs::read_dir(&folder).unwrap().count(), 2);
+    for signal in ["HUP", "INT", "TERM"] {
+        let folder = fresh("carry_signal");
+        let (from, to) = (folder.join("pipe"), folder.join("old.plan"));
+        let made = Command::new("mkfifo").arg(&from).status();
+        assert!(made.expect("mkfifo starts").success());
+        put_old(&to, b"as it was");
+        let before = state(&to);
+        let mut tool = Command::new("env");
+        tool.arg(format!("--default-signal={signal}"));
+        let tool = tool.arg(root().join("tools/carry")).arg("forward");
+        let tool = tool.args([&from, &to]);
+        let mut child = tool.stderr(Stdio::null()).spawn().unwrap();
+        // Waits until the program has the other end.
+        let mut plan = File::options().write(true).open(&from).unwrap();
+        let kill = ["-s", signal, &child.id().to_string()].map(String::from);
+        assert!(Command::new("kill").args(kill).status().unwrap().success());
+        plan.write_all(&p(Edition::First)).unwrap();
+        drop(plan);
+        assert!(!child.wait().unwrap().success(), "{signal}");
+        assert_eq!(state(&to), before, "{signal}");
+        assert_eq!(fs::read_dir(&folder).unwrap().count(), 2, "{signal}");
+    }
 }
 
 /// Runs `make carry` as from a shell, even if make runs the tests.
