@@ -6,7 +6,7 @@ use native.Mathlib.Nat.{le-trans, le-refl, eq-or-lt-of-le}
 use native.Mathlib.Decide.{decLe}
 use native.Mathlib.Omega.{arith}
 use borrow.Author.Tests.{le-leb, lt-leb, eq-eqb, ne-eqb}
-use Rattle.completion.specs.Test.{Completion, on-time, late, iterate, testFrom}
+use Rattle.completion.specs.Test.{Completion, on-time, late, overrun, iterate, testFrom}
 use Rattle.completion.specs.Rounds.{Fixed}
 
 pub le-or-lt : (a b : ℕ) → (a ≤ b) ⊎ (b < a)
@@ -14,7 +14,7 @@ le-or-lt a b = elim (decLe a b) [ yes p ↦ inl p | no p ↦ inr (omega arith) ]
 
 -- one round
 module _ (w : ℕ → ℕ) (d : ℕ) where
-  pub iterate-late : (k t n : ℕ) → d < t → iterate w d k t n ≡ late n
+  pub iterate-late : (k t n : ℕ) → d < t → iterate w d k t n ≡ late n (overrun w d)
   unfolding iterate
   iterate-late zero t n h = refl
   iterate-late (suc k) t n h = rw (lt-leb t d h, iterate)
@@ -54,7 +54,7 @@ module _ (w : ℕ → ℕ) (d : ℕ) (up : (a b : ℕ) → a ≤ b → w a ≤ w
       (le-or-lt t d)
 
   -- the three ways of a round
-  pub test-late : (t n : ℕ) → d < t → testFrom w d t n ≡ late n
+  pub test-late : (t n : ℕ) → d < t → testFrom w d t n ≡ late n (overrun w d)
   unfolding testFrom
   test-late t n h = iterate-late w d (d + 1 - t) t n h
 
@@ -74,11 +74,11 @@ module _ (w : ℕ → ℕ) (d : ℕ) (up : (a b : ℕ) → a ≤ b → w a ≤ w
   -- every such time is beyond d
   abbrev pub Least : ℕ → Completion → Type 0
   Least t (on-time x m) = Fixed w x × (t ≤ x) × (x ≤ d) × ((y : ℕ) → t ≤ y → w y ≤ y → x ≤ y)
-  Least t (late m) = (y : ℕ) → t ≤ y → w y ≤ y → d < y
+  Least t (late m x) = (y : ℕ) → t ≤ y → w y ≤ y → d < y
 
   least-before : (t : ℕ) (o : Completion) → t ≤ w t → Least (w t) o → Least t o
   least-before t (on-time x m) g l = (l .0, omega arith, l .2, λ y h p. l .3 y (le-trans (up t y h) p) p)
-  least-before t (late m) g l = λ y h p. l y (le-trans (up t y h) p) p
+  least-before t (late m x) g l = λ y h p. l y (le-trans (up t y h) p) p
 
   iterate-least : (k t n : ℕ) → t ≤ w t → d < t + k → Least t (iterate w d k t n)
   iterate-least zero t n g h = rw (iterate-late w d zero t n (omega arith)) (λ y l p. omega arith)
@@ -97,10 +97,10 @@ module _ (w : ℕ → ℕ) (d : ℕ) (up : (a b : ℕ) → a ≤ b → w a ≤ w
   unfolding testFrom
   test-least t n g = iterate-least (d + 1 - t) t n g (omega arith)
 
-  -- the same for a loop that has evaluated the demand to x, and whose answer is to be o
+  -- the same for a loop that has evaluated the demand to x, or found the overrun x, and whose answer is to be o
   module _ (t n : ℕ) (o : Completion) (p : testFrom w d t n ≡ o) where
-    pub loop-late : d < t → late n ≡ o
-    loop-late h = sym (test-late t n h) ∙ p
+    pub loop-late : (x : ℕ) → d < t → x ≡ overrun w d → late n x ≡ o
+    loop-late x h e = rw e (sym (test-late t n h) ∙ p)
 
     pub loop-done : (x : ℕ) → t ≤ d → x ≡ w t → x ≡ t → on-time t (n + 1) ≡ o
     loop-done x h e l = sym (test-done t n h (sym e ∙ l)) ∙ p

@@ -10,3 +10,4 @@ pub mod Alike
 pub mod Words
 pub mod Theorems
 pub mod WithoutJitter
+pub mod WithoutOverrun

@@ -5,7 +5,7 @@ use mathlib.Core.Logic.{⊎-elim, _↔_, by-cases}
 use native.Mathlib.Nat.{le-trans, le-refl, le-of-eq}
 use native.Mathlib.Decide.{decLt}
 use native.Mathlib.Omega.{arith}
-use Rattle.completion.specs.Test.{Completion, on-time, late, iterate, testFrom, roundsIn}
+use Rattle.completion.specs.Test.{Completion, on-time, late, overrun, iterate, testFrom, roundsIn}
 use Rattle.completion.specs.Rounds.{iterates, Fixed, FixedIn, LateIn}
 use Rattle.completion.proofs.Iteration.{le-or-lt, iterate-late, iterate-done, iterate-next, rising}
 
@@ -37,7 +37,7 @@ module _ (w : ℕ → ℕ) (d : ℕ) (up : (a b : ℕ) → a ≤ b → w a ≤ w
   -- what the answer says where `n` rounds were made before
   abbrev Said : ℕ → ℕ → Completion → Type 0
   Said t n (on-time x m) = (r : ℕ) × (m ≡ n + r) × FixedIn w t d x r
-  Said t n (late m) = (r : ℕ) × (m ≡ n + r) × LateIn w t d r
+  Said t n (late m x) = (r : ℕ) × (m ≡ n + r) × LateIn w t d r × (x ≡ overrun w d)
 
   said-next : (t n : ℕ) (o : Completion) → t ≤ d → t < w t → Said (w t) (n + 1) o → Said t n o
   said-next t n (on-time x m) h l s = (
@@ -52,7 +52,7 @@ module _ (w : ℕ → ℕ) (d : ℕ) (up : (a b : ℕ) → a ≤ b → w a ≤ w
       due = s .2 .due;
     },
   )
-  said-next t n (late m) h l s = (
+  said-next t n (late m x) h l s = (
     suc (s .0),
     omega arith,
     record {
@@ -60,12 +60,13 @@ module _ (w : ℕ → ℕ) (d : ℕ) (up : (a b : ℕ) → a ≤ b → w a ≤ w
       moving = not-fixed w t (s .0) l (s .2 .moving);
       beyond = rw (iterates-next w t (s .0)) at (s .2 .beyond);
     },
+    s .3,
   )
 
   said : (k t n : ℕ) → t ≤ w t → d < t + k → Said t n (iterate w d k t n)
   said zero t n g h =
       rw (iterate-late w d zero t n (omega arith))
-      (0, omega arith, record { within = λ j p. absurd (omega arith); moving = λ j p. absurd (omega arith); beyond = omega (arith, iterates-none w t) })
+      (0, omega arith, record { within = λ j p. absurd (omega arith); moving = λ j p. absurd (omega arith); beyond = omega (arith, iterates-none w t) }, refl)
   said (suc k) t n g h =
       ⊎-elim
       (λ a. ⊎-elim
@@ -88,7 +89,7 @@ module _ (w : ℕ → ℕ) (d : ℕ) (up : (a b : ℕ) → a ≤ b → w a ≤ w
       (rising w d up t g))
       (λ a.
       rw (iterate-late w d (suc k) t n a)
-      (0, omega arith, record { within = λ j p. absurd (omega arith); moving = λ j p. absurd (omega arith); beyond = omega (arith, iterates-none w t) }))
+      (0, omega arith, record { within = λ j p. absurd (omega arith); moving = λ j p. absurd (omega arith); beyond = omega (arith, iterates-none w t) }, refl))
       (le-or-lt t d)
 
   module _ (t : ℕ) (g : t ≤ w t) where
@@ -137,11 +138,11 @@ module _ (w : ℕ → ℕ) (d : ℕ) (up : (a b : ℕ) → a ≤ b → w a ≤ w
     decides-fixed (on-time y n) s x m p =
         let e = one-fixed y x (s .0) m (s .2) p in
         ap₂ on-time (e .0) (omega arith)
-    decides-fixed (late n) s x m p = absurd (not-both x m (s .0) p (s .2))
+    decides-fixed (late n y) s x m p = absurd (not-both x m (s .0) p (s .2))
 
-    decides-late : (o : Completion) → Said t 0 o → (m : ℕ) → LateIn w t d m → o ≡ late m
+    decides-late : (o : Completion) → Said t 0 o → (m : ℕ) → LateIn w t d m → o ≡ late m (overrun w d)
     decides-late (on-time y n) s m p = absurd (not-both y (s .0) m (s .2) p)
-    decides-late (late n) s m p = ap late (omega (arith, one-late (s .0) m (s .2) p))
+    decides-late (late n y) s m p = ap₂ late (omega (arith, one-late (s .0) m (s .2) p)) (s .3)
 
     pub fixed-in : (x m : ℕ) → testFrom w d t 0 ≡ on-time x m ↔ FixedIn w t d x m
     fixed-in x m = (
@@ -149,10 +150,10 @@ module _ (w : ℕ → ℕ) (d : ℕ) (up : (a b : ℕ) → a ≤ b → w a ≤ w
       decides-fixed (testFrom w d t 0) test-said x m,
     )
 
-    pub late-in : (m : ℕ) → testFrom w d t 0 ≡ late m ↔ LateIn w t d m
-    late-in m = (
-      λ p. let s = subst (Said t 0) p test-said in let e : m ≡ s .0 = omega arith in rw e (s .2),
-      decides-late (testFrom w d t 0) test-said m,
+    pub late-in : (m x : ℕ) → testFrom w d t 0 ≡ late m x ↔ (LateIn w t d m × (x ≡ overrun w d))
+    late-in m x = (
+      λ p. let s = subst (Said t 0) p test-said in let e : m ≡ s .0 = omega arith in (rw e (s .2), s .3),
+      λ p. decides-late (testFrom w d t 0) test-said m (p .0) ∙ ap (late m) (sym (p .1)),
     )
 
     -- each round that goes on raises the time
@@ -168,8 +169,8 @@ module _ (w : ℕ → ℕ) (d : ℕ) (up : (a b : ℕ) → a ≤ b → w a ≤ w
     rounds-of (on-time x m) s p =
         let f = s .2 in
         omega (arith, climbs (f .last) (f .first), f .reached, f .due, f .counted)
-    rounds-of (late zero) s p = zero-le
-    rounds-of (late (suc m)) s p =
+    rounds-of (late zero x) s p = zero-le
+    rounds-of (late (suc m) x) s p =
         let f = s .2 in
         let e : s .0 ≡ suc m = omega arith in
         omega (arith, climbs m (λ j q. f .moving j (omega arith)), f .within m (omega arith))
@@ -214,8 +215,8 @@ module _ (w : ℕ → ℕ) (d : ℕ) (up : (a b : ℕ) → a ≤ b → w a ≤ w
         f .due,
       ) in
       omega (arith, counts (f .last) (f .first), q-up _ _ top, f .counted)
-  bound-of (late zero) s = zero-le
-  bound-of (late (suc m)) s =
+  bound-of (late zero x) s = zero-le
+  bound-of (late (suc m) x) s =
       let f = s .2 in
       let e : s .0 ≡ suc m = omega arith in
       let top : iterates w 1 (suc m) ≤ d = rw (iterates-next w 1 m) at (f .within m (omega arith)) in

@@ -1,11 +1,12 @@
 -- The theorems of the completion time test. They hold for any levels of the entries and any blocking of the timed entry.
 -- Theorems about a group hold for any group bounds.
-use Prim.Native.Nat.{ℕ, _+_, _≤_, _<_}
+use Prim.Native.Nat.{ℕ, _+_, _-_, _≤_, _<_}
 use mathlib.Core.Path.{_≡_, _∙_, refl, ap, sym}
 use mathlib.Core.Bool.{true, false, false≢true}
-use mathlib.Core.Logic.{_↔_}
+use mathlib.Core.Logic.{_↔_, by-cases}
 use mathlib.Core.List.{List}
-use native.Mathlib.Nat.{le-trans}
+use native.Mathlib.Nat.{le-refl, le-trans}
+use native.Mathlib.Decide.{decLt}
 use native.Mathlib.Omega.{arith}
 use lib.ListN.{length}
 use lib.Dec.{ltb, eqb}
@@ -13,9 +14,9 @@ use Rattle.task_model.specs.declared.Entry.{Entry}
 use Rattle.task_model.specs.Limits.{entryAt, AllHold}
 use Rattle.completion.specs.Demand.{sumTo, demandWith, initialTimeWith}
 use Rattle.completion.specs.Group.{IsGroup, groupLevel}
-use Rattle.completion.specs.Test.{Completion, on-time, late, limit, testWith, isOnTime, roundsIn, roundsBound}
+use Rattle.completion.specs.Test.{Completion, on-time, late, limit, overrun, testWith, isOnTime, roundsIn, roundsBound}
 use Rattle.completion.specs.Rounds.{iterates, FixedIn, LateIn}
-use Rattle.completion.specs.Right.{LeastTime, NoTime, RightWith}
+use Rattle.completion.specs.Right.{LeastTime, NoTime, LateBy, RightWith}
 use Rattle.completion.proofs.Bounds.{limit-due}
 use Rattle.completion.proofs.Sums.{sumTo-eq, sumTo-up, part-le}
 use Rattle.completion.proofs.Releases.{same-level-most}
@@ -27,9 +28,9 @@ use Rattle.completion.proofs.Groups.{higherLevelIn, sameLevelIn, wcetIn
 
 -- an answer is on time or late
 module _ {A : Type 0} where
-  pub by-answer : (o : Completion) → ((time rounds : ℕ) → o ≡ on-time time rounds → A) → ((rounds : ℕ) → o ≡ late rounds → A) → A
+  pub by-answer : (o : Completion) → ((time rounds : ℕ) → o ≡ on-time time rounds → A) → ((rounds over : ℕ) → o ≡ late rounds over → A) → A
   by-answer (on-time time rounds) f g = f time rounds refl
-  by-answer (late rounds) f g = g rounds refl
+  by-answer (late rounds over) f g = g rounds over refl
 
 module _ (b : ℕ) (es : List Entry) (all : AllHold es) (level : ℕ → ℕ) (i : ℕ) (known : i < length es) where
   -- the demand, where the test starts, and its limit
@@ -81,11 +82,11 @@ module _ (b : ℕ) (es : List Entry) (all : AllHold es) (level : ℕ → ℕ) (i
     λ p.
         by-answer (testWith b es level i)
         (λ time rounds e. let l = completion-least time rounds e in (time, l .due, omega (arith, l .equal)))
-        (λ rounds e. absurd (false≢true (sym (ap isOnTime e) ∙ p))),
+        (λ rounds over e. absurd (false≢true (sym (ap isOnTime e) ∙ p))),
     λ h.
         by-answer (testWith b es level i)
         (λ time rounds e. ap isOnTime e)
-        (λ rounds e. absurd (let l = rw e at least in omega (arith, l (h .0) (not-before (h .0) (h .2)) (h .2)))),
+        (λ rounds over e. absurd (let l = rw e at least in omega (arith, l (h .0) (not-before (h .0) (h .2)) (h .2)))),
   )
 
   -- So an entry is on time exactly if some time whose demand is at most that time, plus its own J, is at most D.
@@ -103,8 +104,17 @@ module _ (b : ℕ) (es : List Entry) (all : AllHold es) (level : ℕ → ℕ) (i
     λ h.
         by-answer (testWith b es level i)
         (λ time rounds e. let l = completion-least time rounds e in absurd (h time (l .due) (omega (arith, l .equal))))
-        (λ rounds e. ap isOnTime e),
+        (λ rounds over e. ap isOnTime e),
   )
+
+  -- A demand at the limit of at most the limit means on time. The converse fails (`overrunCases` of level_map).
+  pub on-time-limit : demandWith b es level i (limit (entryAt es i)) ≤ limit (entryAt es i) → isOnTime (testWith b es level i) ≡ true
+  on-time-limit h = on-time-some .1 (limit (entryAt es i), le-refl _, h)
+
+  -- So the demand of a late entry at its limit is above the limit,
+  pub late-beyond : isOnTime (testWith b es level i) ≡ false → limit (entryAt es i) < demandWith b es level i (limit (entryAt es i))
+  late-beyond p = by-cases (decLt (limit (entryAt es i)) (demandWith b es level i (limit (entryAt es i)))) (λ y. y)
+      (λ z. absurd (late-none .0 p (limit (entryAt es i)) (le-refl _) (omega arith)))
 
   -- While the test goes on, the demand is never below the time.
   pub never-below : (k : ℕ)
@@ -118,10 +128,19 @@ module _ (b : ℕ) (es : List Entry) (all : AllHold es) (level : ℕ → ℕ) (i
   unfolding testWith
   on-time-rounds = fixed-in w d up begin begins
 
-  pub late-rounds : (rounds : ℕ) → testWith b es level i ≡ late rounds
-      ↔ LateIn (demandWith b es level i) (initialTimeWith b es level i) (limit (entryAt es i)) rounds
+  pub late-rounds : (rounds over : ℕ) → testWith b es level i ≡ late rounds over
+      ↔ (LateIn (demandWith b es level i) (initialTimeWith b es level i) (limit (entryAt es i)) rounds
+      × (over ≡ overrun (demandWith b es level i) (limit (entryAt es i))))
   unfolding testWith
   late-rounds = late-in w d up begin begins
+
+  -- and the overrun of a late answer is at least 1: by so much the demand at the limit is above the limit.
+  pub late-by : (rounds over : ℕ) → testWith b es level i ≡ late rounds over → LateBy b es level i over
+  unfolding overrun
+  late-by rounds over p =
+      let o : over ≡ w d - d = late-rounds rounds over .0 p .1 in
+      let l : d < w d = late-beyond (ap isOnTime p) in
+      record { some = omega (arith, o, l); beyond = omega (arith, o, l) }
 
   -- There are no more rounds than ticks up to the limit,
   pub rounds-limit : roundsIn (testWith b es level i) ≤ limit (entryAt es i)
@@ -141,7 +160,7 @@ module _ (b : ℕ) (es : List Entry) (all : AllHold es) (level : ℕ → ℕ) (i
 
   -- The test's answer is right, and so is every answer that equals it.
   pub timing-right : (o : Completion) → o ≡ testWith b es level i → RightWith b es level i o
-  timing-right o p = rw p (record { least = completion-least; lateIfNone = late-none; bounded = rounds-releases })
+  timing-right o p = rw p (record { least = completion-least; lateIfNone = late-none; lateBy = late-by; bounded = rounds-releases })
 
 -- The answer depends only on which entries are more urgent than the timed one, and which are beside it.
 pub alike : (b : ℕ) (es : List Entry) (lv lv′ : ℕ → ℕ) (i : ℕ)

@@ -4,5 +4,6 @@ pub mod Test
 pub mod Group
 pub mod Rounds
 pub mod WithoutJitter
+pub mod WithoutOverrun
 -- Only the theorems use these.
 pub mod Right

@@ -5,15 +5,16 @@ ghost use Rattle.task_model.specs.Limits.{mostTicks, mostEntries, AllHold, Entr
 ghost use Rattle.node_words.specs.Words.{entryOf, entriesOf};
 ghost use Rattle.completion.specs.Demand.{releases, sumTo, higherLevelInterference, sameLevelInterference, demandWith, initialTimeWith};
 ghost use Rattle.completion.specs.Group.{groupLevel, InGroup};
-ghost use Rattle.completion.specs.Test.{completion, limit, testWith, completionTest, roundsIn, roundsBound};
+ghost use Rattle.completion.specs.Test.{completion, limit, overrun, testWith, completionTest, roundsIn, roundsBound};
 use node_words::NodeWords;
 use node_words::entry_at;
 use task_model::Entry;
 
-// Whether an entry ends by its deadline; rounds is the number of times that its demand was evaluated.
+// Whether an entry ends by its deadline; rounds is the number of times that its demand was evaluated to find that out. The
+// overrun of a late entry is by how much its demand at its limit exceeds the limit.
 pub enum Timing {
     OnTime { time: u32, rounds: u32 },
-    Late { rounds: u32 },
+    Late { rounds: u32, overrun: u64 },
 }
 
 impl Timing {
@@ -23,7 +24,7 @@ impl Timing {
     {
         match self {
             Timing::OnTime { time: _, rounds } => rounds,
-            Timing::Late { rounds } => rounds,
+            Timing::Late { rounds, overrun: _ } => rounds,
         }
     }
 }
@@ -144,6 +145,25 @@ fn initial_time(
     blocking as u64 + wcet_sum(words, last + 1)
 }
 
+// By how much the demand at its limit of the entry at `i` exceeds the limit, in the group from `first` to `last`. The test
+// of a late entry ends with it.
+fn overrun_at(
+    words: &NodeWords,
+    count: usize,
+    first: usize,
+    last: usize,
+    i: usize,
+    blocking: u32,
+    limit: u32,
+) -> u64
+    requires { ⌜ AllHold (entriesOf (now words) count) ⌝ ∗ ⌜ InGroup count first last i ⌝
+        ∗ ⌜ (1 ≤ limit) × (limit ≤ mostTicks) ⌝
+        ∗ ⌜ limit ≤ demandWith blocking (entriesOf (now words) count) (groupLevel first last) i limit ⌝ }
+    ensures { λ x. ⌜ x ≡ overrun (demandWith blocking (entriesOf (now (words .entry)) count) (groupLevel first last) i) limit ⌝ }
+{
+    demand_at(words, count, first, last, i, blocking, limit) - limit as u64
+}
+
 // Times the entry at `i` of a node, in the group from `first` to `last`, with a blocking of `blocking` ticks. The entries
 // before the group are on higher levels.
 fn test_with(
@@ -159,10 +179,10 @@ fn test_with(
     ensures bounded { λ a.
         ⌜ roundsIn (completion a) ≤ roundsBound (entriesOf (now (words .entry)) count) (groupLevel first last) i ⌝ }
 {
-    let limit = limit_of(entry_at(words, i)) as u64;
+    let limit = limit_of(entry_at(words, i));
     let mut t = initial_time(words, count, first, last, i, blocking);
     let mut rounds = 0;
-    while t <= limit {
+    while t <= limit as u64 {
         let time = t as u32;
         let next = demand_at(words, count, first, last, i, blocking, time);
         rounds += 1;
@@ -171,7 +191,8 @@ fn test_with(
         }
         t = next;
     }
-    Timing::Late { rounds }
+    let overrun = overrun_at(words, count, first, last, i, blocking, limit);
+    Timing::Late { rounds, overrun }
 }
 
 // Times the entry at `i` of a node, in the group from `first` to `last`, with its own B. The entries before the group are

@@ -3,7 +3,7 @@ use mathlib.Core.Path.{refl}
 use Rattle.task_model.specs.Checks.{kindTest, timesTest, jitterTest, entryCheck, entriesBy, sizeTest, nodeCheckBy}
 use Rattle.task_model.proofs.Theorems.{node-accepted}
 use Rattle.completion.specs.Demand.{ceilDiv, releases, sumTo, higherLevelInterference, sameLevelInterference, demandWith, initialTimeWith}
-use Rattle.completion.specs.Test.{limit, iterate, testFrom, testWith, roundsBound}
+use Rattle.completion.specs.Test.{limit, overrun, iterate, testFrom, testWith, roundsBound}
 use Rattle.level_map.specs.Map.{fromLongest, mapsWith, maps, firstOf, noneLateTo, passTest, mapUnder}
 use Rattle.level_map.specs.Cases.{All, countTo, answersTo}
 use Rattle.level_map.specs.JitterCases.{jitterCases}
@@ -14,7 +14,7 @@ _▸_ p q = (p, q)
 
 -- line by line, in the table's order
 pub jitter-cases-hold : All jitterCases
-unfolding jitterCases roundsBound countTo nodeCheckBy sizeTest entriesBy entryCheck kindTest timesTest jitterTest answersTo mapUnder passTest noneLateTo firstOf maps mapsWith fromLongest testWith limit testFrom iterate initialTimeWith demandWith sameLevelInterference higherLevelInterference sumTo releases ceilDiv
+unfolding jitterCases roundsBound countTo nodeCheckBy sizeTest entriesBy entryCheck kindTest timesTest jitterTest answersTo mapUnder passTest noneLateTo firstOf maps mapsWith fromLongest testWith limit overrun testFrom iterate initialTimeWith demandWith sameLevelInterference higherLevelInterference sumTo releases ceilDiv
 jitter-cases-hold =
     -- P
     (node-accepted 0 _ .0 refl, refl)

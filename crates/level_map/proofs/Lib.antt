@@ -16,4 +16,7 @@ pub mod Loop
 pub mod Answers
 pub mod Cases
 pub mod JitterCases
+pub mod OverrunCases
+pub mod Verdicts
 pub mod WithoutJitter
+pub mod AnyOverrun

@@ -76,7 +76,7 @@ answers es a = answersTo es a (length es)
 -- The completion time of an answer, if it has one.
 abbrev pub timeIn : Completion → Option ℕ
 timeIn (on-time time rounds) = some time
-timeIn (late rounds) = none
+timeIn (late rounds overrun) = none
 
 -- The completion times of all entries.
 abbrev pub times : List Entry → List ℕ → List (Option ℕ)
@@ -116,6 +116,8 @@ pub data Claim : Type 0 where
   timed : (es : List Entry) (a : List ℕ) → List (Option ℕ) → Claim
   -- under the levels `a`, the answer for the entry at i
   answered-at : (es : List Entry) (a : List ℕ) (i : ℕ) → Completion → Claim
+  -- under the levels `a`, the demand of the entry at i at time t is x
+  demand-at : (es : List Entry) (a : List ℕ) (i t x : ℕ) → Claim
   -- under the levels `a`, the bound on the rounds of the entry at i
   bounded-at : (es : List Entry) (a : List ℕ) (i bound : ℕ) → Claim
   -- under the levels `a`, the entry at i is late; with a deadline of t, it would end at t
@@ -138,6 +140,7 @@ Holds (no-map es levels) = theMap es levels ≡ none
 Holds (answered es a cs) = answers es a ≡ cs
 Holds (timed es a ts) = times es a ≡ ts
 Holds (answered-at es a i c) = completionTest es (levelOf a) i ≡ c
+Holds (demand-at es a i t x) = demand es (levelOf a) i t ≡ x
 Holds (bounded-at es a i bound) = roundsBound es (levelOf a) i ≡ bound
 Holds (would-take es a i t) =
     (timeIn (completionTest es (levelOf a) i) ≡ none)

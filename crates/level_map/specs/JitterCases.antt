@@ -47,12 +47,12 @@ jitterCases =
     ∷ a-node (jitteredPair 0) 2
     ∷ answered-at (jitteredPair 0) (1 ∷ 2 ∷ []) 1 (on-time 8 1)
     ∷ bounded-at (jitteredPair 0) (1 ∷ 2 ∷ []) 1 2
-    ∷ answered-at (jitteredPair 4) (1 ∷ 1 ∷ []) 0 (late 0)
+    ∷ answered-at (jitteredPair 4) (1 ∷ 1 ∷ []) 0 (late 0 2)
     ∷ maps-to (jitteredPair 4) 2 (1 ∷ 2 ∷ []) 2
     -- V: on the own level the count is cut at r + 1, with J as without
     ∷ a-node (jitteredV 2) 2
     ∷ answered-at (jitteredV 2) (1 ∷ 1 ∷ []) 1 (on-time 16 2)
-    ∷ answered-at (jitteredV 2) (1 ∷ 1 ∷ []) 0 (late 0)
+    ∷ answered-at (jitteredV 2) (1 ∷ 1 ∷ []) 0 (late 0 2)
     ∷ answered-at (jitteredV 2) (1 ∷ 2 ∷ []) 1 (on-time 18 2)
     ∷ a-node (jitteredV 4) 2
     ∷ answered-at (jitteredV 4) (1 ∷ 2 ∷ []) 1 (on-time 19 3)

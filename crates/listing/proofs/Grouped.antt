@@ -26,7 +26,7 @@ entry-timed : (es : List Entry) (m : List ℕ) (i : ℕ)
 entry-timed es m i =
     by-answer (completionTest es (levelOf m) i)
     (λ time rounds e. entry-on-time es m i time rounds e ∙ sym (ap (timedLine (entryAt es i) (levelOf m i)) e))
-    (λ rounds e. entry-late es m i rounds e ∙ sym (ap (timedLine (entryAt es i) (levelOf m i)) e))
+    (λ rounds over e. entry-late es m i rounds over e ∙ sym (ap (timedLine (entryAt es i) (levelOf m i)) e))
 
 -- a group's lines, one more at a time
 module _ (es : List Entry) (first last level : ℕ) where

@@ -31,9 +31,9 @@ module _ (es : List Entry) (m : List ℕ) where
   unfolding entryTextUnder
   entry-on-time i time rounds p = rw (p, entryTextUnder)
 
-  pub entry-late : (i rounds : ℕ) → completionTest es (levelOf m) i ≡ late rounds → entryText es m i ≡ []
+  pub entry-late : (i rounds over : ℕ) → completionTest es (levelOf m) i ≡ late rounds over → entryText es m i ≡ []
   unfolding entryTextUnder
-  entry-late i rounds p = rw (p, entryTextUnder)
+  entry-late i rounds over p = rw (p, entryTextUnder)
 
   pub entries-none : entriesText es m 0 ≡ []
   unfolding entriesTextUnder

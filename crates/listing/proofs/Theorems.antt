@@ -38,7 +38,7 @@ entry-has-line es all most m p i h =
       tested = e;
       right = timing-right _ es all (levelOf m) i h (on-time t n) (sym e);
     })
-    (λ n e. absurd (false≢true (sym (ap isOnTime e) ∙ map-best es all most m p .chosen .passes i h)))
+    (λ n over e. absurd (false≢true (sym (ap isOnTime e) ∙ map-best es all most m p .chosen .passes i h)))
 
 -- In the listing of an accepted file, each entry of the node of row k, if it has a map, has its line.
 pub listing-has-line : (f : List ℕ) → fileCheck f ≡ accepted → (k : ℕ) → k < nodeCount f → (m : List ℕ)

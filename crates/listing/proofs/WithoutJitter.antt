@@ -49,7 +49,7 @@ module _ (es : List Entry) (punctual : Punctual es) (m : List ℕ) where
       ap
       (λ c. elim c [
         | on-time time rounds ↦ entryLine (entryAt es i .number) (levelOf m i) time rounds
-        | late rounds ↦ []
+        | late rounds overrun ↦ []
       ])
       (test-punctual es punctual (levelOf m) i)
 

@@ -10,7 +10,7 @@ use Rattle.listing.specs.Lines.{entryLine}
 -- The line of an entry on a level, from the answer of its test. A late entry has no line.
 abbrev pub timedLine : Entry → ℕ → Completion → List ℕ
 timedLine e level (on-time time rounds) = entryLine (e .number) level time rounds
-timedLine e level (late rounds) = []
+timedLine e level (late rounds overrun) = []
 
 -- The lines of the first k entries of the group from `first` to `last` on a level.
 unfoldable pub groupText : List Entry → ℕ → ℕ → ℕ → ℕ → List ℕ

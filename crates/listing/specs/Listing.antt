@@ -26,7 +26,7 @@ unfoldable pub entryTextUnder : EntryTest → List Entry → List ℕ → ℕ �
 entryTextUnder test es m i =
     elim (test es (levelOf m) i) [
       | on-time time rounds ↦ entryLine (entryAt es i .number) (levelOf m i) time rounds
-      | late rounds ↦ []
+      | late rounds overrun ↦ []
     ]
 
 -- The lines of the first n entries, in listed order.

@@ -46,10 +46,10 @@ abbrev pub sized : Answer ℕ → Returned
 sized (gives n) = given n 0 0
 sized (refuses r) = back r
 
--- Timing gives the completion time and the rounds. For a late entry, the time is 0.
+-- Timing gives the completion time, the rounds and the overrun. For a late entry the time is 0, for one on time the overrun.
 abbrev pub givenTime : Completion → Returned
 givenTime (on-time time rounds) = given time rounds 0
-givenTime (late rounds) = given 0 rounds 0
+givenTime (late rounds overrun) = given 0 rounds overrun
 
 -- What timing an entry of a session returns.
 abbrev pub timed : Answer Completion → Returned

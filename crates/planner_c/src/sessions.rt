@@ -101,19 +101,18 @@ pub extern "C" fn maiplur_session_replace(
     give_checked(answer, values)
 }
 
-// Gives the completion time, or 0 if the entry is late, and the rounds.
+// Gives the completion time, or 0 if the entry is late, the rounds, and the overrun, or 0 if the entry is on time.
 fn give_time(t: Timing, values: &mut [usize; 3]) -> u32
     ensures { λ a. ⌜ returned a (now (values .exit)) ≡ givenTime (completion t) ⌝ }
 {
-    let rounds = t.rounds() as usize;
-    let Timing::OnTime { time, rounds: _ } = t else {
-        return give(0, rounds, 0, values);
-    };
-    give(time as usize, rounds, 0, values)
+    match t {
+        Timing::OnTime { time, rounds } => give(time as usize, rounds as usize, 0, values),
+        Timing::Late { rounds, overrun } => give(0, rounds as usize, overrun as usize, values),
+    }
 }
 
-// Times the entry at `i` in the group from `first` to `last`. Gives the completion time, or 0 if the entry is late, and the
-// rounds.
+// Times the entry at `i` in the group from `first` to `last`. Gives the completion time, or 0 if the entry is late, the
+// rounds, and the overrun, or 0 if the entry is on time.
 #[no_mangle]
 pub extern "C" fn maiplur_session_time(
     words: &SessionWords,

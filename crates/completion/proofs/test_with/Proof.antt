@@ -1,17 +1,18 @@
 use Prim.Native.Nat.{ℕ, _+_, _-_, _≤_, _<_}
-use mathlib.Core.Path.{_≡_}
+use mathlib.Core.Path.{_≡_, refl, ap, sym}
 use mathlib.Core.List.{List}
+use native.Mathlib.Nat.{le-of-lt}
 use native.Mathlib.Omega.{arith}
 use borrow.Author.Needs.{needs}
-use Rattle.task_model.specs.Limits.{mostTicks, AllHold}
+use Rattle.task_model.specs.Limits.{mostTicks, entryAt, AllHold}
 use Rattle.node_words.specs.Words.{entriesOf}
 use Rattle.node_words.proofs.Entries.{length-entries}
 use Rattle.completion.specs.Demand.{demandWith}
 use Rattle.completion.specs.Group.{groupLevel}
-use Rattle.completion.specs.Test.{Completion, testFrom, testWith, roundsIn, roundsBound}
+use Rattle.completion.specs.Test.{Completion, limit, testFrom, testWith, isOnTime, roundsIn, roundsBound}
 use Rattle.completion.proofs.Iteration.{loop-late, loop-done, loop-next}
 use Rattle.completion.proofs.Words.{words-hold, words-limit, words-due, words-up, words-begin, words-test}
-use Rattle.completion.proofs.Theorems.{timing-right}
+use Rattle.completion.proofs.Theorems.{late-beyond, timing-right}
 use Rattle.completion.proofs.test_with.Statement.{statement}
 use Rattle.completion.proofs.test_with.Tie as tie
 
@@ -33,9 +34,6 @@ entry-at-requires c κs = omega arith
 limit-of-requires : tie.Need-limit-of-requires Inv-loop μ-loop
 limit-of-requires c κs = words-hold _ _ (c .before .pre .0) _ (omega arith) _ (c .entry-at .ensures)
 
-cast-limit : tie.Need-cast-limit Inv-loop μ-loop
-cast-limit c = search needs
-
 initial-time-requires : tie.Need-initial-time-requires Inv-loop μ-loop
 initial-time-requires c κs = (c .before .before .pre .0, c .before .before .pre .1)
 
@@ -52,6 +50,9 @@ loop-holds c =
       words-test _ _ (s .pre .0) _ _ _ (omega arith) (omega arith) _ _ _ (c .initial-time .ensures)
           (words-due _ _ (s .pre .0) _ (omega arith) _ e _ d),
     )
+
+cast-loop : tie.Need-cast-loop Inv-loop μ-loop
+cast-loop c = search needs
 
 cast-time : tie.Need-cast-time Inv-loop μ-loop
 cast-time c = omega arith
@@ -114,11 +115,39 @@ loop-again c =
           (c .before .demand-at .ensures) l,
     )
 
+-- where the test goes beyond the limit, so does the demand at the limit
+module _ (ws : List ℕ) (n : ℕ) (all : AllHold (entriesOf ws n)) (first last i : ℕ) (hi : i ≤ last) (hl : last < n) (b d t rounds : ℕ)
+    (due : limit (entryAt (entriesOf ws n) i) ≡ d)
+    (p : testFrom (demandWith b (entriesOf ws n) (groupLevel first last) i) d t rounds ≡ testWith b (entriesOf ws n) (groupLevel first last) i)
+    (beyond : d < t) where
+  exceeds : d ≤ demandWith b (entriesOf ws n) (groupLevel first last) i d
+  exceeds =
+      let o = loop-late _ _ (words-up ws n all first last i hi hl b) _ _ _ p _ beyond refl in
+      let l = late-beyond b (entriesOf ws n) all (groupLevel first last) i (omega (arith, length-entries ws 0 n)) (ap isOnTime (sym o)) in
+      rw due at (le-of-lt l)
+
+overrun-at-requires : tie.Need-overrun-at-requires Inv-loop μ-loop
+overrun-at-requires c κs =
+    let s = at-start-3 c in
+    let e = c .before .before .before .before .entry-at .ensures in
+    let d = c .before .before .before .limit-of .ensures in (
+      s .pre .0,
+      (
+        s .pre .1,
+        (
+          words-limit _ _ (s .pre .0) _ (omega arith) _ e _ d,
+          exceeds _ _ (s .pre .0) _ _ _ (omega arith) (omega arith) _ _ _ _ (words-due _ _ (s .pre .0) _ (omega arith) _ e _ d)
+              (c .before .loop .inv .3) (c .loop-test .left),
+        ),
+      ),
+    )
+
 returns-2 : tie.Need-returns-2 Inv-loop μ-loop
 returns-2 c =
-    let p = at-start-3 c .pre in
+    let p = at-start-3 (c .before) .pre in
     both _ _ _ (p .0) _ _ _ (omega arith) _
-    (loop-late _ _ (words-up _ _ (p .0) _ _ _ (omega arith) (omega arith) _) _ _ _ (c .before .loop .inv .3) (c .loop-test .left))
+    (loop-late _ _ (words-up _ _ (p .0) _ _ _ (omega arith) (omega arith) _) _ _ _ (c .before .before .loop .inv .3) _
+    (c .before .loop-test .left) (c .overrun-at .ensures))
 
 pub test-with-spec : {M : Type 1} → statement M
 test-with-spec =
@@ -128,13 +157,14 @@ test-with-spec =
     μ-loop
     entry-at-requires
     limit-of-requires
-    cast-limit
     initial-time-requires
     loop-holds
+    cast-loop
     cast-time
     demand-at-requires
     add-rounds
     returns
     loop-less
     loop-again
+    overrun-at-requires
     returns-2)
