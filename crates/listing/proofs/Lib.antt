@@ -6,4 +6,6 @@ pub mod Cases
 pub mod Long
 pub mod Inside
 pub mod Theorems
+pub mod Agreeing
 pub mod WithoutJitter
+pub mod AnyOverrun

@@ -5,3 +5,4 @@ pub mod Checking
 pub mod Writing
 pub mod FileMap
 pub mod Converted
+pub mod Timed

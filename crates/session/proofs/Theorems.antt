@@ -7,15 +7,15 @@ use native.Mathlib.Omega.{arith}
 use lib.ListN.{length}
 use Rattle.task_model.specs.declared.Entry.{Entry}
 use Rattle.refusals.specs.Refusals.{Numbered, at, accepted, refused}
-use Rattle.task_model.specs.Limits.{mostLevels, Node}
+use Rattle.task_model.specs.Limits.{mostLevels, Node, entryAt}
 use Rattle.task_model.specs.Checks.{nodeCheck}
 use Rattle.task_model.proofs.Laws.{node-sizes}
 use Rattle.node_words.proofs.Entries.{length-entries}
 use Rattle.refusals.proofs.Outcomes.{giving-refuses, either}
 use Rattle.task_model.proofs.Theorems.{node-accepted}
 use Rattle.completion.specs.Group.{groupLevel}
-use Rattle.completion.specs.Test.{Completion, completionTest, on-time}
-use Rattle.completion.specs.Right.{RightTiming}
+use Rattle.completion.specs.Test.{Completion, completionTest, on-time, late}
+use Rattle.completion.specs.Right.{LateBy, RightTiming}
 use Rattle.completion.proofs.Theorems.{timing-right}
 use Rattle.level_map.specs.Answer.{mapOf, heldAnswer, NodeBestMapOrNone}
 use Rattle.session.specs.declared.Session.{Session}
@@ -150,7 +150,7 @@ module _ (s : Session) (h : Sound s) (first last i : ℕ) where
       (sound-checks (asking (timing first last i)) s h ∙ time-else (nodeIn s) first last i out)
 
 -- What timing answers is right, whatever the session holds: the completion time is the least, an entry is late exactly if
--- there is none up to D - J, and the rounds are within their bound.
+-- there is none up to D - J, then its demand at D - J is above D - J by the overrun, and the rounds are within their bound.
 pub time-right : (s : Session) (first last i : ℕ) (o : Completion) → timeAnswer (nodeIn s) first last i ≡ gives o
     → RightTiming (nodeIn s .entries) (groupLevel first last) i o
 time-right s first last i o p =
@@ -166,6 +166,12 @@ time-right s first last i o p =
 pub time-some : (s : Session) (first last i time rounds : ℕ)
     → timeAnswer (nodeIn s) first last i ≡ gives (on-time time rounds) → 1 ≤ time
 time-some s first last i time rounds p = time-right s first last i (on-time time rounds) p .least time rounds refl .some
+
+-- An overrun is never 0: the demand at D - J is D - J and the overrun.
+pub time-late : (s : Session) (first last i rounds over : ℕ)
+    → timeAnswer (nodeIn s) first last i ≡ gives (late rounds over)
+    → LateBy (entryAt (nodeIn s .entries) i .blocking) (nodeIn s .entries) (groupLevel first last) i over
+time-late s first last i rounds over p = time-right s first last i (late rounds over) p .lateBy rounds over refl
 
 -- Mapping, as an operation of a row, is refused exactly as its answer says; on any session.
 pub map-refusal : (s : Session) (room : ℕ) (r : Numbered)

@@ -9,7 +9,8 @@ use Rattle.session.specs.declared.TimeAnswer.the-variants.{Answered, Ref
 use Rattle.session.specs.Operations.{Rules, rules, asking, timing, stepCheckBy}
 use Rattle.refusals.specs.Answers.{Answer, gives, refuses, giving}
 
--- What the code's answer says: on time, with the completion time and the rounds, or late, with the rounds; or the refusal.
+-- What the code's answer says: on time, with the completion time and the rounds, or late, with the rounds and the overrun; or
+-- the refusal.
 abbrev pub timeGives : TimeAnswer → Answer Completion
 timeGives (Answered t) = gives (completion t)
 timeGives (Refused r) = refuses (numbered r)
