@@ -31,7 +31,7 @@ static void show_time(const maiplur_session *session) {
     if (refused) {
         printf("time: refused %u\n", (unsigned)refused);
     } else if (values[0] == 0) {
-        printf("time: late, rounds %zu\n", values[1]);
+        printf("time: late by %zu, rounds %zu\n", values[2], values[1]);
     } else {
         printf("time: %zu, rounds %zu\n", values[0], values[1]);
     }

@@ -13,6 +13,8 @@
  * A level count is a uint8_t and a node number a uint16_t. C silently truncates a larger number before the call: 257 levels
  * arrive as 1.
  *
+ * The values are of type size_t, which must have 64 bits: an overrun (maiplur_session_time) can exceed 32.
+ *
  * docs/SPEC.md defines the terms, what is computed, and the order of each call's checks.
  *
  * maiplur_list and maiplur_session_time make every round of the completion time test, and an entry can have up to 10^9
@@ -27,6 +29,10 @@
 
 #include <stddef.h>
 #include <stdint.h>
+
+#if SIZE_MAX < UINT64_MAX
+#error "maiplur.h: size_t must have 64 bits"
+#endif
 
 #ifdef __cplusplus
 extern "C" {
@@ -167,7 +173,9 @@ uint32_t maiplur_session_remove(maiplur_session *session, size_t position, size_
 uint32_t maiplur_session_replace(maiplur_session *session, size_t position, const uint32_t entry[6], size_t values[3]);
 
 /* Times the entry at `i` in the group from `first` to `last`; the entries before the group are more urgent. Values: the
- * completion time, without the entry's own J, or 0 if the entry is late (no completion time is 0), and the rounds. Refuses
+ * completion time, without the entry's own J, or 0 if the entry is late (no completion time is 0); the rounds; and the
+ * overrun, or 0 if the entry is on time (no overrun is 0). The overrun is by how much a late entry's demand at D - J exceeds
+ * D - J. An entry whose D were longer by its overrun may still be late (docs/API.md, 'By how much an entry is late'). Refuses
  * anything but first <= i <= last with `last` in the list (12).
  */
 uint32_t maiplur_session_time(const maiplur_session *session, size_t first, size_t last, size_t i, size_t values[3]);
