@@ -8,6 +8,7 @@ use super::odd::near_one;
 use crate::lent::{words_of, Words};
 use crate::model::{Entry, MAX_ENTRIES, MAX_R, MAX_TICKS};
 use crate::rng::Rng;
+use crate::sequences::Sequence;
 use crate::session::{Op, Session};
 use crate::timing::{completion_in_group, demand, group_levels, limit, Timing};
 
@@ -225,6 +226,31 @@ fn late_with(rng: &mut Rng, rounds: bool, change: impl Fn(Timed) -> Option<Timed
                 return timed;
             }
         }
+    }
+}
+
+/// A session in which one entry is timed, and again after each of a few changes
+/// of its B, D or J that make no test longer.
+pub fn sequence(rng: &mut Rng) -> Sequence {
+    let timed = match rng.below(4) {
+        0 => heavy(rng),
+        1 => crowded(rng),
+        2 => on_time_above(rng),
+        _ => any(rng),
+    };
+    let (mut own, mut ops) = (*timed.own(), vec![timed.op()]);
+    for _ in 0..rng.range(1, 6) {
+        match rng.below(4) {
+            0 => own.b = rng.range(0, MAX_TICKS),
+            1 => own.b = (own.b + rng.below(3)).saturating_sub(1).min(MAX_TICKS),
+            2 => own.d = rng.range(own.c + own.j, own.d),
+            _ => own.j = any_jitter(rng, &own),
+        }
+        ops.extend([Op::Replace(timed.i, own), timed.op()]);
+    }
+    Sequence {
+        start: timed.words(),
+        ops,
     }
 }
 
