@@ -100,6 +100,7 @@ fn rounds_above_2_to_the_22nd() {
         let entries = until_the_last(slow(1_807, 6), early);
         let timing = time_last(&mut tally, &entries, SLOW);
         assert_eq!(timing.is_on_time(), early == 0);
+        assert_eq!(timing.values()[2], early, "late by one tick");
         rounds.push(timing.rounds());
     }
     let file = cases::file(cases::node(64, &slow(1_807, 6)));

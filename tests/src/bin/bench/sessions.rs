@@ -140,7 +140,12 @@ impl Timing {
         row.call::<Proved>(&mut times);
         let all = times.as_flattened().iter().flatten();
         let on_time = all.filter(|timing| timing.is_on_time()).count();
-        assert!(on_time > 8, "{on_time} of 48 are on time");
+        // Only with jitter and usual periods are a few of them late.
+        let late = match (periods, starts) {
+            ("usual", Starts::Late) => 8,
+            _ => 0,
+        };
+        assert!(on_time + late >= 48, "{on_time} of 48 are on time");
         row
     }
 }
