@@ -134,7 +134,8 @@ fn any_group() {
         }
     }
     say(format!(
-        "any group: on time {within} with a demand of at most the limit, {above} above; {counts:?}; {tally}"
+        "any group: on time {within} with a demand of at most the limit, {above} above; \
+         {counts:?}; {tally}"
     ));
     assert!(
         within > times(3_000) && above > times(60),
