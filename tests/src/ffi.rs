@@ -9,7 +9,7 @@ use crate::model::Edition;
 use crate::refusal::{Refusal, NUMBERS};
 
 /// What a call leaves besides its number.
-type Values = [usize; 3];
+pub type Values = [usize; 3];
 
 /// The contents of `values` before a call; each call overwrites them.
 const UNSET: usize = usize::MAX;

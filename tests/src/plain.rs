@@ -247,9 +247,27 @@ fn load_entries<const N: usize>(body: &[u8], entries: &mut [Entry]) {
     }
 }
 
+/// The demand of the entry at `i` at time `t`, in the group from `first` to
+/// `last`.
+#[inline]
+fn demand(entries: &[Entry], first: usize, last: usize, i: usize, t: u32) -> u64 {
+    let own = entries[i];
+    let mut sum = u64::from(own.c) + u64::from(own.b);
+    for e in &entries[..first] {
+        sum += u64::from(e.c) * u64::from((t + e.j + (e.t - 1)) / e.t);
+    }
+    for (j, e) in entries[..=last].iter().enumerate().skip(first) {
+        if j != i {
+            let runs = ((t + e.j + (e.t - 1)) / e.t).min(own.r + 1);
+            sum += u64::from(e.c) * u64::from(runs);
+        }
+    }
+    sum
+}
+
 /// The completion time and the rounds of the entry at `i`, in the group from
-/// `first` to `last`.
-fn completion(entries: &[Entry], first: usize, last: usize, i: usize) -> Option<(u32, u32)> {
+/// `first` to `last`, or only the rounds if it is late.
+fn completion(entries: &[Entry], first: usize, last: usize, i: usize) -> Result<(u32, u32), u32> {
     let own = entries[i];
     let runs: u64 = entries[..=last].iter().map(|e| u64::from(e.c)).sum();
     let mut t = u64::from(own.b) + runs;
@@ -257,23 +275,14 @@ fn completion(entries: &[Entry], first: usize, last: usize, i: usize) -> Option<
     let mut rounds = 0;
     while t <= limit {
         let now = t as u32;
-        let mut sum = u64::from(own.c) + u64::from(own.b);
-        for e in &entries[..first] {
-            sum += u64::from(e.c) * u64::from((now + e.j + (e.t - 1)) / e.t);
-        }
-        for (j, e) in entries[..=last].iter().enumerate().skip(first) {
-            if j != i {
-                let runs = ((now + e.j + (e.t - 1)) / e.t).min(own.r + 1);
-                sum += u64::from(e.c) * u64::from(runs);
-            }
-        }
+        let sum = demand(entries, first, last, i, now);
         rounds += 1;
         if sum == t {
-            return Some((now, rounds));
+            return Ok((now, rounds));
         }
         t = sum;
     }
-    None
+    Err(rounds)
 }
 
 /// One past the last entry with D - J < B + sum of C over the entries before
@@ -288,7 +297,7 @@ fn least_start(entries: &[Entry], end: usize) -> Option<usize> {
     let mut start = start_bound(entries, end);
     'starts: while start < end {
         for i in (start..end).rev() {
-            if completion(entries, start, end - 1, i).is_none() {
+            if completion(entries, start, end - 1, i).is_err() {
                 // Entry i is late in every group that starts later and contains
                 // it.
                 start = i + 1;
@@ -371,7 +380,7 @@ fn list_node(node: &Node, rest: &mut &mut [u8]) -> Option<()> {
         let same = |j: &usize| map[*j] == level;
         let first = (0..=i).find(same)?;
         let last = (i..node.count).rev().find(same)?;
-        let (time, rounds) = completion(entries, first, last, i)?;
+        let (time, rounds) = completion(entries, first, last, i).ok()?;
         let number = entry.number;
         writeln!(
             rest,

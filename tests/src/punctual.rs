@@ -4,7 +4,8 @@
 //! It is a small implementation of its own, to compare with: if every J is 0,
 //! all answers are still these. Only the time at which a test starts, which
 //! never depended on J, is that of [`crate::timing`]. The map tries every
-//! grouping, so it is for short lists.
+//! grouping, so it is for short lists. A late answer, which had no overrun then,
+//! has that of the demand without J here.
 
 use crate::model::{Entry, Node, Row};
 use crate::refusal::Refusal;
@@ -25,7 +26,8 @@ pub fn demand(entries: &[Entry], levels: &[u8], i: usize, t: u64) -> u64 {
 /// The completion time test of entry `i`.
 pub fn completion(entries: &[Entry], levels: &[u8], i: usize) -> Timing {
     let (mut t, mut rounds) = (initial_time(entries, levels, i), 0);
-    while t <= entries[i].d {
+    let limit = entries[i].d;
+    while t <= limit {
         rounds += 1;
         let next = demand(entries, levels, i, t);
         if next == t {
@@ -33,7 +35,10 @@ pub fn completion(entries: &[Entry], levels: &[u8], i: usize) -> Timing {
         }
         t = next;
     }
-    Timing::Late { rounds }
+    Timing::Late {
+        rounds,
+        overrun: demand(entries, levels, i, limit) - limit,
+    }
 }
 
 /// The bound on the rounds of entry `i`.

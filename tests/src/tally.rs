@@ -1,7 +1,8 @@
-//! Counts of a run: how often each refusal number came, how many maps, and how
-//! many nodes were left out for their cost.
+//! Counts of a run: how often each refusal number came, how many maps and
+//! timings, and how many nodes were left out for their cost.
 
 use crate::refusal::{Refusal, NO_MAP, NUMBERS};
+use crate::timing::Timing;
 use std::fmt;
 
 /// Counts of accepted and refused calls.
@@ -10,6 +11,10 @@ pub struct Tally {
     accepted: u64,
     refused: [u64; NUMBERS as usize],
     maps: u64,
+    on_time: u64,
+    late: u64,
+    /// Late by more than 32 bits hold.
+    far: u64,
     nodes: u64,
     left_out: u64,
 }
@@ -28,6 +33,17 @@ impl Tally {
     /// count.
     pub fn map(&mut self, used: u8) {
         self.maps += u64::from(used > 0);
+    }
+
+    /// Counts the timing of an entry.
+    pub fn timed(&mut self, timing: &Timing) {
+        match *timing {
+            Timing::OnTime { .. } => self.on_time += 1,
+            Timing::Late { overrun, .. } => {
+                self.late += 1;
+                self.far += u64::from(overrun > u64::from(u32::MAX));
+            }
+        }
     }
 
     /// Counts one good node; `done` says whether it was mapped, or left out for
@@ -53,6 +69,15 @@ impl Tally {
         assert!(self.maps >= maps && self.met(NO_MAP) >= none, "{self}");
     }
 
+    /// Asserts that at least so many entries were timed as on time, as late, and
+    /// as late by more than 32 bits hold.
+    pub fn assert_timed(&self, on_time: u64, late: u64, far: u64) {
+        assert!(
+            self.on_time >= on_time && self.late >= late && self.far >= far,
+            "{self}"
+        );
+    }
+
     /// Asserts that at most one node in `whole` was left out for its cost.
     pub fn assert_few_left_out(&self, whole: u64) {
         assert!(
@@ -75,6 +100,15 @@ impl fmt::Display for Tally {
         }
         if self.maps > 0 {
             write!(f, "; {} maps", self.maps)?;
+        }
+        if self.on_time + self.late > 0 {
+            let Tally {
+                on_time, late, far, ..
+            } = self;
+            write!(f, "; {on_time} on time, {late} late")?;
+            if *far > 0 {
+                write!(f, ", {far} of them by more than {}", u32::MAX)?;
+            }
         }
         if self.nodes > 0 {
             let (left_out, nodes) = (self.left_out, self.nodes);

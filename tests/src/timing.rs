@@ -21,6 +21,8 @@ pub enum Timing {
     Late {
         /// Evaluations of the demand.
         rounds: u64,
+        /// The demand at D - J less D - J, always above 0.
+        overrun: u64,
     },
 }
 
@@ -33,7 +35,16 @@ impl Timing {
     /// How often the demand was evaluated.
     pub fn rounds(&self) -> u64 {
         match *self {
-            Timing::OnTime { rounds, .. } | Timing::Late { rounds } => rounds,
+            Timing::OnTime { rounds, .. } | Timing::Late { rounds, .. } => rounds,
+        }
+    }
+
+    /// The three values that a caller in C gets: the completion time, or 0 if
+    /// the entry is late, the rounds, and the overrun, or 0 if it is on time.
+    pub fn values(&self) -> [u64; 3] {
+        match *self {
+            Timing::OnTime { time, rounds } => [time, rounds, 0],
+            Timing::Late { rounds, overrun } => [0, rounds, overrun],
         }
     }
 }
@@ -74,8 +85,17 @@ pub fn limit(entry: &Entry) -> u64 {
     entry.d - entry.j
 }
 
+/// By how much entry `i`, which is late, is late: its demand at D - J less
+/// D - J.
+pub fn overrun(entries: &[Entry], levels: &[u8], i: usize) -> u64 {
+    let limit = limit(&entries[i]);
+    let over = demand(entries, levels, i, limit).checked_sub(limit);
+    over.expect("the entry is late")
+}
+
 /// The completion time test of entry `i`. The completion time is counted from
-/// its start, without its J.
+/// its start, without its J. The overrun is found after the test and counts as
+/// no round.
 pub fn completion(entries: &[Entry], levels: &[u8], i: usize) -> Timing {
     let mut rounds = 0;
     let mut t = initial_time(entries, levels, i);
@@ -88,7 +108,8 @@ pub fn completion(entries: &[Entry], levels: &[u8], i: usize) -> Timing {
             Ordering::Less => unreachable!("the demand starts above t and never falls"),
         }
     }
-    Timing::Late { rounds }
+    let overrun = overrun(entries, levels, i);
+    Timing::Late { rounds, overrun }
 }
 
 /// The bound on the rounds of entry `i` (docs/SPEC.md).

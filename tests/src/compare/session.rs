@@ -46,8 +46,10 @@ impl Both {
         let op = &callable(op);
         let (before, mut due_buffer, mut buffer) = (self.due, known(room), known(room));
         let due = tally.note(lent::apply(&mut self.due, op, &mut due_buffer));
-        if let Ok(Reply::Mapped(used)) = due {
-            tally.map(used);
+        match &due {
+            Ok(Reply::Mapped(used)) => tally.map(*used),
+            Ok(Reply::Timed(timing)) => tally.timed(timing),
+            _ => {}
         }
         let answer = proved(&mut self.proved, op, &mut buffer);
         let lent = || format!("{op:?}, {room} bytes, on {before:?}");

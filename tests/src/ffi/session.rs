@@ -113,14 +113,20 @@ impl Session {
     /// Times the entry at `i` in the group from `first` to `last`.
     pub fn time(&self, first: usize, last: usize, i: usize) -> Result<Timing, Refusal> {
         let mut values = [UNSET; 3];
-        // SAFETY: as above; the session is only read.
-        let number = unsafe { maiplur_session_time(self, first, last, i, &mut values) };
-        let [time, rounds, third] = answer(number, values)?.map(|value| value as u64);
-        assert_eq!(third, 0, "two values are given");
-        Ok(match time {
-            0 => Timing::Late { rounds },
-            _ => Timing::OnTime { time, rounds },
+        let number = self.time_into(first, last, i, &mut values);
+        let [time, rounds, overrun] = answer(number, values)?.map(|value| value as u64);
+        Ok(match (time, overrun) {
+            (0, 0) => panic!("the overrun of a late entry is above 0"),
+            (0, _) => Timing::Late { rounds, overrun },
+            (_, 0) => Timing::OnTime { time, rounds },
+            _ => panic!("an entry on time has no overrun, but {overrun} is given"),
         })
+    }
+
+    /// The same into lent values; returns the number of the refusal, or 0.
+    pub fn time_into(&self, first: usize, last: usize, i: usize, values: &mut Values) -> u32 {
+        // SAFETY: as above; the session is only read.
+        unsafe { maiplur_session_time(self, first, last, i, values) }
     }
 
     /// Maps the node, and returns the levels used.

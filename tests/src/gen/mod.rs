@@ -13,6 +13,7 @@ pub mod lent;
 pub mod listings;
 pub mod odd;
 pub mod ops;
+pub mod overruns;
 pub mod parts;
 pub mod places;
 pub mod plans;

@@ -4,6 +4,7 @@ use super::entries;
 use super::faults::{break_jitter, break_kind, break_ticks};
 use super::jitter::any;
 use super::lent::{damaged, sound};
+use super::overruns;
 use super::sessions::FAMILIES;
 use crate::lent::{apply, session_in, SESSION_WORDS};
 use crate::model::{Entry, MAX_LEVELS};
@@ -43,9 +44,12 @@ pub fn next_op(rng: &mut Rng, session: &Session, course: Course) -> Op {
 }
 
 /// A sequence of operations on a blank, short, nearly full or damaged session,
-/// or on one that holds a node of a plan; the tally counts what is left out for
-/// its cost.
+/// or on one that holds a node of a plan or times a late entry; the tally counts
+/// what is left out for its cost.
 pub fn sequence(rng: &mut Rng, tally: &mut Tally) -> Sequence {
+    if rng.chance(1, 10) {
+        return overruns::sequence(rng);
+    }
     if rng.chance(1, 3) {
         let family = rng.pick(&FAMILIES);
         return family.sequence(rng, tally);

@@ -1,8 +1,9 @@
 //! The session in plain Rust: the lent memory is checked as the proved
 //! functions check it, and changed in place.
 
-use super::{completion, entry_holds, map_entries, Entry, MOST};
+use super::{completion, demand, entry_holds, map_entries, Entry, MOST};
 use crate::ffi::session::Session;
+use crate::timing::Timing;
 use crate::words::ENTRY_WORDS;
 
 /// The entry that six words hold.
@@ -64,14 +65,27 @@ pub fn remove(session: &mut Session, position: usize) -> bool {
     true
 }
 
-/// The completion time and the rounds of an entry that is on time.
+/// Times an entry in a group. Only for a late one is the overrun computed.
 #[inline(never)]
-pub fn time(session: &Session, first: usize, last: usize, i: usize) -> Option<(u32, u32)> {
+pub fn time(session: &Session, first: usize, last: usize, i: usize) -> Option<Timing> {
     let count = count_of(session)?;
     if first > i || i > last || last >= count {
         return None;
     }
-    completion(&load(session, last + 1)[..=last], first, last, i)
+    let entries = &load(session, last + 1)[..=last];
+    Some(match completion(entries, first, last, i) {
+        Ok((time, rounds)) => Timing::OnTime {
+            time: u64::from(time),
+            rounds: u64::from(rounds),
+        },
+        Err(rounds) => {
+            let limit = entries[i].d - entries[i].j;
+            Timing::Late {
+                rounds: u64::from(rounds),
+                overrun: demand(entries, first, last, i, limit) - u64::from(limit),
+            }
+        }
+    })
 }
 
 /// Maps the node, and returns the levels used.

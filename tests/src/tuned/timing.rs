@@ -61,7 +61,7 @@ impl<'a, E: Entry> Test<'a, E> {
         }
     }
 
-    /// The test, with its rounds.
+    /// The test, with its rounds, and with the overrun of a late entry.
     pub fn completion(&self) -> Timing {
         let limit = u64::from(self.own.limit());
         let mut t = self.initial_time;
@@ -74,7 +74,8 @@ impl<'a, E: Entry> Test<'a, E> {
             }
             t = next;
         }
-        Timing::Late { rounds }
+        let overrun = self.demand(self.own.limit()) - limit;
+        Timing::Late { rounds, overrun }
     }
 
     /// Whether the entry ends by its limit. The initial time decides, or the

@@ -18,7 +18,7 @@ fn p_with_j_12_on_its_third() {
 fn p_with_j_13_on_its_third_has_no_map() {
     let p = jittered(cases::p(), 2, 13);
     assert_eq!(map(&p), None);
-    assert_eq!(completion(&p.entries, &[1, 2, 2], 2), late(1));
+    assert_eq!(completion(&p.entries, &[1, 2, 2], 2), late(1, 1));
     // As case R, whose deadline is the limit here.
     let limits = |node: &Node| node.entries.iter().map(limit).collect::<Vec<_>>();
     assert_eq!(limits(&p), limits(&cases::r()));
@@ -30,7 +30,7 @@ fn released_again() {
     let times = mapped(&node, &[1, 2], 2);
     assert_eq!(times, [on_time(3, 1), on_time(11, 2)]);
     assert_eq!(completion(&again(0).entries, &[1, 2], 1), on_time(8, 1));
-    assert_eq!(completion(&node.entries, &[1, 1], 0), late(0));
+    assert_eq!(completion(&node.entries, &[1, 1], 0), late(0, 2));
     // The start counts each entry once, whatever its J.
     assert_eq!(initial_time(&node.entries, &[1, 2], 1), 8);
     let demands = [6, 7, 16, 17].map(|t| demand(&node.entries, &[1, 2], 1, t));
@@ -40,7 +40,7 @@ fn released_again() {
 #[test]
 fn v_with_jitter_on_its_first() {
     let v = jittered(cases::v(), 0, 2);
-    assert_eq!(timings(&v, &[1, 1]), [late(0), on_time(16, 2)]);
+    assert_eq!(timings(&v, &[1, 1]), [late(0, 2), on_time(16, 2)]);
     assert_eq!(mapped(&v, &[1, 2], 2)[1], on_time(18, 2));
     let v = jittered(cases::v(), 0, 4);
     assert_eq!(completion(&v.entries, &[1, 2], 1), on_time(19, 3));
@@ -78,11 +78,11 @@ fn own_jitter_and_that_of_others() {
     let node = jittered(again(0), 1, 12);
     assert_eq!(completion(&node.entries, &[1, 2], 1), on_time(8, 1));
     let node = jittered(again(0), 1, 13);
-    assert_eq!(completion(&node.entries, &[1, 2], 1), late(0));
+    assert_eq!(completion(&node.entries, &[1, 2], 1), late(0, 1));
     let node = jittered(again(4), 1, 9);
     assert_eq!(completion(&node.entries, &[1, 2], 1), on_time(11, 2));
     let node = jittered(again(4), 1, 10);
-    assert_eq!(completion(&node.entries, &[1, 2], 1), late(1));
+    assert_eq!(completion(&node.entries, &[1, 2], 1), late(1, 1));
     // Less urgent entries add nothing, whatever their J.
     assert_eq!(completion(&node.entries, &[1, 2], 0), on_time(3, 1));
 }

@@ -19,6 +19,7 @@ fn a_short_run() {
     files.assert_few_left_out(25);
     sessions.assert_maps(times(4_000), times(4_000));
     sessions.assert_few_left_out(15);
+    sessions.assert_timed(times(800), times(800), times(100));
     for number in (1..=11).chain([14]) {
         assert!(files.met(number) >= times(500), "{number}: {files}");
     }

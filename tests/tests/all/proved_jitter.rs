@@ -60,10 +60,10 @@ fn worked_figures() {
     assert_eq!(map(&again(4)), Some(vec![1, 2]));
     assert_eq!(time(&again(4), 1, 1, 1), on_time(11, 2));
     assert_eq!(time(&again(0), 1, 1, 1), on_time(8, 1));
-    assert_eq!(time(&again(4), 0, 1, 0), late(0));
+    assert_eq!(time(&again(4), 0, 1, 0), late(0, 2));
     let v = jittered(cases::v(), 0, 2);
     assert_eq!(time(&v, 0, 1, 1), on_time(16, 2));
-    assert_eq!(time(&v, 0, 1, 0), late(0));
+    assert_eq!(time(&v, 0, 1, 0), late(0, 2));
     assert_eq!(time(&v, 1, 1, 1), on_time(18, 2));
     assert_eq!(time(&jittered(cases::v(), 0, 4), 1, 1, 1), on_time(19, 3));
     assert_eq!(time(&twice_ahead(8), 0, 1, 1), on_time(7, 2));

@@ -16,6 +16,7 @@ use oracle::options::{rng, times};
 use oracle::refusal::{Refusal, NO_MAP};
 use oracle::session::{Op, Reply, Session};
 use oracle::tally::Tally;
+use oracle::timing::Timing;
 
 /// With deadlines a tick before the completion time there is no map, and with
 /// deadlines at it there is one; also if entries start late.
@@ -33,7 +34,10 @@ fn at_the_completion_time_and_a_tick_before() {
         let Ok(Reply::Timed(timing)) = timed else {
             panic!("{timed:?}");
         };
-        assert_eq!(timing.is_on_time(), early == 0, "{entries:?}");
+        match timing {
+            Timing::OnTime { .. } => assert_eq!(early, 0, "{entries:?}"),
+            Timing::Late { overrun, .. } => assert_eq!((early, overrun), (1, 1), "{entries:?}"),
+        }
         least = least.min(timing.rounds());
         let file = cases::file(cases::node(rng.pick(&[8, 64]), &entries));
         compare::map(&mut tally, &file, 7, entries.len());

@@ -11,6 +11,7 @@ use oracle::gen::damage::{byte_changes, damage, Aim, AIMS};
 use oracle::gen::entries;
 use oracle::gen::faults::{break_kind, break_ticks};
 use oracle::gen::jitter::Jitter;
+use oracle::gen::overruns;
 use oracle::gen::parts::{damage_parts, PartAim, PART_AIMS};
 use oracle::gen::plans::{self, punctual as without_jitter};
 use oracle::lent::words_of;
@@ -68,6 +69,31 @@ fn timing_is_as_before() {
             assert_eq!(rounds_bound(&entries, &levels, i), bound);
         }
     }
+}
+
+/// The same for entries that are late by more than 32 bits hold.
+#[test]
+fn long_overruns_are_those_without_jitter() {
+    let mut rng = rng(379);
+    let mut far = 0;
+    for round in 0..times(600) {
+        let mut timed = match round % 2 {
+            0 => overruns::heavy(&mut rng),
+            _ => overruns::crowded(&mut rng),
+        };
+        timed.entries.iter_mut().for_each(|entry| entry.j = 0);
+        let due = punctual::completion(&timed.entries, &timed.levels(), timed.i);
+        assert_eq!(timed.timing(), due, "{timed:?}");
+        let proved = Proved::of(&timed.words());
+        let answer = proved.time(timed.first, timed.last, timed.i);
+        assert_eq!(answer, Ok(due), "{timed:?}");
+        far += u64::from(due.values()[2] > u64::from(u32::MAX));
+    }
+    say(format!(
+        "without jitter {far} late by more than {}",
+        u32::MAX
+    ));
+    assert!(far > times(300), "{far}");
 }
 
 /// The map in files of both editions and in a session.

@@ -9,14 +9,11 @@ use oracle::options::{rng, times};
 use oracle::rng::Rng;
 use oracle::session::{Op, Reply};
 use oracle::tally::Tally;
-use oracle::timing::Timing;
 
 /// Counts of a run.
 #[derive(Default)]
 struct Run {
     tally: Tally,
-    on_time: u64,
-    late: u64,
     most_rounds: u64,
 }
 
@@ -34,10 +31,6 @@ impl Run {
                 panic!("{op:?} answered {reply:?}");
             };
             self.most_rounds = self.most_rounds.max(timing.rounds());
-            match timing {
-                Timing::OnTime { .. } => self.on_time += 1,
-                Timing::Late { .. } => self.late += 1,
-            }
         }
     }
 
@@ -68,15 +61,11 @@ fn compare_sessions(part: u64, count: u64, changes: u64, family: Family) -> Run 
             run.change(&mut rng, &mut both, &family);
         }
     }
-    let Run {
-        tally,
-        on_time,
-        late,
-        most_rounds,
-    } = &run;
+    let Run { tally, most_rounds } = &run;
     let name = family.name;
-    let timed = format!("{on_time} on time, {late} late, at most {most_rounds} rounds");
-    say(format!("sessions, {name}: {timed}; {tally}"));
+    say(format!(
+        "sessions, {name}: at most {most_rounds} rounds; {tally}"
+    ));
     run
 }
 
@@ -85,8 +74,7 @@ impl Run {
     /// time and late; at most one change in `whole` may be left out.
     fn assert_least(&self, maps: [u64; 2], timed: [u64; 2], whole: u64) {
         self.tally.assert_maps(times(maps[0]), times(maps[1]));
-        assert!(self.on_time >= times(timed[0]), "{}", self.on_time);
-        assert!(self.late >= times(timed[1]), "{}", self.late);
+        self.tally.assert_timed(times(timed[0]), times(timed[1]), 0);
         self.tally.assert_few_left_out(whole);
     }
 }

@@ -218,5 +218,9 @@ fn timing_case_v_in_named_groups() {
     // Case R's third entry has a demand of 138 at 138, and D 137.
     let words = words_of(&Session::holding(2, &cases::r().entries).unwrap());
     let session = ffi::session::Session::of(&words);
-    assert_eq!(session.time(1, 2, 2), Ok(Timing::Late { rounds: 1 }));
+    let late = Timing::Late {
+        rounds: 1,
+        overrun: 1,
+    };
+    assert_eq!(session.time(1, 2, 2), Ok(late));
 }

@@ -69,7 +69,9 @@ fn rounds_above_65_535_of(part: u64, slow: fn(u64, u64) -> Vec<Entry>) -> Tally 
         let fifth = rng.pick(&[1_835, 1_850, 1_900, 2_100, 4_000, 50_000]) + rng.below(9);
         let entries = until_the_last(slow(fifth, rng.below(40)), rng.below(2));
         match time_last(&mut tally, &entries, SLOW) {
-            Timing::Late { rounds } => {
+            Timing::Late { rounds, overrun } => {
+                // Its deadline is a tick before its completion time.
+                assert_eq!(overrun, 1, "{entries:?}");
                 late = late.max(rounds);
                 above_12 += u64::from(rounds > 12);
             }
@@ -98,6 +100,7 @@ fn rounds_above_2_to_the_22nd() {
         let entries = until_the_last(slow(1_807, 6), early);
         let timing = time_last(&mut tally, &entries, SLOW);
         assert_eq!(timing.is_on_time(), early == 0);
+        assert_eq!(timing.values()[2], early, "late by one tick");
         rounds.push(timing.rounds());
     }
     let file = cases::file(cases::node(64, &slow(1_807, 6)));
@@ -141,7 +144,12 @@ fn initial_times_above_2_to_the_34th() {
             highest = highest.max(at);
             for first in [0, last / 2, last] {
                 let timing = time_last(&mut tally, &entries, first);
-                assert_eq!(timing, Timing::Late { rounds: 0 });
+                // Each entry is released once in 10^9 ticks.
+                let due = Timing::Late {
+                    rounds: 0,
+                    overrun: at - MAX_TICKS,
+                };
+                assert_eq!(timing, due);
             }
             compare::list(&mut tally, &cases::file(cases::node(64, &entries)));
         }
@@ -171,7 +179,11 @@ fn demands_above_2_to_the_34th() {
             *count += u64::from(most > cut && cut <= MAX_TICKS);
         }
         let timing = time_last(&mut tally, &entries, last);
-        assert_eq!(timing, Timing::Late { rounds: 1 });
+        let due = Timing::Late {
+            rounds: 1,
+            overrun: demand(&entries, &levels, last, MAX_TICKS) - MAX_TICKS,
+        };
+        assert_eq!(timing, due);
         time_last(&mut tally, &entries, last / 2);
         time_last(&mut tally, &entries, 0);
     }
@@ -247,7 +259,7 @@ fn sums_near_3_000_000_000() {
                 let sum = |e: &Entry| time + e.j + e.t - 1;
                 farthest = farthest.max(entries.iter().map(sum).max().unwrap_or(0));
             }
-            Timing::Late { rounds } => late += u64::from(rounds > 0),
+            Timing::Late { rounds, .. } => late += u64::from(rounds > 0),
         }
         let file = cases::file(cases::node(64, &entries));
         compare::map(&mut tally, &file, 7, entries.len());
@@ -277,7 +289,11 @@ fn the_farthest_sum() {
     assert_eq!(time_last(&mut tally, &[first, last], 1), met(2));
     let later = last.blocked(MAX_TICKS - 2);
     let timing = time_last(&mut tally, &[first, later], 1);
-    assert_eq!(timing, Timing::Late { rounds: 1 });
+    let late = Timing::Late {
+        rounds: 1,
+        overrun: 1,
+    };
+    assert_eq!(timing, late);
     // On the own level it may run twice only for an entry that calls.
     assert_eq!(time_last(&mut tally, &[first, last.calling(1)], 0), met(2));
     assert_eq!(time_last(&mut tally, &[first, later], 0), met(1));

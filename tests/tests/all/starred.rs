@@ -9,8 +9,8 @@ pub fn on_time(time: u64, rounds: u64) -> Timing {
     Timing::OnTime { time, rounds }
 }
 
-pub fn late(rounds: u64) -> Timing {
-    Timing::Late { rounds }
+pub fn late(rounds: u64, overrun: u64) -> Timing {
+    Timing::Late { rounds, overrun }
 }
 
 /// The map; both ways to compute it must agree.
@@ -55,7 +55,7 @@ fn q_same_times_as_p() {
 #[test]
 fn r_no_map() {
     assert_eq!(map(&cases::r()), None);
-    assert_eq!(completion(&cases::r().entries, &[1, 2, 2], 2), late(1));
+    assert_eq!(completion(&cases::r().entries, &[1, 2, 2], 2), late(1, 1));
 }
 
 #[test]
@@ -66,7 +66,7 @@ fn f_no_map() {
     // deadline.
     assert_eq!(initial_time(&f.entries, &[1, 1, 1], 0), 118);
     assert_eq!(demand(&f.entries, &[1, 1, 1], 0, 118), 118);
-    assert_eq!(completion(&f.entries, &[1, 1, 1], 0), late(0));
+    assert_eq!(completion(&f.entries, &[1, 1, 1], 0), late(0, 18));
 }
 
 /// Least t up to D whose demand on one level is at most t, with ⌊t/T⌋ as
@@ -93,9 +93,9 @@ fn f_passes_with_the_printed_floor() {
 #[test]
 fn h_wide_group_passes_after_narrow_ones_failed() {
     let h = cases::h();
-    assert_eq!(completion(&h.entries, &[1, 2, 3], 2), late(1));
-    assert_eq!(completion(&h.entries, &[1, 1, 2], 2), late(1));
-    assert_eq!(completion(&h.entries, &[1, 2, 2], 2), late(1));
+    assert_eq!(completion(&h.entries, &[1, 2, 3], 2), late(1, 2));
+    assert_eq!(completion(&h.entries, &[1, 1, 2], 2), late(1, 2));
+    assert_eq!(completion(&h.entries, &[1, 2, 2], 2), late(1, 2));
     let times = mapped(&h, &[1, 1, 1], 1);
     assert_eq!(times, [on_time(5, 1), on_time(5, 1), on_time(8, 1)]);
 }
@@ -107,11 +107,11 @@ fn s_no_map() {
     for levels in [[1, 2, 3], [1, 1, 2], [1, 2, 2]] {
         assert_eq!(initial_time(&s.entries, &levels, 2), 128);
         assert_eq!(demand(&s.entries, &levels, 2, 128), 148);
-        assert_eq!(completion(&s.entries, &levels, 2), late(1));
+        assert_eq!(completion(&s.entries, &levels, 2), late(1, 3));
     }
     assert_eq!(initial_time(&s.entries, &[1, 1, 1], 0), 128);
     assert_eq!(demand(&s.entries, &[1, 1, 1], 0, 128), 128);
-    assert_eq!(completion(&s.entries, &[1, 1, 1], 0), late(0));
+    assert_eq!(completion(&s.entries, &[1, 1, 1], 0), late(0, 28));
 }
 
 #[test]

@@ -119,7 +119,11 @@ fn evaluations(entries: &[Entry], levels: &[u8], i: usize) -> u64 {
 #[test]
 fn no_rounds_if_the_initial_time_exceeds_the_deadline() {
     let entries = [Entry::task(1, 3, 9, 4), Entry::task(2, 3, 9, 6)];
-    assert_eq!(completion(&entries, &[1, 1], 0), Timing::Late { rounds: 0 });
+    let late = Timing::Late {
+        rounds: 0,
+        overrun: 2,
+    };
+    assert_eq!(completion(&entries, &[1, 1], 0), late);
     let met = Timing::OnTime { time: 6, rounds: 1 };
     assert_eq!(completion(&entries, &[1, 1], 1), met);
 }
@@ -156,7 +160,11 @@ fn largest_numbers() {
     let all = [full; 64];
     for i in [0, 63] {
         assert_eq!(initial_time(&all, &[1; 64], i), 65 * TOP);
-        assert_eq!(completion(&all, &[1; 64], i), Timing::Late { rounds: 0 });
+        let late = Timing::Late {
+            rounds: 0,
+            overrun: 64 * TOP,
+        };
+        assert_eq!(completion(&all, &[1; 64], i), late);
     }
     let alone = Entry::task(1, TOP, TOP, TOP);
     let met = Timing::OnTime {

@@ -1,7 +1,8 @@
 //! Compares the tuned Rust of the benchmarks with the second implementation: a
 //! comparison of speed is worth nothing if the answers are wrong. Answers,
 //! refusals with their places, and every lent buffer are compared. Of the plain
-//! Rust, whose other calls the benchmarks compare, only the conversions are.
+//! Rust, whose other calls the benchmarks compare, only conversions and timings
+//! are.
 
 use oracle::file::{self, contents_end, encode, entry_length, longest};
 use oracle::gen::budget;
@@ -10,6 +11,7 @@ use oracle::gen::damage::{damage, truncations, AIMS};
 use oracle::gen::jitter::most;
 use oracle::gen::listings::long_listing;
 use oracle::gen::ops::sequence;
+use oracle::gen::overruns;
 use oracle::gen::plans::{self, in_edition, punctual};
 use oracle::lent;
 use oracle::listing;
@@ -275,6 +277,31 @@ fn sessions() {
     for number in [4, 7, 8, 10, 11, 12, 13, 14] {
         assert!(tally.met(number) > times(10), "{number}: {tally}");
     }
+}
+
+/// Timing, on time and late, in the tuned and in the plain program.
+#[test]
+fn timings() {
+    let (mut rng, mut tally) = (rng(345), Tally::default());
+    for round in 0..times(6_000) {
+        let timed = match round % 6 {
+            0 => overruns::heavy(&mut rng),
+            1 => overruns::crowded(&mut rng),
+            2 => overruns::on_time_above(&mut rng),
+            _ => overruns::any(&mut rng),
+        };
+        let session = Session::of(&timed.words());
+        let (first, last, i) = (timed.first, timed.last, timed.i);
+        let due = timed.timing();
+        tally.timed(&due);
+        let tuned = tuned::session::time(&session, first, last, i);
+        assert_eq!(tuned, Ok(due), "{timed:?}");
+        let plain = plain::session::time(&session, first, last, i);
+        assert_eq!(plain, Some(due), "{timed:?}");
+        let count = timed.entries.len();
+        assert_eq!(plain::session::time(&session, first, count, i), None);
+    }
+    tally.assert_timed(times(1_500), times(3_000), times(1_000));
 }
 
 /// The tuned functions take a level count as a byte.

@@ -23,8 +23,7 @@ pub trait Planner {
     fn list(file: &[u8], text: &mut [u8]) -> Option<usize>;
     fn insert(session: &mut Session, position: usize, entry: &Entry) -> bool;
     fn remove(session: &mut Session, position: usize) -> bool;
-    /// The completion time and the rounds of an entry that is on time.
-    fn time(session: &Session, first: usize, last: usize, i: usize) -> Option<(u32, u32)>;
+    fn time(session: &Session, first: usize, last: usize, i: usize) -> Option<Timing>;
     fn map_session(session: &Session, levels: &mut [u8]) -> Option<usize>;
 }
 
@@ -67,8 +66,8 @@ impl Planner for Proved {
         session.remove(position).is_ok()
     }
 
-    fn time(session: &Session, first: usize, last: usize, i: usize) -> Option<(u32, u32)> {
-        on_time(session.time(first, last, i).ok()?)
+    fn time(session: &Session, first: usize, last: usize, i: usize) -> Option<Timing> {
+        session.time(first, last, i).ok()
     }
 
     fn map_session(session: &Session, levels: &mut [u8]) -> Option<usize> {
@@ -115,8 +114,8 @@ impl Planner for Tuned {
         tuned::session::remove(session, position).is_ok()
     }
 
-    fn time(session: &Session, first: usize, last: usize, i: usize) -> Option<(u32, u32)> {
-        on_time(tuned::session::time(session, first, last, i).ok()?)
+    fn time(session: &Session, first: usize, last: usize, i: usize) -> Option<Timing> {
+        tuned::session::time(session, first, last, i).ok()
     }
 
     fn map_session(session: &Session, levels: &mut [u8]) -> Option<usize> {
@@ -163,19 +162,12 @@ impl Planner for Plain {
         plain::session::remove(session, position)
     }
 
-    fn time(session: &Session, first: usize, last: usize, i: usize) -> Option<(u32, u32)> {
+    fn time(session: &Session, first: usize, last: usize, i: usize) -> Option<Timing> {
         plain::session::time(session, first, last, i)
     }
 
     fn map_session(session: &Session, levels: &mut [u8]) -> Option<usize> {
         plain::session::map(session, levels)
-    }
-}
-
-fn on_time(timing: Timing) -> Option<(u32, u32)> {
-    match timing {
-        Timing::OnTime { time, rounds } => Some((time as u32, rounds as u32)),
-        Timing::Late { .. } => None,
     }
 }
 

@@ -1,4 +1,5 @@
-//! Sessions: changes in the middle, the completion time test alone, and maps.
+//! Sessions: changes in the middle, the completion time test alone, also of late
+//! entries, and maps.
 
 use crate::measure::{Row, Table};
 use crate::planner::{Entry, Plain, Planner, Proved, Tuned};
@@ -8,6 +9,8 @@ use oracle::gen::entries;
 use oracle::lent::words_of;
 use oracle::model;
 use oracle::rng::Rng;
+use oracle::timing::Timing as Timed;
+use oracle::timing::{completion_in_group, initial_time, limit};
 use oracle::words::entry_words;
 use std::hint::black_box;
 
@@ -20,11 +23,22 @@ pub fn rows(table: &mut Table) {
         table.row(&Changes::new(&mut rng, count));
     }
     timings_and_maps(table, &mut rng, Starts::Punctual);
+    late_timings(table, &mut Rng::new(12), Starts::Punctual);
 }
 
 /// Timing and mapping entries that start late.
 pub fn late_rows(table: &mut Table) {
     timings_and_maps(table, &mut Rng::new(10), Starts::Late);
+    late_timings(table, &mut Rng::new(13), Starts::Late);
+}
+
+/// Timing late entries, whose overrun is wanted too.
+fn late_timings(table: &mut Table, rng: &mut Rng, starts: Starts) {
+    for late in [Late::AtTheStart, Late::AfterRounds] {
+        for count in [8, 32, 64] {
+            table.row(&LateTiming::new(rng, count, starts, late));
+        }
+    }
 }
 
 fn timings_and_maps(table: &mut Table, rng: &mut Rng, starts: Starts) {
@@ -124,14 +138,20 @@ impl Timing {
         };
         let mut times = row.lent();
         row.call::<Proved>(&mut times);
-        let on_time = times.as_flattened().iter().flatten().count();
-        assert!(on_time > 8, "{on_time} of 48 are on time");
+        let all = times.as_flattened().iter().flatten();
+        let on_time = all.filter(|timing| timing.is_on_time()).count();
+        // Only with jitter and usual periods are a few of them late.
+        let late = match (periods, starts) {
+            ("usual", Starts::Late) => 8,
+            _ => 0,
+        };
+        assert!(on_time + late >= 48, "{on_time} of 48 are on time");
         row
     }
 }
 
 impl Row for Timing {
-    type Lent = Vec<[Option<(u32, u32)>; 3]>;
+    type Lent = Vec<[Option<Timed>; 3]>;
 
     fn name(&self) -> String {
         let (count, periods, late) = (self.count, self.periods, self.starts.name());
@@ -153,6 +173,104 @@ impl Row for Timing {
             for (first, time) in firsts.into_iter().zip(times) {
                 *time = P::time(session, black_box(first), last, last);
             }
+        }
+    }
+}
+
+/// When an entry is seen to be late.
+#[derive(Clone, Copy, PartialEq, Eq)]
+enum Late {
+    /// The test already starts beyond its limit.
+    AtTheStart,
+    /// Its limit is a tick before its completion time.
+    AfterRounds,
+}
+
+/// Times the last entry, which is late, in a group that starts at the first
+/// entry, in the middle, or at the last entry itself.
+struct LateTiming {
+    sessions: Vec<(Session, usize)>,
+    count: usize,
+    starts: Starts,
+    late: Late,
+    /// The rounds of all these tests.
+    rounds: u64,
+}
+
+impl LateTiming {
+    fn new(rng: &mut Rng, count: usize, starts: Starts, late: Late) -> LateTiming {
+        let (mut sessions, mut rounds) = (Vec::new(), 0);
+        while sessions.len() < 48 {
+            let first = [0, count / 2, count - 1][sessions.len() % 3];
+            let mut entries = starts.of(entries::mixed(rng, count));
+            if let Some(made) = late.make(&mut entries, first) {
+                sessions.push((session(8, &entries), first));
+                rounds += made;
+            }
+        }
+        LateTiming {
+            sessions,
+            count,
+            starts,
+            late,
+            rounds,
+        }
+    }
+}
+
+impl Late {
+    /// Makes the last entry late, if that is possible, and returns its rounds.
+    fn make(self, entries: &mut [model::Entry], first: usize) -> Option<u64> {
+        let last = entries.len() - 1;
+        let own = entries[last];
+        let missed = match self {
+            Late::AtTheStart => {
+                let levels = vec![1; entries.len()];
+                let starts_at = initial_time(entries, &levels, last);
+                (starts_at - 1).min(limit(&own))
+            }
+            Late::AfterRounds => match completion_in_group(entries, first, last, last) {
+                Timed::OnTime { time, rounds: 2.. } => time - 1,
+                _ => return None,
+            },
+        };
+        entries[last].d = own.j + missed.max(own.c);
+        match completion_in_group(entries, first, last, last) {
+            Timed::Late { rounds, .. } if (rounds > 0) == (self == Late::AfterRounds) => {
+                Some(rounds)
+            }
+            _ => None,
+        }
+    }
+}
+
+impl Row for LateTiming {
+    type Lent = Vec<Option<Timed>>;
+
+    fn name(&self) -> String {
+        let (count, late) = (self.count, self.starts.name());
+        let when = match self.late {
+            Late::AtTheStart => "at the start".to_string(),
+            Late::AfterRounds => {
+                let each = self.rounds as f64 / self.sessions.len() as f64;
+                format!("after {each:.1} rounds")
+            }
+        };
+        format!("time the last of {count} entries, late {when}, in a session{late}")
+    }
+
+    fn parts(&self) -> usize {
+        self.sessions.len()
+    }
+
+    fn lent(&self) -> Self::Lent {
+        vec![None; self.sessions.len()]
+    }
+
+    fn call<P: Planner>(&self, times: &mut Self::Lent) {
+        let last = self.count - 1;
+        for ((session, first), time) in self.sessions.iter().zip(times) {
+            *time = P::time(session, black_box(*first), last, last);
         }
     }
 }
