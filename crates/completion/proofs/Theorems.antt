@@ -134,13 +134,20 @@ module _ (b : ℕ) (es : List Entry) (all : AllHold es) (level : ℕ → ℕ) (i
   unfolding testWith
   late-rounds = late-in w d up begin begins
 
-  -- and the overrun of a late answer is at least 1: by so much the demand at the limit is above the limit.
+  -- and the overrun of a late answer is at least 1: by so much the demand at the limit is above the limit, and a longer limit
+  -- has to be longer by so much at least.
   pub late-by : (rounds over : ℕ) → testWith b es level i ≡ late rounds over → LateBy b es level i over
   unfolding overrun
   late-by rounds over p =
       let o : over ≡ w d - d = late-rounds rounds over .0 p .1 in
       let l : d < w d = late-beyond (ap isOnTime p) in
-      record { some = omega (arith, o, l); beyond = omega (arith, o, l) }
+      let after : (t : ℕ) → w t ≤ t → d < t =
+      λ t h. by-cases (decLt d t) (λ y. y) (λ z. absurd (late-none .0 (ap isOnTime p) t (omega arith) h)) in
+      record {
+        some = omega (arith, o, l);
+        beyond = omega (arith, o, l);
+        least = λ t h. let s = after t h in omega (arith, o, l, h, up d t (omega arith));
+      }
 
   -- There are no more rounds than ticks up to the limit,
   pub rounds-limit : roundsIn (testWith b es level i) ≤ limit (entryAt es i)

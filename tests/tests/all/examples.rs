@@ -84,7 +84,9 @@ fn map_line(session: &Session) -> String {
 fn time_line(session: &Session) -> String {
     match session.time(1, 2, 2) {
         Ok(Timing::OnTime { time, rounds }) => format!("time: {time}, rounds {rounds}\n"),
-        Ok(Timing::Late { rounds, .. }) => format!("time: late, rounds {rounds}\n"),
+        Ok(Timing::Late { rounds, overrun }) => {
+            format!("time: late by {overrun}, rounds {rounds}\n")
+        }
         Err(refusal) => format!("time: refused {}\n", refusal.number),
     }
 }
