@@ -145,7 +145,7 @@ fn initial_time(
     blocking as u64 + wcet_sum(words, last + 1)
 }
 
-// By how much the demand at its limit of the entry at `i` exceeds the limit, in the group from `first` to `last`. The test
+// By how much the demand of the entry at `i` at its limit exceeds the limit, in the group from `first` to `last`. The test
 // of a late entry ends with it.
 fn overrun_at(
     words: &NodeWords,
