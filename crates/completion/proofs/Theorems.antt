@@ -111,7 +111,7 @@ module _ (b : ℕ) (es : List Entry) (all : AllHold es) (level : ℕ → ℕ) (i
   pub on-time-limit : demandWith b es level i (limit (entryAt es i)) ≤ limit (entryAt es i) → isOnTime (testWith b es level i) ≡ true
   on-time-limit h = on-time-some .1 (limit (entryAt es i), le-refl _, h)
 
-  -- So the demand of a late entry at its limit is above the limit,
+  -- So the demand of a late entry at its limit is above the limit.
   pub late-beyond : isOnTime (testWith b es level i) ≡ false → limit (entryAt es i) < demandWith b es level i (limit (entryAt es i))
   late-beyond p = by-cases (decLt (limit (entryAt es i)) (demandWith b es level i (limit (entryAt es i)))) (λ y. y)
       (λ z. absurd (late-none .0 p (limit (entryAt es i)) (le-refl _) (omega arith)))
@@ -134,8 +134,8 @@ module _ (b : ℕ) (es : List Entry) (all : AllHold es) (level : ℕ → ℕ) (i
   unfolding testWith
   late-rounds = late-in w d up begin begins
 
-  -- and the overrun of a late answer is at least 1: by so much the demand at the limit is above the limit, and a longer limit
-  -- has to be longer by so much at least.
+  -- The overrun of a late answer is at least 1. By so much the demand at the limit is above the limit, and a longer limit has to
+  -- be longer by so much at least.
   pub late-by : (rounds over : ℕ) → testWith b es level i ≡ late rounds over → LateBy b es level i over
   unfolding overrun
   late-by rounds over p =

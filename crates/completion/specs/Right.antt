@@ -21,7 +21,7 @@ pub record LeastTime (b : ℕ) (es : List Entry) (level : ℕ → ℕ) (i time :
 abbrev pub NoTime : ℕ → List Entry → (ℕ → ℕ) → ℕ → Type 0
 NoTime b es level i = (t : ℕ) → t ≤ limit (entryAt es i) → demandWith b es level i t ≤ t → ⊥
 
--- The entry is late by `over`, which is at least 1: its demand at its limit is the limit and `over`. No time before that has
+-- The entry is late by `over`, which is at least 1: its demand at its limit is the limit plus `over`. No time before that has
 -- a demand of at most that time, so its D would have to be longer by `over` or more.
 pub record LateBy (b : ℕ) (es : List Entry) (level : ℕ → ℕ) (i over : ℕ) : Type 0 where
   pub some : 1 ≤ over
@@ -29,8 +29,8 @@ pub record LateBy (b : ℕ) (es : List Entry) (level : ℕ → ℕ) (i over : �
   pub least : (t : ℕ) → demandWith b es level i t ≤ t → limit (entryAt es i) + over ≤ t
 
 -- An answer for the entry at i, with the blocking b, is right. If the answer is on time, its time is the least as above.
--- The answer is late exactly if there is no such time up to the limit. Then its overrun is as above. Its rounds are within
--- their bound.
+-- The answer is late exactly if there is no such time up to the limit, and then its overrun is as above. Its rounds are
+-- within their bound.
 pub record RightWith (b : ℕ) (es : List Entry) (level : ℕ → ℕ) (i : ℕ) (o : Completion) : Type 0 where
   pub least : (time rounds : ℕ) → o ≡ on-time time rounds → LeastTime b es level i time
   pub lateIfNone : isOnTime o ≡ false ↔ NoTime b es level i

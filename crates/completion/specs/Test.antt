@@ -66,6 +66,11 @@ abbrev pub roundsIn : Completion → ℕ
 roundsIn (on-time time rounds) = rounds
 roundsIn (late rounds overrun) = rounds
 
+-- The overrun of a late entry; 0 if the entry is on time.
+abbrev pub overrunIn : Completion → ℕ
+overrunIn (on-time time rounds) = 0
+overrunIn (late rounds overrun) = overrun
+
 -- The bound on rounds: 1 plus the sum of ⌈ (D of i + J) / T ⌉ - 1 over all entries but i on its own and more urgent levels.
 unfoldable pub roundsBound : List Entry → (ℕ → ℕ) → ℕ → ℕ
 roundsBound es level i =

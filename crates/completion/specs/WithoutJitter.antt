@@ -1,6 +1,6 @@
 -- The demand and the test of entries without J: what they were before entries had a release jitter
--- (docs/SPEC.md, 'Entries that start late'). For entries whose J is 0, the theorems of proofs/WithoutJitter say that demand,
--- test and bound are these.
+-- (docs/SPEC.md, 'Entries that start late'), but that late answers have their overrun (specs/WithoutOverrun has the test
+-- without it). For entries whose J is 0, the theorems of proofs/WithoutJitter say that demand, test and bound are these.
 use Prim.Native.Nat.{ℕ, _+_, _-_, _*_, min}
 use mathlib.Core.Bool.{_&&_, not}
 use mathlib.Core.List.{List}

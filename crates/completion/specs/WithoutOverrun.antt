@@ -1,5 +1,5 @@
--- The test as it was before a late answer had its overrun (docs/SPEC.md, 'By how much an entry is late'). The theorem of
--- proofs/WithoutOverrun says that the test's answer is this one, with the overrun added where it is late.
+-- The tests, with J and without, as they were before a late answer had its overrun (docs/SPEC.md, 'By how much an entry is
+-- late'). The theorems of proofs/WithoutOverrun say that their answers are these, with the overrun added where they are late.
 use Prim.Native.Nat.{ℕ, zero, suc, _+_, _-_}
 use mathlib.Core.Bool.{true, false}
 use mathlib.Core.List.{List}
@@ -8,6 +8,7 @@ use Rattle.task_model.specs.declared.Entry.{Entry}
 use Rattle.task_model.specs.Limits.{entryAt}
 use Rattle.completion.specs.Demand.{demandWith, initialTimeWith}
 use Rattle.completion.specs.Test.{Completion, on-time, late, limit}
+use Rattle.completion.specs.WithoutJitter.{punctualDemand, punctualInitialTime}
 
 -- The answer for an entry: on time, with its completion time and the rounds, or late, with the rounds alone.
 pub data BareCompletion : Type 0 where
@@ -27,11 +28,17 @@ bareIterate w d (suc fuel) t rounds =
       ]
     ]
 
--- The test of the entry at i, with a blocking of b ticks: from the initial time on, with as many evaluations as are enough.
+-- The test from t on. Every evaluation but the last raises t, so d + 1 - t evaluations are enough.
+unfoldable pub bareTestFrom : (ℕ → ℕ) → ℕ → ℕ → ℕ → BareCompletion
+bareTestFrom w d t rounds = bareIterate w d (d + 1 - t) t rounds
+
+-- The test of the entry at i, with a blocking of b ticks.
 unfoldable pub bareTest : ℕ → List Entry → (ℕ → ℕ) → ℕ → BareCompletion
-bareTest b es level i =
-    bareIterate (demandWith b es level i) (limit (entryAt es i)) (limit (entryAt es i) + 1 - initialTimeWith b es level i)
-    (initialTimeWith b es level i) 0
+bareTest b es level i = bareTestFrom (demandWith b es level i) (limit (entryAt es i)) (initialTimeWith b es level i) 0
+
+-- The test of the entry at i without J: from the initial time on, up to D.
+unfoldable pub barePunctualTest : List Entry → (ℕ → ℕ) → ℕ → BareCompletion
+barePunctualTest es level i = bareTestFrom (punctualDemand es level i) (entryAt es i .deadline) (punctualInitialTime es level i) 0
 
 -- The answer with an overrun of x, if it is late.
 abbrev pub withOverrun : ℕ → BareCompletion → Completion

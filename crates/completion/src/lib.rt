@@ -5,7 +5,7 @@ ghost use Rattle.task_model.specs.Limits.{mostTicks, mostEntries, AllHold, Entr
 ghost use Rattle.node_words.specs.Words.{entryOf, entriesOf};
 ghost use Rattle.completion.specs.Demand.{releases, sumTo, higherLevelInterference, sameLevelInterference, demandWith, initialTimeWith};
 ghost use Rattle.completion.specs.Group.{groupLevel, InGroup};
-ghost use Rattle.completion.specs.Test.{completion, limit, overrun, testWith, completionTest, roundsIn, roundsBound};
+ghost use Rattle.completion.specs.Test.{completion, limit, overrun, testWith, completionTest, roundsIn, overrunIn, roundsBound};
 use node_words::NodeWords;
 use node_words::entry_at;
 use task_model::Entry;
@@ -25,6 +25,16 @@ impl Timing {
         match self {
             Timing::OnTime { time: _, rounds } => rounds,
             Timing::Late { rounds, overrun: _ } => rounds,
+        }
+    }
+
+    // The overrun of a late entry; 0 if the entry is on time.
+    pub fn overrun(self) -> u64
+        ensures { λ n. ⌜ n ≡ overrunIn (completion self) ⌝ }
+    {
+        match self {
+            Timing::OnTime { time: _, rounds: _ } => 0,
+            Timing::Late { rounds: _, overrun } => overrun,
         }
     }
 }
@@ -145,7 +155,7 @@ fn initial_time(
     blocking as u64 + wcet_sum(words, last + 1)
 }
 
-// By how much the demand at its limit of the entry at `i` exceeds the limit, in the group from `first` to `last`. The test
+// By how much the demand of the entry at `i` at its limit exceeds the limit, in the group from `first` to `last`. The test
 // of a late entry ends with it.
 fn overrun_at(
     words: &NodeWords,

@@ -19,7 +19,7 @@ module _ (w : List ℕ) (first last i : ℕ) where
       → (timed (timeAnswer (nodeIn (sessionIn w)) first last i) ≡ given time rounds 0) × (1 ≤ time)
   on-time-values time rounds p = (ap timed p, time-some (sessionIn w) first last i time rounds p)
 
-  -- Late: 0, the rounds, and the overrun, which is at least 1: the demand at D - J is D - J and the overrun.
+  -- Late: 0, the rounds, and the overrun, which is at least 1: the demand at D - J is D - J plus the overrun.
   pub late-values : (rounds over : ℕ) → timeAnswer (nodeIn (sessionIn w)) first last i ≡ gives (late rounds over)
       → (timed (timeAnswer (nodeIn (sessionIn w)) first last i) ≡ given 0 rounds over)
       × LateBy (entryAt (nodeIn (sessionIn w) .entries) i .blocking) (nodeIn (sessionIn w) .entries) (groupLevel first last) i over

@@ -46,7 +46,7 @@ abbrev pub sized : Answer ℕ → Returned
 sized (gives n) = given n 0 0
 sized (refuses r) = back r
 
--- Timing gives the completion time, the rounds and the overrun. For a late entry the time is 0, for one on time the overrun.
+-- Timing gives the completion time, the rounds and the overrun. A late entry has time 0, and one on time has overrun 0.
 abbrev pub givenTime : Completion → Returned
 givenTime (on-time time rounds) = given time rounds 0
 givenTime (late rounds overrun) = given 0 rounds overrun

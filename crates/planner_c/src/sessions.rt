@@ -105,10 +105,12 @@ pub extern "C" fn maiplur_session_replace(
 fn give_time(t: Timing, values: &mut [usize; 3]) -> u32
     ensures { λ a. ⌜ returned a (now (values .exit)) ≡ givenTime (completion t) ⌝ }
 {
-    match t {
-        Timing::OnTime { time, rounds } => give(time as usize, rounds as usize, 0, values),
-        Timing::Late { rounds, overrun } => give(0, rounds as usize, overrun as usize, values),
-    }
+    let rounds = t.rounds() as usize;
+    let overrun = t.overrun() as usize;
+    let Timing::OnTime { time, rounds: _ } = t else {
+        return give(0, rounds, overrun, values);
+    };
+    give(time as usize, rounds, 0, values)
 }
 
 // Times the entry at `i` in the group from `first` to `last`. Gives the completion time, or 0 if the entry is late, the

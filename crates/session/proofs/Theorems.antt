@@ -150,7 +150,7 @@ module _ (s : Session) (h : Sound s) (first last i : ℕ) where
       (sound-checks (asking (timing first last i)) s h ∙ time-else (nodeIn s) first last i out)
 
 -- What timing answers is right, whatever the session holds: the completion time is the least, an entry is late exactly if
--- there is none up to D - J, then its demand at D - J is above D - J by the overrun, and the rounds are within their bound.
+-- there is none up to D - J, and then its demand at D - J is above D - J by the overrun; the rounds are within their bound.
 pub time-right : (s : Session) (first last i : ℕ) (o : Completion) → timeAnswer (nodeIn s) first last i ≡ gives o
     → RightTiming (nodeIn s .entries) (groupLevel first last) i o
 time-right s first last i o p =
@@ -167,7 +167,7 @@ pub time-some : (s : Session) (first last i time rounds : ℕ)
     → timeAnswer (nodeIn s) first last i ≡ gives (on-time time rounds) → 1 ≤ time
 time-some s first last i time rounds p = time-right s first last i (on-time time rounds) p .least time rounds refl .some
 
--- An overrun is never 0: the demand at D - J is D - J and the overrun.
+-- An overrun is never 0: the demand at D - J is D - J plus the overrun.
 pub time-late : (s : Session) (first last i rounds over : ℕ)
     → timeAnswer (nodeIn s) first last i ≡ gives (late rounds over)
     → LateBy (entryAt (nodeIn s .entries) i .blocking) (nodeIn s .entries) (groupLevel first last) i over
