@@ -44,3 +44,7 @@ barePunctualTest es level i = bareTestFrom (punctualDemand es level i) (entryAt 
 abbrev pub withOverrun : ℕ → BareCompletion → Completion
 withOverrun x (bare-on-time time rounds) = on-time time rounds
 withOverrun x (bare-late rounds) = late rounds x
+
+-- The completion time test of before, with its own B, whose late answers have the overrun x.
+abbrev pub bareWith : (List Entry → (ℕ → ℕ) → ℕ → ℕ) → List Entry → (ℕ → ℕ) → ℕ → Completion
+bareWith x es level i = withOverrun (x es level i) (bareTest (entryAt es i .blocking) es level i)

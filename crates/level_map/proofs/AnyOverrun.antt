@@ -7,17 +7,12 @@ use mathlib.Core.List.{List}
 use Rattle.task_model.specs.declared.Entry.{Entry}
 use Rattle.task_model.specs.Limits.{Node, entryAt}
 use Rattle.completion.specs.Test.{completionTest, isOnTime}
-use Rattle.completion.specs.WithoutOverrun.{bareTest, withOverrun}
+use Rattle.completion.specs.WithoutOverrun.{bareTest, bareWith}
 use Rattle.completion.proofs.WithoutOverrun.{test-bare, verdict-bare}
 use Rattle.refusals.specs.Answers.{Answer}
-use Rattle.level_map.specs.Assignments.{EntryTest}
 use Rattle.level_map.specs.Map.{mapUnder, theMap}
 use Rattle.level_map.specs.Answer.{mapOf, levelsUnder, heldAnswer, heldAnswerUnder, BestMapOrNone, BestMapOrNoneUnder}
 use Rattle.level_map.proofs.Verdicts.{SameVerdicts, map-verdicts, levels-verdicts, held-answer-verdicts, best-verdicts}
-
--- The test of before, with the overrun x.
-abbrev pub bareWith : (List Entry → (ℕ → ℕ) → ℕ → ℕ) → EntryTest
-bareWith x es level i = withOverrun (x es level i) (bareTest (entryAt es i .blocking) es level i)
 
 module _ (x : List Entry → (ℕ → ℕ) → ℕ → ℕ) where
   same : (es : List Entry) → SameVerdicts completionTest (bareWith x) es

@@ -8,8 +8,9 @@ use Rattle.completion.specs.Test.{limit, iterate, testFrom, testWith}
 use Rattle.level_map.specs.Map.{fromLongest, mapsWith, maps, firstOf, noneLateTo, passTest, mapUnder, theMap}
 use Rattle.level_map.specs.Cases.{All, cases, countTo, answersTo, floorDemand, oneRunDemand, leastFrom}
 
+-- two parts of a table
 infixr 60 _▸_
-abbrev _▸_ : {A B : Type 0} → A → B → A × B
+abbrev pub _▸_ : {A B : Type 0} → A → B → A × B
 _▸_ p q = (p, q)
 
 -- line by line, in the table's order

@@ -7,10 +7,7 @@ use Rattle.completion.specs.Test.{limit, overrun, iterate, testFrom, testWith, 
 use Rattle.level_map.specs.Map.{fromLongest, mapsWith, maps, firstOf, noneLateTo, passTest, mapUnder}
 use Rattle.level_map.specs.Cases.{All, countTo, answersTo}
 use Rattle.level_map.specs.JitterCases.{jitterCases}
-
-infixr 60 _▸_
-abbrev _▸_ : {A B : Type 0} → A → B → A × B
-_▸_ p q = (p, q)
+use Rattle.level_map.proofs.Cases.{_▸_}
 
 -- line by line, in the table's order
 pub jitter-cases-hold : All jitterCases

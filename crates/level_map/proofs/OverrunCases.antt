@@ -6,10 +6,7 @@ use Rattle.completion.specs.Demand.{ceilDiv, releases, sumTo, higherLevelInterf
 use Rattle.completion.specs.Test.{limit, overrun, iterate, testFrom, testWith}
 use Rattle.level_map.specs.Cases.{All, countTo}
 use Rattle.level_map.specs.OverrunCases.{overrunCases}
-
-infixr 60 _▸_
-abbrev _▸_ : {A B : Type 0} → A → B → A × B
-_▸_ p q = (p, q)
+use Rattle.level_map.proofs.Cases.{_▸_}
 
 -- line by line, in the table's order
 pub overrun-cases-hold : All overrunCases

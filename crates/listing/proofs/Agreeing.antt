@@ -2,16 +2,17 @@
 use Prim.Native.Nat.{ℕ, zero, suc}
 use mathlib.Core.Path.{_≡_, _∙_, refl, ap, ap₂}
 use mathlib.Core.Option.{Option, none, some}
-use mathlib.Core.List.{List, _++_}
+use mathlib.Core.List.{List, [], _++_}
 use lib.ListN.{length, take, drop}
 use Rattle.refusals.specs.Refusals.{Outcome, accepted, refused}
 use Rattle.task_model.specs.declared.Entry.{Entry}
-use Rattle.task_model.specs.Limits.{Node}
-use Rattle.level_map.specs.Assignments.{EntryTest, levelsUsed}
+use Rattle.task_model.specs.Limits.{Node, entryAt}
+use Rattle.completion.specs.Test.{Completion, on-time, late}
+use Rattle.level_map.specs.Assignments.{levelOf, EntryTest, levelsUsed}
 use Rattle.level_map.specs.Map.{mapUnder}
 use Rattle.plan_file.specs.Plan.{Plan, entryCount}
 use Rattle.plan_file.specs.Find.{rowIn, nodeOfRow}
-use Rattle.listing.specs.Lines.{planLine, nodeLine, noMapLine}
+use Rattle.listing.specs.Lines.{planLine, nodeLine, noMapLine, entryLine}
 use Rattle.listing.specs.Listing.{entryTextUnder, entriesTextUnder, nodeTextUnder, nodesTextUnder, planTextUnder, listingUnder}
 
 -- two texts that agree under every map
@@ -19,6 +20,14 @@ by-map : (f g : List ℕ → List ℕ) (other : List ℕ) → ((m : List ℕ) �
     → _≡_ {A = List ℕ} (elim o [ some m ↦ f m | none ↦ other ]) (elim o [ some m ↦ g m | none ↦ other ])
 by-map f g other same none = refl
 by-map f g other same (some m) = same m
+
+-- the line of the entry at i under the levels of a map, from the answer of its test
+module _ (es : List Entry) (m : List ℕ) (i : ℕ) where
+  abbrev pub shown : Completion → List ℕ
+  shown c = elim c [
+    | on-time time rounds ↦ entryLine (entryAt es i .number) (levelOf m i) time rounds
+    | late rounds overrun ↦ []
+  ]
 
 -- Two tests agree on the entries that have a property, and so does every part of a list that has it.
 pub record Agree (s t : EntryTest) (Has : List Entry → Type 0) : Type 1 where

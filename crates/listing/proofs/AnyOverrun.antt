@@ -1,36 +1,29 @@
 -- The listing does not show overruns: it is that under the test of before, whatever overrun its late answers are given.
 use Prim.Native.Nat.{ℕ}
 use mathlib.Core.Path.{_≡_, _∙_, refl, ap}
-use mathlib.Core.List.{List, []}
+use mathlib.Core.List.{List}
 use Rattle.task_model.specs.declared.Entry.{Entry}
 use Rattle.task_model.specs.Limits.{entryAt}
-use Rattle.completion.specs.Test.{Completion, on-time, late, completionTest}
-use Rattle.completion.specs.WithoutOverrun.{BareCompletion, bare-on-time, bare-late, bareTest, withOverrun}
+use Rattle.completion.specs.Test.{completionTest}
+use Rattle.completion.specs.WithoutOverrun.{BareCompletion, bare-on-time, bare-late, bareTest, withOverrun, bareWith}
 use Rattle.completion.proofs.WithoutOverrun.{test-bare}
 use Rattle.level_map.specs.Assignments.{levelOf}
-use Rattle.level_map.proofs.AnyOverrun.{bareWith, map-any-overrun}
+use Rattle.level_map.proofs.AnyOverrun.{map-any-overrun}
 use Rattle.plan_file.specs.Decoding.{planIn}
 use Rattle.plan_file.specs.Check.{fileCheck}
-use Rattle.listing.specs.Lines.{entryLine}
 use Rattle.listing.specs.Listing.{entryText, entryTextUnder, listing, listingUnder}
-use Rattle.listing.proofs.Agreeing.{Agree, listing-agrees}
+use Rattle.listing.proofs.Agreeing.{shown, Agree, listing-agrees}
 
 module _ (x : List Entry → (ℕ → ℕ) → ℕ → ℕ) where
   module _ (es : List Entry) (m : List ℕ) (i : ℕ) where
-    abbrev shown : Completion → List ℕ
-    shown c = elim c [
-      | on-time time rounds ↦ entryLine (entryAt es i .number) (levelOf m i) time rounds
-      | late rounds overrun ↦ []
-    ]
-
-    shown-any : (y z : ℕ) (u : BareCompletion) → shown (withOverrun y u) ≡ shown (withOverrun z u)
+    shown-any : (y z : ℕ) (u : BareCompletion) → shown es m i (withOverrun y u) ≡ shown es m i (withOverrun z u)
     shown-any y z (bare-on-time time rounds) = refl
     shown-any y z (bare-late rounds) = refl
 
     line-any : entryText es m i ≡ entryTextUnder (bareWith x) es m i
     unfolding entryTextUnder
     line-any =
-        ap shown (test-bare (entryAt es i .blocking) es (levelOf m) i)
+        ap (shown es m i) (test-bare (entryAt es i .blocking) es (levelOf m) i)
         ∙ shown-any _ (x es (levelOf m) i) (bareTest (entryAt es i .blocking) es (levelOf m) i)
 
   agree : Agree completionTest (bareWith x) (λ es. Unit)

@@ -2,14 +2,14 @@
 use Prim.Native.Nat.{ℕ, _+_, _<_}
 use mathlib.Core.Path.{_≡_, _∙_, ap}
 use mathlib.Core.Bool.{false}
-use mathlib.Core.List.{List, []}
+use mathlib.Core.List.{List}
 use native.Mathlib.Omega.{arith}
 use lib.ListN.{length, take, drop, length-drop, length-take}
 use lib.Seq.{getD-drop, getD-take}
 use Rattle.task_model.specs.declared.Entry.{Entry}
-use Rattle.task_model.specs.Limits.{entryAt, noEntry}
+use Rattle.task_model.specs.Limits.{noEntry}
 use Rattle.task_model.specs.WithoutJitter.{Punctual}
-use Rattle.completion.specs.Test.{on-time, late, completionTest}
+use Rattle.completion.specs.Test.{completionTest}
 use Rattle.completion.specs.WithoutJitter.{punctualTest}
 use Rattle.completion.proofs.WithoutJitter.{test-punctual}
 use Rattle.level_map.specs.Assignments.{levelOf}
@@ -21,20 +21,13 @@ use Rattle.plan_file.specs.Check.{fileCheck}
 use Rattle.plan_file.specs.FirstEdition.{firstEditionCheck, firstEditionPlan}
 use Rattle.plan_file.proofs.FirstEdition.{first-edition, first-plan}
 use Rattle.plan_file.proofs.Memory.{entries-at-edition}
-use Rattle.listing.specs.Lines.{entryLine}
 use Rattle.listing.specs.Listing.{entryText, entryTextUnder, planText, planTextUnder, listing, listingUnder}
 use Rattle.listing.specs.FirstEdition.{firstEditionListing}
-use Rattle.listing.proofs.Agreeing.{Agree, plan-agrees, listing-agrees}
+use Rattle.listing.proofs.Agreeing.{shown, Agree, plan-agrees, listing-agrees}
 
 entry-text : (es : List Entry) → Punctual es → (m : List ℕ) (i : ℕ) → entryText es m i ≡ entryTextUnder punctualTest es m i
 unfolding entryTextUnder
-entry-text es punctual m i =
-    ap
-    (λ c. elim c [
-      | on-time time rounds ↦ entryLine (entryAt es i .number) (levelOf m i) time rounds
-      | late rounds overrun ↦ []
-    ])
-    (test-punctual es punctual (levelOf m) i)
+entry-text es punctual m i = ap (shown es m i) (test-punctual es punctual (levelOf m) i)
 
 -- a part of a list of entries without jitter
 part-punctual : (es : List Entry) → Punctual es → (k c : ℕ) → Punctual (take c (drop k es))
