@@ -54,7 +54,8 @@ enum {
     MAIPLUR_OUTSIDE_LIST = 12,  /* a position or a group outside the session's list */
     MAIPLUR_FULL_LIST = 13,     /* insert into 64 entries */
     MAIPLUR_JITTER = 14,        /* J above D - C; to the writer: J above 0 in the first edition */
-    MAIPLUR_JITTER_LOST = 15    /* J above 0 in a file that is converted back to edition 1 */
+    MAIPLUR_JITTER_LOST = 15,   /* J above 0 in a file that is converted back to edition 1 */
+    MAIPLUR_REPEAT = 16         /* an entry with the number of one before it in its node; in a session, of another one */
 };
 
 /* Buffers of these sizes always suffice. */
@@ -78,8 +79,9 @@ enum {
  *   J  how late a job may start after its period does         0 <= J <= D - C
  *   r  the remote sections that it calls in a period          0 <= r <= 15 for a task, 0 for a section
  *
- * A node is a controller: a number from 0 to 65,535, 1 to 64 priority levels, and up to 64 entries, most urgent first. A
- * plan is a row for each of 1 to 32 nodes, with rising numbers, and their entries.
+ * A node is a controller: a number from 0 to 65,535, 1 to 64 priority levels, and up to 64 entries, most urgent first. No
+ * two entries of a node have the same number (16); entries of different nodes may. A plan is a row for each of 1 to 32
+ * nodes, with rising numbers, and their entries.
  *
  * A plan in memory is words of 32 bits. A row is one word: the node number in its low 16 bits, then the levels and the entry
  * count in 8 bits each. An entry is six words. The first has the number in its low 16 bits, then the kind and r in 8 bits
@@ -89,8 +91,8 @@ enum {
  * edition 1 has J 0.
  */
 
-/* Accepts a plan file of either edition, or refuses it (1 to 8, 14) with the first of its checks that is met. It returns 0
- * exactly for the files of plans within the limits.
+/* Accepts a plan file of either edition, or refuses it (1 to 8, 14, 16) with the first of its checks that is met. It returns
+ * 0 exactly for the files of plans within the limits.
  */
 uint32_t maiplur_check(const uint8_t *file, size_t file_length, size_t values[3]);
 
@@ -104,8 +106,8 @@ uint32_t maiplur_read(const uint8_t *file, size_t file_length, uint32_t *rows, s
 
 /* Writes a plan as a file of edition 1 or 2 from the start of `file`, and keeps what lies beyond. Values: the file's length
  * in bytes. Refuses another edition (2), 3, 4 row by row, 6 if `word_count` is not six for each entry that the rows count,
- * 7, 8 and 14 entry by entry, then a buffer that is too short (10). In edition 1, a J above 0 is 14. maiplur_read turns
- * what it wrote into the same words and the same edition again.
+ * then row by row 7, 8 and 14 entry by entry and 16, then a buffer that is too short (10). In edition 1, a J above 0 is 14.
+ * maiplur_read turns what it wrote into the same words and the same edition again.
  */
 uint32_t maiplur_write(uint32_t edition, const uint32_t *rows, size_t row_count, const uint32_t *entries,
                        size_t word_count, uint8_t *file, size_t file_length, size_t values[3]);
@@ -142,8 +144,8 @@ uint32_t maiplur_list(const uint8_t *file, size_t file_length, uint8_t *text, si
  * struct is a session that is not open: every function except maiplur_session_open refuses it (4).
  *
  * Each function except maiplur_session_open first checks the session as a node of a file: 4 if its level count or its entry
- * count is outside the limits, then 7, 8 and 14 entry by entry, with row 0 and the entry's position. A session that was opened
- * and changed by these functions always passes. Then come the function's own checks, in the order of its comment.
+ * count is outside the limits, then 7, 8 and 14 entry by entry, then 16, with row 0 and the entry's position. A session that
+ * was opened and changed by these functions always passes. Then come the function's own checks, in the order of its comment.
  */
 typedef struct {
     uint32_t levels;      /* 1 to 64 */
@@ -159,8 +161,8 @@ uint32_t maiplur_session_open(maiplur_session *session, uint8_t levels, size_t v
 uint32_t maiplur_session_set_levels(maiplur_session *session, uint8_t levels, size_t values[3]);
 
 /* Inserts an entry, given by its six words, before a position; the position just after the last entry appends. Refuses a
- * position beyond that (12), a list of 64 entries (13), then the entry (7, 8, 14) with row 0 and the position. `entry` must
- * lie outside the session: to insert one of its own entries, copy that entry first.
+ * position beyond that (12), a list of 64 entries (13), then the entry (7, 8, 14) and a number that another entry has (16),
+ * with row 0 and the position. `entry` must lie outside the session.
  */
 uint32_t maiplur_session_insert(maiplur_session *session, size_t position, const uint32_t entry[6], size_t values[3]);
 
@@ -168,7 +170,8 @@ uint32_t maiplur_session_insert(maiplur_session *session, size_t position, const
 uint32_t maiplur_session_remove(maiplur_session *session, size_t position, size_t values[3]);
 
 /* Replaces the entry at a position; `entry` as for maiplur_session_insert. Refuses a position that has no entry (12), then
- * the entry (7, 8, 14) with row 0 and the position.
+ * the entry (7, 8, 14) and a number that an entry at another position has (16), with row 0 and the position. So the number
+ * of the replaced entry may be kept.
  */
 uint32_t maiplur_session_replace(maiplur_session *session, size_t position, const uint32_t entry[6], size_t values[3]);
 

@@ -2,7 +2,8 @@
 //! for each of 64 entries. Every word beyond the last entry is zero.
 //!
 //! Memory from elsewhere may hold anything. Every operation except opening
-//! first checks it as a node of a file: 4, then 7, 8 and 14 with the place.
+//! first checks it as a node of a file: 4, then 7, 8 and 14 entry by entry, then
+//! 16, with the place.
 
 use crate::model::{Entry, MAX_ENTRIES};
 use crate::refusal::{Refusal, ROW};

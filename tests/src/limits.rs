@@ -1,9 +1,10 @@
-//! The checks of one entry, one row and one level count.
+//! The checks of one entry, of the numbers of a node, of one row and one level
+//! count.
 //!
 //! File, writer and session share them, each in its own order.
 
 use crate::model::{Entry, Row, MAX_ENTRIES, MAX_LEVELS, MAX_R, MAX_TICKS, SECTION, TASK};
-use crate::refusal::{Refusal, JITTER, KIND, ROW, TICKS};
+use crate::refusal::{Refusal, JITTER, KIND, REPEAT, ROW, TICKS};
 
 /// Checks 7, 8 and 14 on the entry at `position` of row `row`.
 pub fn check_entry(entry: &Entry, row: usize, position: usize) -> Result<(), Refusal> {
@@ -27,6 +28,29 @@ pub fn check_no_jitter(entry: &Entry, row: usize, position: usize) -> Result<(),
     } else {
         Err(Refusal::at_entry(JITTER, row, position))
     }
+}
+
+/// Check 16 on the entries of row `row`: the first whose number an earlier one
+/// has.
+pub fn check_numbers(entries: &[Entry], row: usize) -> Result<(), Refusal> {
+    for position in 0..entries.len() {
+        for earlier in 0..position {
+            if entries[earlier].number == entries[position].number {
+                return Err(Refusal::at_entry(REPEAT, row, position));
+            }
+        }
+    }
+    Ok(())
+}
+
+/// Check 16 on an entry for `position` of a session that holds these others.
+pub fn check_number(entry: &Entry, others: &[Entry], position: usize) -> Result<(), Refusal> {
+    for other in others {
+        if other.number == entry.number {
+            return Err(Refusal::at_entry(REPEAT, 0, position));
+        }
+    }
+    Ok(())
 }
 
 /// Check 4 on the row at `index`; `last` is the number of the row before it.
@@ -145,6 +169,22 @@ mod tests {
         refused(ticks, TICKS);
         refused(Entry { kind: 3, ..ticks }, KIND);
         refused(Entry { c: 1, ..ticks }, JITTER);
+    }
+
+    #[test]
+    fn the_first_with_an_equal_before_it() {
+        let numbers = |numbers: &[u16]| {
+            let entries: Vec<Entry> = numbers
+                .iter()
+                .map(|&number| Entry::task(number, 1, 1, 1))
+                .collect();
+            check_numbers(&entries, 5).map_err(|refusal| (refusal.row, refusal.entry))
+        };
+        assert_eq!(numbers(&[]), Ok(()));
+        assert_eq!(numbers(&[0, u16::MAX, 255, 256]), Ok(()));
+        assert_eq!(numbers(&[0, 0]), Err((5, 1)));
+        assert_eq!(numbers(&[1, 2, 3, 1]), Err((5, 3)));
+        assert_eq!(numbers(&[1, 2, 2, 1, 1]), Err((5, 2)));
     }
 
     #[test]

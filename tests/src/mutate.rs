@@ -43,7 +43,7 @@ fn change(rng: &mut Rng, file: &mut Vec<u8>, other: &[u8]) {
         return;
     }
     let at = rng.index(file.len());
-    match rng.below(11) {
+    match rng.below(13) {
         0 => file[at] = rng.word() as u8,
         1 => file[at] ^= 1 << rng.below(8),
         2 => file[at] = rng.pick(&TELLING) as u8,
@@ -57,6 +57,7 @@ fn change(rng: &mut Rng, file: &mut Vec<u8>, other: &[u8]) {
         7 => change_edition(file),
         8 => change_jitter(rng, file),
         9 => clear_jitter(file),
+        10 | 11 => repeat_number(rng, file),
         _ => take_over(rng, file, other),
     }
 }
@@ -102,6 +103,21 @@ fn second_entries(file: &mut [u8]) -> &mut [[u8; SECOND_ENTRY]] {
     file[bodies..].as_chunks_mut().0
 }
 
+/// Gives an entry the number of one of the three before it, which may be one of
+/// another node.
+fn repeat_number(rng: &mut Rng, file: &mut [u8]) {
+    let Some(edition) = edition_of(file).filter(|_| file.len() >= HEAD_BYTES) else {
+        return;
+    };
+    let (bodies, length) = (contents_end(usize::from(file[4])), entry_length(edition));
+    let count = file.len().saturating_sub(bodies) / length;
+    if count > 1 {
+        let to = rng.count(1, count - 1);
+        let from = bodies + (to - rng.count(1, to.min(3))) * length;
+        file.copy_within(from..from + 2, bodies + to * length);
+    }
+}
+
 fn put_word(file: &mut [u8], at: usize, value: u32) {
     for (target, byte) in file[at..].iter_mut().zip(value.to_le_bytes()) {
         *target = byte;
@@ -134,9 +150,13 @@ fn lay_out(file: &mut Vec<u8>) {
         put_word(file, at + 4, offset as u32);
         offset += usize::from(file[at + 3].min(64)) * length;
     }
-    // Bytes of 1 are a good entry if its J is 0.
+    // Bytes of 1 are a good entry if its J is 0; the numbers must differ.
     file.truncate(offset);
     let bodies = contents_end(nodes);
-    let in_entry = (file.len()..offset).map(|at| (at - bodies) % length);
-    file.extend(in_entry.map(|at| u8::from(at < FIRST_ENTRY)));
+    let missing = (file.len()..offset).map(|at| ((at - bodies) / length, (at - bodies) % length));
+    file.extend(missing.map(|(entry, at)| match at {
+        0 => entry as u8,
+        1 => 0x80 | (entry >> 8) as u8,
+        _ => u8::from(at < FIRST_ENTRY),
+    }));
 }

@@ -77,10 +77,48 @@ fn entry_holds(e: &Entry) -> bool {
     kind && times && e.j <= e.d - e.c
 }
 
-/// Whether all entries of the bodies are within the limits.
-fn bodies_hold<const N: usize>(bodies: &[u8]) -> bool {
-    let entries = bodies.as_chunks::<N>().0;
-    entries.iter().all(|bytes| entry_holds(&entry(bytes)))
+/// Marks of the numbers that a node's entries have, by their low bits. A mark
+/// that is met means that an earlier entry has the same low bits; only then are
+/// the earlier entries looked at. Each node has another mark, so the table is
+/// cleared once.
+struct Marks<const SLOTS: usize>([u8; SLOTS]);
+
+impl<const SLOTS: usize> Marks<SLOTS> {
+    fn new() -> Marks<SLOTS> {
+        Marks([0; SLOTS])
+    }
+
+    /// Whether the numbers of these entries all differ.
+    fn differ<E>(&mut self, mark: u8, entries: &[E], number: fn(&E) -> u16) -> bool {
+        for (at, entry) in entries.iter().enumerate() {
+            let own = number(entry);
+            let slot = &mut self.0[usize::from(own) % SLOTS];
+            if *slot == mark && entries[..at].iter().any(|e| number(e) == own) {
+                return false;
+            }
+            *slot = mark;
+        }
+        true
+    }
+}
+
+/// Whether all entries of the bodies are within the limits, and the numbers of
+/// each node's entries differ.
+fn bodies_hold<const N: usize>(rows: &[[u8; 8]], bodies: &[u8]) -> bool {
+    let number = |bytes: &[u8; N]| u16::from_le_bytes([bytes[0], bytes[1]]);
+    let mut marks = Marks::<2048>::new();
+    let mut rest = bodies.as_chunks::<N>().0;
+    for (mark, row) in (1..).zip(rows) {
+        let (node, behind) = rest.split_at(usize::from(row[3]));
+        if !node.iter().all(|bytes| entry_holds(&entry(bytes))) {
+            return false;
+        }
+        if !marks.differ(mark, node, number) {
+            return false;
+        }
+        rest = behind;
+    }
+    true
 }
 
 /// Whether the file is accepted.
@@ -98,7 +136,9 @@ pub fn check(file: &[u8]) -> bool {
     }
     let mut least = 0;
     let mut required = 8 + nodes * 8;
-    for row in file[8..8 + nodes * 8].as_chunks::<8>().0 {
+    let (contents, bodies) = file[8..].split_at(nodes * 8);
+    let rows = contents.as_chunks::<8>().0;
+    for row in rows {
         let number = u32::from(u16::from_le_bytes([row[0], row[1]]));
         if number < least || !(1..=64).contains(&row[2]) || row[3] > 64 {
             return false;
@@ -112,11 +152,10 @@ pub fn check(file: &[u8]) -> bool {
     if file.len() != required {
         return false;
     }
-    let bodies = &file[8 + nodes * 8..];
     if length == 20 {
-        bodies_hold::<20>(bodies)
+        bodies_hold::<20>(rows, bodies)
     } else {
-        bodies_hold::<24>(bodies)
+        bodies_hold::<24>(rows, bodies)
     }
 }
 
@@ -193,8 +232,17 @@ pub fn write(edition: u32, rows: &[u32], words: &[u32], file: &mut [u8]) -> Opti
         let e = session::entry(words);
         entry_holds(&e) && (edition == 2 || e.j == 0)
     };
-    if words.len() != count * 6 || !entries.iter().all(writable) {
+    if words.len() != count * 6 {
         return None;
+    }
+    let mut marks = Marks::<1024>::new();
+    let mut rest = entries;
+    for (mark, row) in (1..).zip(rows) {
+        let (node, behind) = rest.split_at((row >> 24) as usize);
+        if !node.iter().all(writable) || !marks.differ(mark, node, session::number) {
+            return None;
+        }
+        rest = behind;
     }
     let bodies = 8 + rows.len() * 8;
     let file = file.get_mut(..bodies + count * length)?;

@@ -2,7 +2,7 @@
 //! with the first edition of the plan file alone.
 //!
 //! It is a small implementation of its own, to compare with: if every J is 0,
-//! all answers are still these. Only the time at which a test starts, which
+//! all answers are still these. As now, a node may hold an entry number once. Only the time at which a test starts, which
 //! never depended on J, is that of [`crate::timing`]. The map tries every
 //! grouping, so it is for short lists. A late answer, which had no overrun then,
 //! has that of the demand without J here.
@@ -11,6 +11,7 @@ use crate::model::{Entry, Node, Row};
 use crate::refusal::Refusal;
 use crate::timing::{initial_time, Timing};
 use std::cmp::Reverse;
+use std::collections::HashSet;
 
 /// The demand of entry `i` at time `t`.
 pub fn demand(entries: &[Entry], levels: &[u8], i: usize, t: u64) -> u64 {
@@ -106,10 +107,15 @@ pub fn check(file: &[u8]) -> Result<(), Refusal> {
     (0..nodes).try_for_each(|row| check_entries(&node_at(file, row).entries, row))
 }
 
-/// Checks 7 and 8 on the entries of a row, entry by entry.
+/// Checks 7 and 8 on the entries of a row, entry by entry, then 16.
 fn check_entries(entries: &[Entry], row: usize) -> Result<(), Refusal> {
     let mut places = entries.iter().enumerate();
-    places.try_for_each(|(position, entry)| check_entry(entry, row, position))
+    places.try_for_each(|(position, entry)| check_entry(entry, row, position))?;
+    let mut met = HashSet::new();
+    match entries.iter().position(|entry| !met.insert(entry.number)) {
+        Some(position) => Err(Refusal::at_entry(16, row, position)),
+        None => Ok(()),
+    }
 }
 
 /// Check 7, then 8.
@@ -159,7 +165,7 @@ fn entry_of(bytes: &[u8]) -> Entry {
 }
 
 /// Writes a file from the buffer's start, and returns its length. Checks 3, then
-/// 4 row by row, 6, then 7 and 8 entry by entry, then 10.
+/// 4 row by row, 6, then node by node 7 and 8 entry by entry and 16, then 10.
 pub fn write(rows: &[Row], entries: &[Entry], buffer: &mut [u8]) -> Result<usize, Refusal> {
     if !(1..=32).contains(&rows.len()) {
         return Err(Refusal::plain(3));
@@ -210,7 +216,7 @@ fn bytes_of(rows: &[Row], entries: &[Entry]) -> Vec<u8> {
 }
 
 /// What a session that held these entries holds after an insert. Checks 12, 13,
-/// 7, 8.
+/// 7, 8, 16.
 pub fn inserted(held: &[Entry], position: usize, entry: Entry) -> Result<Vec<Entry>, Refusal> {
     if position > held.len() {
         return Err(Refusal::plain(12));
@@ -219,17 +225,26 @@ pub fn inserted(held: &[Entry], position: usize, entry: Entry) -> Result<Vec<Ent
         return Err(Refusal::plain(13));
     }
     check_entry(&entry, 0, position)?;
-    Ok([&held[..position], &[entry], &held[position..]].concat())
+    beside(&held[..position], entry, &held[position..])
 }
 
 /// What a session that held these entries holds after a replacement. Checks 12,
-/// 7, 8.
+/// 7, 8, 16.
 pub fn replaced(held: &[Entry], position: usize, entry: Entry) -> Result<Vec<Entry>, Refusal> {
     if position >= held.len() {
         return Err(Refusal::plain(12));
     }
     check_entry(&entry, 0, position)?;
-    Ok([&held[..position], &[entry], &held[position + 1..]].concat())
+    beside(&held[..position], entry, &held[position + 1..])
+}
+
+/// The entry between these others, unless one of them has its number.
+fn beside(before: &[Entry], entry: Entry, behind: &[Entry]) -> Result<Vec<Entry>, Refusal> {
+    let others: HashSet<u16> = before.iter().chain(behind).map(|e| e.number).collect();
+    match others.contains(&entry.number) {
+        true => Err(Refusal::at_entry(16, 0, before.len())),
+        false => Ok([before, &[entry], behind].concat()),
+    }
 }
 
 /// The listing of a file of up to 65,536 bytes.

@@ -32,13 +32,15 @@ pub const FULL: u8 = 13;
 pub const JITTER: u8 = 14;
 /// A conversion into the first edition would lose a J above zero.
 pub const JITTER_LOST: u8 = 15;
+/// An entry has the number of an earlier one of its node.
+pub const REPEAT: u8 = 16;
 /// How many numbers there are.
-pub const NUMBERS: u8 = 15;
+pub const NUMBERS: u8 = 16;
 
 /// Why a call was refused, and where.
 #[derive(Clone, Copy, Debug, PartialEq, Eq, Hash)]
 pub struct Refusal {
-    /// The number in the table, 1 to 15.
+    /// The number in the table, 1 to 16.
     pub number: u8,
     /// Row of the contents, from 0.
     pub row: usize,

@@ -1,6 +1,6 @@
 //! The session: one node, changed step by step.
 
-use crate::limits::{check_entry, check_levels};
+use crate::limits::{check_entry, check_levels, check_number, check_numbers};
 use crate::map::map_into;
 use crate::model::{Entry, MAX_ENTRIES};
 use crate::refusal::{Refusal, FULL, POSITION, ROW};
@@ -54,7 +54,7 @@ impl Session {
     }
 
     /// A session that holds a node, which is checked as a node of a file: 4,
-    /// then 7, 8 and 14 entry by entry.
+    /// then 7, 8 and 14 entry by entry, then 16.
     pub fn holding(levels: usize, entries: &[Entry]) -> Result<Session, Refusal> {
         let mut session = Session::open(levels)?;
         if entries.len() > MAX_ENTRIES {
@@ -63,6 +63,7 @@ impl Session {
         for (position, entry) in entries.iter().enumerate() {
             check_entry(entry, 0, position)?;
         }
+        check_numbers(entries, 0)?;
         session.entries = entries.to_vec();
         Ok(session)
     }
@@ -77,7 +78,8 @@ impl Session {
         &self.entries
     }
 
-    /// Inserts before `position`, or appends. Checks 12, 13, 7, 8, 14.
+    /// Inserts before `position`, or appends. Checks 12, 13, 7, 8, 14,
+    /// 16.
     pub fn insert(&mut self, position: usize, entry: Entry) -> Result<(), Refusal> {
         if position > self.entries.len() {
             return Err(Refusal::plain(POSITION));
@@ -86,6 +88,7 @@ impl Session {
             return Err(Refusal::plain(FULL));
         }
         check_entry(&entry, 0, position)?;
+        check_number(&entry, &self.entries, position)?;
         self.entries.insert(position, entry);
         Ok(())
     }
@@ -97,10 +100,14 @@ impl Session {
         Ok(())
     }
 
-    /// Replaces the entry at `position`. Checks 12, 7, 8, 14.
+    /// Replaces the entry at `position`, whose own number the new one may have.
+    /// Checks 12, 7, 8, 14, 16.
     pub fn replace(&mut self, position: usize, entry: Entry) -> Result<(), Refusal> {
         self.check_position(position)?;
         check_entry(&entry, 0, position)?;
+        let mut others = self.entries.clone();
+        others.remove(position);
+        check_number(&entry, &others, position)?;
         self.entries[position] = entry;
         Ok(())
     }

@@ -1,7 +1,7 @@
 -- The cases of docs/SPEC.md: every line of the table holds.
 use mathlib.Core.Path.{refl}
 use native.Mathlib.Omega.{arith}
-use Rattle.task_model.specs.Checks.{kindTest, timesTest, jitterTest, entryCheck, entriesBy, sizeTest, nodeCheckBy}
+use Rattle.task_model.specs.Checks.{kindTest, timesTest, jitterTest, entryCheck, entriesBy, hasNumber, numberCheck, bodyBy, sizeTest, nodeCheckBy}
 use Rattle.task_model.proofs.Theorems.{node-accepted}
 use Rattle.completion.specs.Demand.{ceilDiv, releases, sumTo, higherLevelInterference, sameLevelInterference, demandWith, initialTimeWith}
 use Rattle.completion.specs.Test.{limit, iterate, testFrom, testWith}
@@ -15,50 +15,50 @@ _▸_ p q = (p, q)
 
 -- line by line, in the table's order
 pub cases-hold : All cases
-unfolding cases countTo nodeCheckBy sizeTest entriesBy entryCheck kindTest timesTest jitterTest answersTo floorDemand oneRunDemand leastFrom mapUnder passTest noneLateTo firstOf maps mapsWith fromLongest testWith limit testFrom iterate initialTimeWith demandWith sameLevelInterference higherLevelInterference sumTo releases ceilDiv
+unfolding cases countTo nodeCheckBy sizeTest bodyBy numberCheck hasNumber entriesBy entryCheck kindTest timesTest jitterTest answersTo floorDemand oneRunDemand leastFrom mapUnder passTest noneLateTo firstOf maps mapsWith fromLongest testWith limit testFrom iterate initialTimeWith demandWith sameLevelInterference higherLevelInterference sumTo releases ceilDiv
 cases-hold =
     -- P, Q, R
-    (node-accepted 0 _ .0 refl, refl)
+    (node-accepted 0 _ .0 refl .within, refl)
     ▸ (refl, refl)
     ▸ refl
-    ▸ (node-accepted 0 _ .0 refl, refl)
+    ▸ (node-accepted 0 _ .0 refl .within, refl)
     ▸ (refl, refl)
     ▸ refl
-    ▸ (node-accepted 0 _ .0 refl, refl)
+    ▸ (node-accepted 0 _ .0 refl .within, refl)
     ▸ refl
     -- F
-    ▸ (node-accepted 0 _ .0 refl, refl)
+    ▸ (node-accepted 0 _ .0 refl .within, refl)
     ▸ refl
     ▸ (refl, refl)
     ▸ refl
     ▸ refl
     ▸ refl
     -- H
-    ▸ (node-accepted 0 _ .0 refl, refl)
+    ▸ (node-accepted 0 _ .0 refl .within, refl)
     ▸ refl
     ▸ refl
     ▸ refl
     ▸ (refl, refl)
     ▸ refl
     -- S
-    ▸ (node-accepted 0 _ .0 refl, refl)
+    ▸ (node-accepted 0 _ .0 refl .within, refl)
     ▸ refl
     ▸ (refl, refl)
     ▸ (refl, refl)
     ▸ (refl, refl)
     ▸ (refl, refl)
     -- U
-    ▸ (node-accepted 0 _ .0 refl, refl)
+    ▸ (node-accepted 0 _ .0 refl .within, refl)
     ▸ (refl, refl)
     ▸ refl
     -- V
-    ▸ (node-accepted 0 _ .0 refl, refl)
+    ▸ (node-accepted 0 _ .0 refl .within, refl)
     ▸ refl
     ▸ refl
     ▸ (refl, omega arith)
     -- E
-    ▸ (node-accepted 0 _ .0 refl, refl)
+    ▸ (node-accepted 0 _ .0 refl .within, refl)
     ▸ (refl, refl)
-    ▸ (node-accepted 0 _ .0 refl, refl)
+    ▸ (node-accepted 0 _ .0 refl .within, refl)
     ▸ (refl, refl)
     ▸ tt

@@ -1,6 +1,6 @@
 -- Laws of the entries that words hold, and of checking them one by one.
 use Prim.Native.Nat.{ℕ, zero, suc, _+_, _-_, _≤_, _<_}
-use mathlib.Core.Path.{_≡_, _∙_, refl, ap}
+use mathlib.Core.Path.{_≡_, _∙_, refl, sym, ap}
 use mathlib.Core.List.{List, _∷_}
 use native.Mathlib.Nat.{zero-add}
 use native.Mathlib.Omega.{arith}
@@ -47,6 +47,9 @@ entry-in ws k (suc n) zero h = let e : k + 0 ≡ k = omega arith in rw e
 entry-in ws k (suc n) (suc j) h =
     let e : k + suc j ≡ suc k + j = omega arith in
     rw e (entry-in ws (suc k) n j (omega arith))
+
+pub number-in : (ws : List ℕ) (k n j : ℕ) → j < n → entryOf ws (k + j) .number ≡ entryAt (entriesFrom ws k n) j .number
+number-in ws k n j h = ap (λ (e : Entry). e .number) (sym (entry-in ws k n j h))
 
 module _ (ws : List ℕ) (n : ℕ) where
   pub entry-of : (j : ℕ) → j < n → entryAt (entriesOf ws n) j ≡ entryOf ws j

@@ -1,6 +1,10 @@
 // The entries of a node as words of 32 bits: how they are read, stored, checked, and changed in place.
 pub mod list;
+pub mod numbers;
 
+use numbers::MARKS;
+use numbers::Marks;
+use numbers::check_numbers;
 use refusals::Checked;
 use refusals::Refusal;
 use task_model::Entry;
@@ -14,8 +18,9 @@ ghost use Prim.Native.Nat.{_+_, _*_, _<_, _≤_};
 ghost use mathlib.Core.List.{[], _∷_};
 ghost use Rattle.refusals.specs.Refusals.{outcome};
 ghost use Rattle.task_model.specs.Limits.{mostEntries};
-ghost use Rattle.task_model.specs.Checks.{entriesCheck, nodeCheck};
+ghost use Rattle.task_model.specs.Checks.{entriesCheck, bodyCheck, nodeCheck};
 ghost use Rattle.node_words.specs.Words.{entrySize, nodeSize, entryWords, entryFrom, entryOf, entriesFrom, nodeOf};
+ghost use Rattle.node_words.specs.Marks.{markCount};
 
 // Sizes in words of 32 bits: of an entry, and of a node with room for all its entries (specs/Words.antt).
 pub const ENTRY_WORDS: usize = 6;
@@ -102,7 +107,26 @@ pub fn check_entries(row: usize, words: &[u32], first: usize, count: usize) -> C
     Checked::Accepted
 }
 
-// Checks a node: its counts of levels and entries (4), then each entry (7, 8, 14).
+// Checks `count` entries, from entry `first` of the words on: each of them (7, 8, 14), then their numbers (16).
+pub fn check_body(
+    row: usize,
+    words: &[u32],
+    first: usize,
+    count: usize,
+    marks: &mut Marks,
+    mark: u8,
+) -> Checked
+    requires { ⌜ ((first + count) * entrySize ≤ length (now words)) × (length (now marks) ≡ markCount) ⌝ }
+    ensures { λ a. ⌜ outcome a ≡ bodyCheck row (entriesFrom (now (words .entry)) first count) ⌝ }
+{
+    let found = check_entries(row, words, first, count);
+    let Checked::Accepted = found else {
+        return found;
+    };
+    check_numbers(row, words, first, count, marks, mark)
+}
+
+// Checks a node: its counts of levels and entries (4), then each entry (7, 8, 14), then their numbers (16).
 pub fn check_node(row: usize, words: &NodeWords, count: usize, levels: u8) -> Checked
     ensures { λ a. ⌜ outcome a ≡ nodeCheck row (nodeOf (now (words .entry)) count levels) ⌝ }
 {
@@ -123,5 +147,6 @@ pub fn check_words(row: usize, words: &[u32], count: usize, levels: u32) -> Chec
     if MOST_ENTRIES < count {
         return Checked::Refused(Refusal::Row { row });
     }
-    check_entries(row, words, 0, count)
+    let mut marks: Marks = [0u8; MARKS];
+    check_body(row, words, 0, count, &mut marks, 1)
 }

@@ -13,13 +13,14 @@ use lib.Dec.{ltb}
 use borrow.Author.Tests.{ltb-true, ltb-false}
 use Rattle.task_model.specs.declared.Entry.{Entry}
 use Rattle.refusals.specs.Refusals.{Numbered, Outcome, accepted, refused, _andThen_}
-use Rattle.task_model.specs.Checks.{entryCheck, entriesBy, entriesCheck}
+use Rattle.task_model.specs.Checks.{entryCheck, entriesBy, eachBy, entriesCheck}
 use Rattle.task_model.specs.Limits.{noEntry, entryAt, EntryHolds, AllHold}
 use Rattle.task_model.proofs.Tests.{true-or-false}
 use Rattle.task_model.proofs.Laws.{entries-next, entries-stop}
-use Rattle.task_model.proofs.Theorems.{each-accepted, each-refused}
+use Rattle.task_model.proofs.Each.{each-refused}
+use Rattle.task_model.proofs.Theorems.{each-exactly}
 use Rattle.plan_file.specs.declared.Row.{Row}
-use Rattle.plan_file.specs.Check.{nodesBy}
+use Rattle.plan_file.specs.Check.{bodiesBy, nodesBy}
 use Rattle.plan_file.specs.Find.{rowIn}
 use Rattle.plan_file.specs.Plan.{entryCount}
 use Rattle.byte_words.proofs.Runs.{AtHand, run-length, run-get, run-hand, run-none}
@@ -52,7 +53,7 @@ pub come-first : (ed : Edition) (f : List ℕ) (row start count : ℕ) → Come 
 come-first ed f row start count = (rw (zero-mul, add-zero), omega arith, refl)
 
 -- the place of the next entry
-next-place : (ed : Edition) (start k position : ℕ) → k ≡ start + position * entryLength ed
+pub next-place : (ed : Edition) (start k position : ℕ) → k ≡ start + position * entryLength ed
     → k + entryLength ed ≡ start + (position + 1) * entryLength ed
 next-place ed start k position e =
     ap (λ x. x + entryLength ed) e ∙ rw (add-one position, suc-mul position (entryLength ed)) (add-assoc start _ _)
@@ -138,55 +139,123 @@ each-part P es h c d j l =
     rw (getD-take c (drop d es) j noEntry (omega (arith, length-take c (drop d es))), getD-drop)
     (h (d + j) (omega (arith, length-take c (drop d es), length-drop d es)))
 
--- node by node, where the check of one entry accepts exactly what P says
+-- the entries of row `i`
+abbrev pub part : List Row → List Entry → ℕ → List Entry
+part rs es i = take (rowIn rs i .count) (drop (entryCount (take i rs)) es)
+
+-- the entries of a row are those of the row before it in the rows behind the first
+pub part-later : (r : Row) (rs : List Row) (es : List Entry) (i : ℕ) → part rs (drop (r .count) es) i ≡ part (r ∷ rs) es (suc i)
+unfolding entryCount
+part-later r rs es i = ap (take (rowIn rs i .count)) (drop-drop (entryCount (take i rs)) (r .count) es)
+
+-- row by row, where the check of all entries at a row accepts exactly what Q says
+module _ (check : ℕ → List Entry → Outcome) (Q : List Entry → Type 0)
+    (one : (row : ℕ) (es : List Entry) → check row es ≡ accepted ↔ Q es) where
+  pub bodies-accepted : (k : ℕ) (rs : List Row) (es : List Entry) → ((i : ℕ) → i < length rs → Q (part rs es i))
+      → bodiesBy check k rs es ≡ accepted
+  unfolding bodiesBy entryCount
+  bodies-accepted k [] es each = refl
+  bodies-accepted k (r ∷ rs) es each =
+      then-accepted _ _ (one k _ .1 (each 0 (omega arith)))
+      ∙ bodies-accepted (suc k) rs (drop (r .count) es) (λ i h. rw (part-later r rs es i) (each (suc i) (omega arith)))
+
+  -- the entries of each accepted row are as Q says
+  pub bodies-each : (k : ℕ) (rs : List Row) (es : List Entry) → bodiesBy check k rs es ≡ accepted → (i : ℕ) → i < length rs
+      → Q (part rs es i)
+  unfolding bodiesBy entryCount
+  bodies-each k [] es a i h = absurd (omega arith)
+  bodies-each k (r ∷ rs) es a zero h = one k _ .0 (both-accepted _ _ a .0)
+  bodies-each k (r ∷ rs) es a (suc i) h =
+      rw (← part-later r rs es i)
+      (bodies-each (suc k) rs (drop (r .count) es) (both-accepted (check k (take (r .count) es)) _ a .1) i (omega arith))
+
+  -- The refusal is that of the first row that is not as Q says.
+  pub record RefusedRow (k : ℕ) (rs : List Row) (es : List Entry) (r : Numbered) : Type 0 where
+    pub row : ℕ
+    pub there : row < length rs
+    pub refuses : check (k + row) (part rs es row) ≡ refused r
+    pub rowsBefore : (i : ℕ) → i < row → Q (part rs es i)
+
+  later-rows : (r : Row) (rs : List Row) (es : List Entry) (n : ℕ) → Q (take (r .count) es)
+      → ((i : ℕ) → i < n → Q (part rs (drop (r .count) es) i)) → (i : ℕ) → i < suc n → Q (part (r ∷ rs) es i)
+  unfolding entryCount
+  later-rows r rs es n h g zero l = h
+  later-rows r rs es n h g (suc i) l = rw (← part-later r rs es i) (g i (omega arith))
+
+  later : (k : ℕ) (r : Row) (rs : List Row) (es : List Entry) (q : Numbered) → Q (take (r .count) es)
+      → RefusedRow (suc k) rs (drop (r .count) es) q → RefusedRow k (r ∷ rs) es q
+  later k r rs es q h t =
+      let e : k + suc (t .row) ≡ suc k + t .row = omega arith in
+      record {
+        row = suc (t .row);
+        there = omega (arith, t .there);
+        refuses = rw (e, ← part-later r rs es (t .row)) (t .refuses);
+        rowsBefore = later-rows r rs es (t .row) h (t .rowsBefore);
+      }
+
+  pub bodies-refused : (k : ℕ) (rs : List Row) (es : List Entry) (q : Numbered) → bodiesBy check k rs es ≡ refused q → RefusedRow k rs es q
+  unfolding bodiesBy entryCount
+  bodies-refused k [] es q a = absurd (not-both refl a)
+  bodies-refused k (r ∷ rs) es q a =
+      ⊎-elim
+      (λ t.
+      later k r rs es q (one k _ .0 t)
+      (bodies-refused (suc k) rs (drop (r .count) es) q (sym (then-accepted (check k (take (r .count) es)) _ t) ∙ a)))
+      (λ t.
+      let e : k + 0 ≡ k = omega arith in
+      record {
+        row = 0;
+        there = omega arith;
+        refuses = rw e (t .1 ∙ sym (then-refused (check k (take (r .count) es)) _ _ (t .1)) ∙ a);
+        rowsBefore = λ i l. absurd (omega arith);
+      })
+      (either (check k (take (r .count) es)))
+
+  -- a row that is refused where those before are as Q says gives the refusal
+  pub refused-at : (k : ℕ) (rs : List Row) (es : List Entry) (i : ℕ) (q : Numbered) → i < length rs
+      → ((j : ℕ) → j < i → Q (part rs es j)) → check (k + i) (part rs es i) ≡ refused q → bodiesBy check k rs es ≡ refused q
+  unfolding bodiesBy entryCount
+  refused-at k [] es i q h before a = absurd (omega arith)
+  refused-at k (r ∷ rs) es zero q h before a = let e : k + 0 ≡ k = omega arith in then-refused _ _ q (rw e at a)
+  refused-at k (r ∷ rs) es (suc i) q h before a =
+      let e : k + suc i ≡ suc k + i = omega arith in
+      then-accepted _ _ (one k _ .1 (before 0 (omega arith)))
+      ∙ refused-at (suc k) rs (drop (r .count) es) i q (omega arith)
+      (λ j l. rw (part-later r rs es j) (before (suc j) (omega arith)))
+      (rw (part-later r rs es i) (rw e at a))
+
+-- every entry is as P says if those of each row are, and the rows count them all
+pub parts-all : (P : Entry → Type 0) (rs : List Row) (es : List Entry) → ((i : ℕ) → i < length rs → Each P (part rs es i))
+    → length es ≤ entryCount rs → Each P es
+unfolding entryCount
+parts-all P [] es each l j h = absurd (omega arith)
+parts-all P (r ∷ rs) es each l j h =
+    let c = r .count in
+    ⊎-elim
+    (λ t. rw (getD-take c es j noEntry (ltb-true j c t)) at (each 0 (omega arith) j (omega (arith, ltb-true j c t, length-take c es))))
+    (λ t.
+    let e : c + (j - c) ≡ j = omega (arith, ltb-false j c t) in
+    let later : (i : ℕ) → i < length rs → Each P (part rs (drop c es) i) = λ i g. rw (part-later r rs es i) (each (suc i) (omega arith)) in
+    let few : length (drop c es) ≤ entryCount rs = omega (arith, length-drop c es) in
+    rw (getD-drop c es (j - c) noEntry, e) at
+    (parts-all P rs (drop c es) later few (j - c) (omega (arith, ltb-false j c t, length-drop c es))))
+    (true-or-false (ltb j c))
+
+-- entry by entry, where the check of one entry accepts exactly what P says
 module _ (check : ℕ → ℕ → Entry → Outcome) (P : Entry → Type 0)
     (one : (row p : ℕ) (e : Entry) → check row p e ≡ accepted ↔ P e) where
-  pub nodes-accepted : (k : ℕ) (rs : List Row) (es : List Entry)
-      → ((i : ℕ) → i < length rs → Each P (take (rowIn rs i .count) (drop (entryCount (take i rs)) es)))
+  pub nodes-accepted : (k : ℕ) (rs : List Row) (es : List Entry) → ((i : ℕ) → i < length rs → Each P (part rs es i))
       → nodesBy check k rs es ≡ accepted
-  unfolding nodesBy entryCount
-  nodes-accepted k [] es each = refl
-  nodes-accepted k (r ∷ rs) es each =
-      then-accepted _ _ (each-accepted (check k) P (one k) 0 _ .1 (each 0 (omega arith)))
-      ∙ nodes-accepted (suc k) rs (drop (r .count) es)
-      (λ i h. rw (drop-drop (entryCount (take i rs)) (r .count) es) (each (suc i) (omega arith)))
+  nodes-accepted = bodies-accepted (eachBy check) (Each P) (each-exactly check P one)
 
-  -- entries that are accepted as one body are accepted in whatever rows they are divided into
-  pub whole-accepted : (es : List Entry) (rs : List Row) → entriesBy (check 0) 0 es ≡ accepted → nodesBy check 0 rs es ≡ accepted
-  whole-accepted es rs a = nodes-accepted 0 rs es
-      (λ i h. each-part P es (each-accepted (check 0) P (one 0) 0 es .0 a) (rowIn rs i .count) (entryCount (take i rs)))
-
-  -- the entries of each accepted row are as P says
   pub nodes-each : (k : ℕ) (rs : List Row) (es : List Entry) → nodesBy check k rs es ≡ accepted → (i : ℕ) → i < length rs
-      → Each P (take (rowIn rs i .count) (drop (entryCount (take i rs)) es))
-  unfolding nodesBy entryCount
-  nodes-each k [] es a i h = absurd (omega arith)
-  nodes-each k (r ∷ rs) es a zero h = each-accepted (check k) P (one k) 0 _ .0 (both-accepted _ _ a .0)
-  nodes-each k (r ∷ rs) es a (suc i) h =
-      rw (← drop-drop (entryCount (take i rs)) (r .count) es)
-      (nodes-each (suc k) rs (drop (r .count) es) (both-accepted (entriesBy (check k) 0 (take (r .count) es)) _ a .1) i (omega arith))
+      → Each P (part rs es i)
+  nodes-each = bodies-each (eachBy check) (Each P) (each-exactly check P one)
 
   -- and so is every entry, where the rows count them all
   pub nodes-all : (k : ℕ) (rs : List Row) (es : List Entry) → nodesBy check k rs es ≡ accepted → length es ≤ entryCount rs
       → Each P es
-  unfolding nodesBy entryCount
-  nodes-all k [] es a l j h = absurd (omega arith)
-  nodes-all k (r ∷ rs) es a l j h =
-      let c = r .count in
-      let q = both-accepted (entriesBy (check k) 0 (take c es)) _ a in
-      ⊎-elim
-      (λ t. rw (getD-take c es j noEntry (ltb-true j c t)) at
-      (each-accepted (check k) P (one k) 0 (take c es) .0 (q .0) j (omega (arith, ltb-true j c t, length-take c es))))
-      (λ t.
-      let e : c + (j - c) ≡ j = omega (arith, ltb-false j c t) in
-      rw (getD-drop c es (j - c) noEntry, e) at
-      (nodes-all (suc k) rs (drop c es) (q .1) (omega (arith, length-drop c es)) (j - c)
-      (omega (arith, ltb-false j c t, length-drop c es))))
-      (true-or-false (ltb j c))
-
-  -- the entries of row `i`
-  abbrev part : List Row → List Entry → ℕ → List Entry
-  part rs es i = take (rowIn rs i .count) (drop (entryCount (take i rs)) es)
+  nodes-all k rs es a = parts-all P rs es (nodes-each k rs es a)
 
   -- the refusal is that of the first entry, row by row and entry by entry, that is not as P says
   pub record RefusedAt (k : ℕ) (rs : List Row) (es : List Entry) (r : Numbered) : Type 0 where
@@ -198,46 +267,16 @@ module _ (check : ℕ → ℕ → Entry → Outcome) (P : Entry → Type 0)
     pub before : (j : ℕ) → j < position → P (entryAt (part rs es row) j)
     pub rowsBefore : (i : ℕ) → i < row → Each P (part rs es i)
 
-  later : (k : ℕ) (r : Row) (rs : List Row) (es : List Entry) (q : Numbered) → Each P (take (r .count) es)
-      → RefusedAt (suc k) rs (drop (r .count) es) q → RefusedAt k (r ∷ rs) es q
-  unfolding entryCount
-  later k r rs es q h t =
-      let same : (i : ℕ) → part rs (drop (r .count) es) i ≡ part (r ∷ rs) es (suc i) =
-      λ i. ap (take (rowIn rs i .count)) (drop-drop (entryCount (take i rs)) (r .count) es) in
-      let e : k + suc (t .row) ≡ suc k + t .row = omega arith in
-      record {
-        row = suc (t .row);
-        position = t .position;
-        there = omega (arith, t .there);
-        inside = rw (← same (t .row)) (t .inside);
-        refuses = rw (e, ← same (t .row)) (t .refuses);
-        before = λ j l. rw (← same (t .row)) (t .before j l);
-        rowsBefore = earlier same (t .row) (t .rowsBefore);
-      }
-    where
-      earlier : ((i : ℕ) → part rs (drop (r .count) es) i ≡ part (r ∷ rs) es (suc i)) → (n : ℕ)
-          → ((i : ℕ) → i < n → Each P (part rs (drop (r .count) es) i)) → (i : ℕ) → i < suc n → Each P (part (r ∷ rs) es i)
-      earlier same n g zero l = h
-      earlier same n g (suc i) l = rw (← same i) (g i (omega arith))
-
   pub nodes-refused : (k : ℕ) (rs : List Row) (es : List Entry) (q : Numbered) → nodesBy check k rs es ≡ refused q → RefusedAt k rs es q
-  unfolding nodesBy entryCount
-  nodes-refused k [] es q a = absurd (not-both refl a)
-  nodes-refused k (r ∷ rs) es q a =
-      ⊎-elim
-      (λ t.
-      later k r rs es q (each-accepted (check k) P (one k) 0 _ .0 t)
-      (nodes-refused (suc k) rs (drop (r .count) es) q (sym (then-accepted (entriesBy (check k) 0 (take (r .count) es)) _ t) ∙ a)))
-      (λ t.
-      let f = each-refused (check k) P (one k) (take (r .count) es) q (t .1 ∙ sym (then-refused (entriesBy (check k) 0 (take (r .count) es)) _ _ (t .1)) ∙ a) in
-      let e : k + 0 ≡ k = omega arith in
+  nodes-refused k rs es q a =
+      let t = bodies-refused (eachBy check) (Each P) (each-exactly check P one) k rs es q a in
+      let f = each-refused (check (k + t .row)) (λ p e. P e) (one (k + t .row)) (part rs es (t .row)) q (t .refuses) in
       record {
-        row = 0;
+        row = t .row;
         position = f .0;
-        there = omega arith;
+        there = t .there;
         inside = f .1;
-        refuses = rw e (f .3);
+        refuses = f .3;
         before = f .2;
-        rowsBefore = λ i l. absurd (omega arith);
-      })
-      (either (entriesBy (check k) 0 (take (r .count) es)))
+        rowsBefore = t .rowsBefore;
+      }

@@ -5,12 +5,12 @@ use mathlib.Core.List.{List}
 use lib.ListN.{length}
 use borrow.Author.Tests.{eqb-true}
 use Rattle.refusals.specs.Refusals.{Numbered, accepted, refused}
-use Rattle.task_model.specs.Checks.{entryCheck}
+use Rattle.task_model.specs.Checks.{bodyCheck}
 use Rattle.plan_file.specs.declared.Row.{Row}
 use Rattle.plan_file.specs.Plan.{entryCount}
 use Rattle.plan_file.specs.Encoding.{entryLength, bodiesStart}
 use Rattle.plan_file.specs.Decoding.{editionOf, nodeCount, rowsIn, entriesIn}
-use Rattle.plan_file.specs.Check.{headerCheck, contentsCheck, layoutCheck, nodesBy, fileCheck}
+use Rattle.plan_file.specs.Check.{headerCheck, contentsCheck, layoutCheck, bodiesBy, fileCheck}
 use Rattle.refusals.proofs.Outcomes.{both-accepted, demanded}
 use Rattle.plan_file.proofs.Header.{HeaderHolds, header-holds}
 
@@ -32,7 +32,7 @@ module _ (f : List ℕ) where
     file-layout r p = rw (h, p)
 
     pub file-bodies : layoutCheck (entryLength (editionOf f)) f 0 0 (bodiesStart (nodeCount f)) (rowsIn f) ≡ accepted
-        → fileCheck f ≡ nodesBy entryCheck 0 (rowsIn f) (entriesIn f)
+        → fileCheck f ≡ bodiesBy bodyCheck 0 (rowsIn f) (entriesIn f)
     unfolding fileCheck
     file-bodies p = rw (h, p)
 
@@ -40,7 +40,7 @@ module _ (f : List ℕ) where
     pub header : HeaderHolds f
     pub contents : contentsCheck (entryLength (editionOf f)) f 0 0 (bodiesStart (nodeCount f)) (rowsIn f) ≡ accepted
     pub ends : length f ≡ bodiesStart (nodeCount f) + entryCount (rowsIn f) * entryLength (editionOf f)
-    pub bodies : nodesBy entryCheck 0 (rowsIn f) (entriesIn f) ≡ accepted
+    pub bodies : bodiesBy bodyCheck 0 (rowsIn f) (entriesIn f) ≡ accepted
 
   pub file-holds : fileCheck f ≡ accepted → FileHolds
   unfolding fileCheck

@@ -8,10 +8,11 @@ use native.Mathlib.Omega.{arith}
 use lib.ListN.{take, drop, length-take, length-drop}
 use lib.Seq.{getD-take, getD-drop}
 use borrow.Author.Tests.{eq-eqb}
-use Rattle.refusals.specs.Refusals.{at, Outcome, accepted, refused, _andThen_, mustHold}
+use Rattle.refusals.specs.Refusals.{Outcome, _andThen_}
+use Rattle.refusals.proofs.Outcomes.{then-nothing}
 use Rattle.task_model.specs.declared.Entry.{Entry}
 use Rattle.task_model.specs.Limits.{noEntry}
-use Rattle.task_model.specs.Checks.{entryCheck, entriesBy}
+use Rattle.task_model.specs.Checks.{entryCheck, entriesBy, numbersCheck, bodyBy}
 use Rattle.task_model.specs.WithoutJitter.{Punctual, punctualCheck}
 use Rattle.task_model.proofs.WithoutJitter.{entry-punctual}
 use Rattle.plan_file.specs.declared.Edition.{Edition}
@@ -20,7 +21,7 @@ use Rattle.plan_file.specs.declared.Row.{Row}
 use Rattle.plan_file.specs.Plan.{entryCount}
 use Rattle.plan_file.specs.Encoding.{bodiesStart}
 use Rattle.plan_file.specs.Decoding.{openingTest, nodeCount, rowsIn, entriesAt, planIn}
-use Rattle.plan_file.specs.Check.{nodesBy, fileCheck, writtenCheck, writerCheck}
+use Rattle.plan_file.specs.Check.{bodiesBy, fileCheck, writtenCheck, writerCheck}
 use Rattle.plan_file.specs.FirstEdition.{firstEditionCheck, firstEditionPlan, firstWriterCheck}
 use Rattle.plan_file.specs.Limits.{EditionFits}
 use Rattle.plan_file.proofs.Tests.{edition-first}
@@ -37,15 +38,16 @@ module _ (P : Entry → Type 0) where
       ap₂ _andThen_ (same p e (h 0 (omega arith))) (entries-same c d same (suc p) es (λ j l. h (suc j) (omega arith)))
 
   nodes-same : (c d : ℕ → ℕ → Entry → Outcome) → ((row p : ℕ) (e : Entry) → P e → c row p e ≡ d row p e)
-      → (k : ℕ) (rs : List Row) (es : List Entry) → Each P es → nodesBy c k rs es ≡ nodesBy d k rs es
-  unfolding nodesBy
+      → (k : ℕ) (rs : List Row) (es : List Entry) → Each P es → bodiesBy (bodyBy c) k rs es ≡ bodiesBy (bodyBy d) k rs es
+  unfolding bodiesBy bodyBy
   nodes-same c d same k [] es h = refl
   nodes-same c d same k (r ∷ rs) es h =
       ap₂ _andThen_
+      (ap (λ o. o andThen numbersCheck k (take (r .count) es))
       (entries-same (c k) (d k) (same k) 0 (take (r .count) es)
       (λ j l.
       rw (getD-take (r .count) es j noEntry (omega (arith, length-take (r .count) es)))
-      (h j (omega (arith, length-take (r .count) es)))))
+      (h j (omega (arith, length-take (r .count) es))))))
       (nodes-same c d same (suc k) rs (drop (r .count) es)
       (λ j l. rw (getD-drop (r .count) es j noEntry) (h (r .count + j) (omega (arith, length-drop (r .count) es)))))
 
@@ -69,10 +71,6 @@ first-edition f p =
 -- Its plan is that of the first edition.
 pub first-plan : (f : List ℕ) → openingTest Second f ≡ false → planIn f ≡ firstEditionPlan f
 first-plan f p = rw (edition-first f p)
-
-then-nothing : (o : Outcome) → o andThen accepted ≡ o
-then-nothing accepted = refl
-then-nothing (refused r) = refl
 
 -- An entry that is to be written, with J 0, has the check of before in both editions.
 pub written-punctual : (ed : Edition) (row p : ℕ) (e : Entry) → e .jitter ≡ 0 → writtenCheck ed row p e ≡ punctualCheck row p e

@@ -9,6 +9,7 @@ pub mod Contents
 pub mod Rows
 pub mod Bodies
 pub mod File
+pub mod Numbering
 pub mod Nodes
 pub mod Memory
 -- The parts of a plan that the writer is given, and what it stores.
@@ -27,6 +28,9 @@ pub mod Fits
 -- What is accepted is within the limits.
 pub mod Limits
 pub mod Theorems
+-- When a number repeats, and what was checked before numbers were.
+pub mod Repeats
+pub mod WithoutNumbers
 -- The same for the buffers, as the calls leave them.
 pub mod RoundTrips
 -- An input that is longer than any plan.

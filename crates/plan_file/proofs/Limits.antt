@@ -7,6 +7,7 @@ use native.Mathlib.Omega.{arith}
 use lib.ListN.{length, take, drop, length-drop}
 use lib.Seq.{length-take-le}
 use borrow.Author.Tests.{eq-eqb, ne-eqb}
+use Rattle.task_model.specs.Checks.{bodyBy}
 use Rattle.node_words.specs.Words.{entrySize}
 use Rattle.refusals.specs.Refusals.{at, accepted, refused, mustHold}
 use Rattle.refusals.proofs.Outcomes.{both-accepted, then-accepted, mustHold-accepts, mustHold-refuses}
@@ -21,9 +22,9 @@ use Rattle.plan_file.specs.Decoding.{rowsFrom}
 use Rattle.plan_file.specs.Find.{rowIn, nodeOfRow}
 use Rattle.plan_file.specs.Limits.{PlanHolds, EditionFits, EditionHolds, longest}
 use Rattle.plan_file.proofs.Tests.{RowHolds, row-true}
-use Rattle.plan_file.proofs.WriterChecks.{writer-holds, writer-nodes, count-true, written-accepted, written-fits}
+use Rattle.plan_file.proofs.WriterChecks.{writer-holds, writer-nodes, count-true, body-written, written-fits}
 use Rattle.plan_file.proofs.Finding.{rows-each, not-below}
-use Rattle.plan_file.proofs.Bodies.{each-part, nodes-accepted, nodes-each}
+use Rattle.plan_file.proofs.Bodies.{each-part, bodies-accepted, bodies-each}
 use Rattle.plan_file.proofs.Contents.{length-rows}
 use Rattle.plan_file.proofs.Nodes.{count-split, contents-rows}
 use Rattle.plan_file.proofs.Encoding.{entry-short}
@@ -83,11 +84,16 @@ module _ (ed : Edition) (p : Plan) where
           nodes =
               λ i l.
               let r = rows-each 0 0 (p .rows) (h .rowsHold) i l in
+              let t = bodies-each (bodyBy (writtenCheck ed)) _ (body-written ed) 0 (p .rows) (p .entries) (h .nodes) i l in
               record {
-                someLevels = r .someLevels;
-                fewLevels = r .fewLevels;
-                fewEntries = omega (arith, length-node e i l, r .fewEntries);
-                each = λ j k. nodes-each (writtenCheck ed) _ (written-accepted ed) 0 (p .rows) (p .entries) (h .nodes) i l j k .0;
+                within =
+                    record {
+                      someLevels = r .someLevels;
+                      fewLevels = r .fewLevels;
+                      fewEntries = omega (arith, length-node e i l, r .fewEntries);
+                      each = λ j k. t .0 j k .0;
+                    };
+                numbers = t .1;
               };
           counts = e;
         },
@@ -100,7 +106,7 @@ module _ (ed : Edition) (p : Plan) where
       let rows =
       rows-accepted 0 0 (p .rows) (λ l. omega arith)
       (λ i l.
-      let n = h .nodes i l in
+      let n = h .nodes i l .within in
       record {
         rises = omega arith;
         someLevels = n .someLevels;
@@ -110,10 +116,13 @@ module _ (ed : Edition) (p : Plan) where
       (h .rising) in
       writer-nodes ed (p .rows) (p .entries) (length (p .entries) * entrySize) (count-true (length (p .rows)) (h .some) (h .few))
       (then-accepted _ _ rows ∙ mustHold-accepts _ _ (eq-eqb (length (p .entries) * entrySize) (entryCount (p .rows) * entrySize) (omega (arith, h .counts))))
-      ∙ nodes-accepted (writtenCheck ed) _ (written-accepted ed) 0 (p .rows) (p .entries)
-      (λ i l j k. (
-        h .nodes i l .each j k,
-        each-part (EditionFits ed) (p .entries) fits (rowIn (p .rows) i .count) (entryCount (take i (p .rows))) j k,
+      ∙ bodies-accepted (bodyBy (writtenCheck ed)) _ (body-written ed) 0 (p .rows) (p .entries)
+      (λ i l. (
+        (λ j k. (
+          h .nodes i l .within .each j k,
+          each-part (EditionFits ed) (p .entries) fits (rowIn (p .rows) i .count) (entryCount (take i (p .rows))) j k,
+        )),
+        h .nodes i l .numbers,
       ))
 
 -- words that are accepted hold a plan that is

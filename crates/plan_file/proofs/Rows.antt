@@ -1,7 +1,6 @@
 -- Laws of rows, whether of a file or in memory: their checks and the contents, row by row.
 use Prim.Native.Nat.{ℕ, _+_, _*_}
-use mathlib.Core.Path.{_≡_, _∙_, refl, sym, ap}
-use mathlib.Core.Logic.{⊎-elim}
+use mathlib.Core.Path.{_≡_, _∙_, sym, ap}
 use mathlib.Core.Bool.{Bool}
 use mathlib.Core.List.{List, [], _∷_, _++_}
 use native.Mathlib.Omega.{arith}
@@ -10,17 +9,14 @@ use lib.ListN.{length, take, drop, length-drop}
 use lib.Seq.{take-add, length-take-le}
 use lib.Dec.{eqb}
 use Rattle.node_words.specs.Words.{entrySize}
-use Rattle.refusals.specs.Refusals.{at, Outcome, accepted, refused, _andThen_, mustHold}
-use Rattle.refusals.proofs.Outcomes.{either, then-assoc}
+use Rattle.refusals.specs.Refusals.{at, Outcome, accepted, _andThen_, mustHold}
+use Rattle.refusals.proofs.Outcomes.{then-assoc}
 use Rattle.task_model.specs.declared.Entry.{Entry}
-use Rattle.task_model.specs.Limits.{AllHold}
-use Rattle.task_model.specs.Checks.{entryCheck, entriesBy, entriesCheck}
-use Rattle.task_model.proofs.Theorems.{entries-accepted}
 use Rattle.plan_file.specs.declared.Row.{Row}
 use Rattle.plan_file.specs.Plan.{entryCount}
 use Rattle.plan_file.specs.Encoding.{rowLength, rowBytes, contentsBytes}
 use Rattle.plan_file.specs.Decoding.{offsetAt}
-use Rattle.plan_file.specs.Check.{rowTest, rowsCheck, layoutCheck, contentsCheck, nodesBy}
+use Rattle.plan_file.specs.Check.{rowTest, rowsCheck, layoutCheck, contentsCheck, bodiesBy}
 use Rattle.byte_words.proofs.Runs.{Run, AtHand, run-take, run-drop}
 use Rattle.plan_file.proofs.Encoding.{count-snoc, contents-snoc, length-contents}
 
@@ -29,8 +25,8 @@ abbrev pub tallyFrom : ℕ → ℕ → ℕ → ℕ → List Row → Outcome
 tallyFrom words i least total rs = rowsCheck i least rs andThen mustHold (eqb words ((total + entryCount rs) * entrySize)) (at 6 0 0)
 
 -- the check of the entries of rows, which begin at place `k` of a run
-abbrev pub bodies : (ℕ → ℕ → Entry → Outcome) → (ℕ → ℕ → List Entry) → ℕ → ℕ → List Row → Outcome
-bodies check entries k i rs = nodesBy check i rs (entries k (entryCount rs))
+abbrev pub bodies : (ℕ → List Entry → Outcome) → (ℕ → ℕ → List Entry) → ℕ → ℕ → List Row → Outcome
+bodies check entries k i rs = bodiesBy check i rs (entries k (entryCount rs))
 
 -- with row `i` at hand: the rows from it on
 module _ {rows : List Row} {i : ℕ} {r : Row} (h : AtHand rows i r) where
@@ -83,26 +79,17 @@ module _ (i : ℕ) (rs : List Row) (e : rs ≡ []) where
   unfolding layoutCheck contentsCheck entryCount
   layout-end size f least required = let z : required + 0 * size ≡ required = omega arith in rw e (rw z)
 
--- the entries of rows, by any check of one entry: with row `i` at hand, and at the last row's end
-module _ (check : ℕ → ℕ → Entry → Outcome) {step : ℕ} {item : ℕ → Entry} {entries : ℕ → ℕ → List Entry}
+-- the entries of rows, by any check of all entries at a row: with row `i` at hand, and at the last row's end
+module _ (check : ℕ → List Entry → Outcome) {step : ℕ} {item : ℕ → Entry} {entries : ℕ → ℕ → List Entry}
     (run : Run step item entries) where
   pub bodies-here : {rows : List Row} {i : ℕ} {r : Row} → AtHand rows i r → (k next : ℕ) → next ≡ k + r .count * step
-      → (o : Outcome) → entriesBy (check i) 0 (entries k (r .count)) ≡ o
+      → (o : Outcome) → check i (entries k (r .count)) ≡ o
       → bodies check entries k i (drop i rows) ≡ o andThen bodies check entries next (i + 1) (drop (i + 1) rows)
-  unfolding nodesBy entryCount
+  unfolding bodiesBy entryCount
   bodies-here {rows} {i} {r} h k next e o p =
       let n = entryCount (drop (i + 1) rows) in
       rw (h .here) (rw (run-take run k (r .count) n, run-drop run k (r .count) n, p, e, add-one i))
 
   pub bodies-end : (k i : ℕ) (rs : List Row) → rs ≡ [] → bodies check entries k i rs ≡ accepted
-  unfolding nodesBy
+  unfolding bodiesBy
   bodies-end k i rs e = rw e
-
--- a row with an entry that is not within the limits gives the refusal
-pub bodies-stop : {step : ℕ} {item : ℕ → Entry} {entries : ℕ → ℕ → List Entry} → Run step item entries
-    → {rows : List Row} {i : ℕ} {r : Row} → AtHand rows i r → (k : ℕ) → (AllHold (entries k (r .count)) → ⊥)
-    → entriesCheck i 0 (entries k (r .count)) ≡ bodies entryCheck entries k i (drop i rows)
-bodies-stop run {i} h k n =
-    ⊎-elim (λ a. absurd (n (entries-accepted i 0 _ .0 a)))
-    (λ q. q .1 ∙ sym (bodies-here entryCheck run h k _ refl (refused (q .0)) (q .1)))
-    (either _)

@@ -5,13 +5,13 @@ use mathlib.Core.Path.{_≡_, _∙_, refl, sym, ap, subst}
 use mathlib.Core.Logic.{_↔_, ⊎-elim}
 use mathlib.Core.List.{List, [], _∷_, map, append-nil}
 use native.Mathlib.Omega.{arith}
-use lib.ListN.{length, getD, take, replicate}
+use lib.ListN.{length, getD, take}
 use lib.Dec.{ltb, eqb}
 use borrow.Author.Tests.{eq-eqb, lt-ltb, ltb-true}
 use Rattle.task_model.specs.declared.Entry.{Entry}
 use Rattle.refusals.specs.Refusals.{at, accepted, refused, mustHold}
-use Rattle.task_model.specs.Limits.{mostTicks, mostLevels, mostEntries, entryAt, KindHolds, TimesHold, JitterHolds, NodeHolds}
-use Rattle.task_model.specs.Checks.{kindTest, timesTest, jitterTest, entryCheck, entriesBy, sizeTest}
+use Rattle.task_model.specs.Limits.{mostTicks, mostLevels, mostEntries, entryAt, KindHolds, TimesHold, JitterHolds, NodeHolds, NumbersDiffer, NodeValid}
+use Rattle.task_model.specs.Checks.{kindTest, timesTest, jitterTest, entryCheck, entriesBy, hasNumber, numberCheck, bodyBy, sizeTest}
 use Rattle.node_words.specs.Words.{entrySize, entryFrom, wordsOf, entriesOf, WordsFit}
 use Rattle.node_words.proofs.Words.{read-entries, entries-fit, length-words as length-words-of}
 use Rattle.node_words.proofs.Entries.{length-entries}
@@ -25,7 +25,7 @@ use Rattle.plan_file.specs.Plan.{mostNodes, Plan, entryCount, rowWord, r
 use Rattle.plan_file.specs.Encoding.{headerLength, rowLength, entryLength, bodiesStart, encoding}
 use Rattle.byte_words.specs.Bytes.{Bytes, wordAt}
 use Rattle.plan_file.specs.Decoding.{editionOf, nodeCount, rowAt, offsetAt, rowsIn, entryIn, entriesIn, planIn}
-use Rattle.plan_file.specs.Check.{countTest, rowTest, rowsCheck, contentsCheck, nodesBy, headerCheck, fileCheck, writtenCheck, writerCheck, planCheck, wordsCheck}
+use Rattle.plan_file.specs.Check.{countTest, rowTest, rowsCheck, contentsCheck, bodiesBy, headerCheck, fileCheck, writtenCheck, writerCheck, planCheck, wordsCheck}
 use Rattle.plan_file.specs.Find.{rowIn, nodeOfRow, rowOfNumber, findCheck, nodeFound}
 use Rattle.plan_file.specs.Limits.{PlanHolds, EditionFits, EditionHolds, IsPlanFile, IsPlanInMemory, longest}
 use Rattle.plan_file.proofs.Words.{words-first, words-second}
@@ -193,10 +193,18 @@ write-read-memory ed rs ws hr hw a =
       ap (λ (p : Plan). wordsOf (p .entries)) same ∙ entries-words ws hw (length ws / entrySize) n,
     )
 
--- Each node of an accepted file is within every limit of a node.
-pub nodes-hold : (f : List ℕ) → fileCheck f ≡ accepted → (i : ℕ) → i < nodeCount f → NodeHolds (nodeOfRow (planIn f) i)
-nodes-hold f a i h =
-    plan-holds (editionOf f) (planIn f) (plan-accepted f a) .0 .nodes i (omega (arith, length-rows f 0 (nodeCount f)))
+-- Each node of an accepted file is one that a plan may hold:
+module _ (f : List ℕ) (a : fileCheck f ≡ accepted) (i : ℕ) (h : i < nodeCount f) where
+  pub nodes-valid : NodeValid (nodeOfRow (planIn f) i)
+  nodes-valid = plan-holds (editionOf f) (planIn f) (plan-accepted f a) .0 .nodes i (omega (arith, length-rows f 0 (nodeCount f)))
+
+  -- it is within every limit of a node,
+  pub nodes-hold : NodeHolds (nodeOfRow (planIn f) i)
+  nodes-hold = nodes-valid .within
+
+  -- and its numbers are all different.
+  pub numbers-differ : NumbersDiffer (nodeOfRow (planIn f) i .entries)
+  numbers-differ = nodes-valid .numbers
 
 -- The fields of a row are bytes of the file: node number (2), levels (1), entry count (1), offset (4).
 pub row-fields : (f : List ℕ) → Bytes f → (i k : ℕ) → k ≡ headerLength + i * rowLength
@@ -314,7 +322,7 @@ pub smallest : Plan
 smallest = record { rows = record { number = 0; levels = 1; count = 0 } ∷ []; entries = [] }
 
 pub smallest-accepted : (ed : Edition) → (planCheck ed smallest ≡ accepted) × (length (encoding ed smallest) ≡ 16)
-unfolding smallest writerCheck countTest rowsCheck rowTest sizeTest nodesBy entriesBy entryCount
+unfolding smallest writerCheck countTest rowsCheck rowTest sizeTest bodyBy bodiesBy hasNumber numberCheck entriesBy entryCount
 smallest-accepted ed = (refl, length-encoding ed smallest ∙ omega arith)
 
 -- 32 nodes of 64 levels and 64 entries: the largest.
@@ -322,25 +330,31 @@ rowsTo : ℕ → List Row → List Row
 rowsTo zero rs = rs
 rowsTo (suc n) rs = rowsTo n (record { number = n; levels = mostLevels; count = mostEntries } ∷ rs)
 
-pub largest : Plan
-largest =
-    record {
-      rows = rowsTo mostNodes [];
-      entries =
-          replicate (mostNodes * mostEntries)
-          (record {
-            number = 65535;
-            kind = 1;
-            calls = 15;
-            wcet = mostTicks;
-            period = mostTicks;
-            deadline = mostTicks;
-            blocking = mostTicks;
-            jitter = 0;
-          });
+-- with numbers from 0 on
+entriesTo : ℕ → List Entry → List Entry
+entriesTo zero es = es
+entriesTo (suc n) es =
+    entriesTo n
+    (record {
+      number = n;
+      kind = 1;
+      calls = 15;
+      wcet = mostTicks;
+      period = mostTicks;
+      deadline = mostTicks;
+      blocking = mostTicks;
+      jitter = 0;
     }
+    ∷ es)
+
+nodesTo : ℕ → List Entry
+nodesTo zero = []
+nodesTo (suc n) = entriesTo mostEntries (nodesTo n)
+
+pub largest : Plan
+largest = record { rows = rowsTo mostNodes []; entries = nodesTo mostNodes }
 
 pub largest-accepted : (ed : Edition) → (planCheck ed largest ≡ accepted) × (length (encoding ed largest) ≡ longest ed)
-unfolding largest rowsTo writerCheck countTest rowsCheck rowTest sizeTest nodesBy entriesBy writtenCheck entryCheck kindTest timesTest jitterTest entryCount
+unfolding largest rowsTo entriesTo nodesTo writerCheck countTest rowsCheck rowTest sizeTest bodyBy bodiesBy hasNumber numberCheck entriesBy writtenCheck entryCheck kindTest timesTest jitterTest entryCount
 largest-accepted First = (refl, length-encoding First largest)
 largest-accepted Second = (refl, length-encoding Second largest)

@@ -11,19 +11,19 @@ use borrow.Author.Tests.{le-leb, leb-true, eqb-true, eq-eqb, ne-eqb}
 use Rattle.node_words.specs.Words.{entrySize}
 use Rattle.task_model.specs.declared.Entry.{Entry}
 use Rattle.refusals.specs.Refusals.{Numbered, at, Outcome, accepted, refused, _andThen_, mustHold}
-use Rattle.task_model.specs.Limits.{EntryHolds}
-use Rattle.task_model.specs.Checks.{entryCheck}
+use Rattle.task_model.specs.Limits.{EntryHolds, NumbersDiffer}
+use Rattle.task_model.specs.Checks.{entryCheck, bodyBy, bodyCheck}
 use Rattle.task_model.proofs.Tests.{and-true, decided}
-use Rattle.task_model.proofs.Theorems.{entry-accepted}
+use Rattle.task_model.proofs.Theorems.{entry-accepted, body-exactly, body-accepted}
 use Rattle.plan_file.specs.declared.Edition.{Edition}
 use Rattle.plan_file.specs.declared.Edition.the-variants.{First, Second}
 use Rattle.plan_file.specs.declared.Row.{Row}
 use Rattle.plan_file.specs.Plan.{mostNodes, entryCount}
-use Rattle.plan_file.specs.Check.{countTest, rowsCheck, nodesBy, writtenCheck, writerCheck}
+use Rattle.plan_file.specs.Check.{countTest, rowsCheck, bodiesBy, writtenCheck, writerCheck}
 use Rattle.plan_file.specs.Find.{rowIn}
 use Rattle.plan_file.specs.Limits.{EditionFits}
 use Rattle.refusals.proofs.Outcomes.{both-accepted, then-refused, then-accepted, then-assoc, mustHold-accepts, mustHold-refuses, demanded}
-use Rattle.plan_file.proofs.Bodies.{Each, each-part, nodes-accepted, nodes-each, nodes-all}
+use Rattle.plan_file.proofs.Bodies.{Each, each-part, bodies-accepted, bodies-each, parts-all}
 
 pub count-true : (n : ℕ) → 1 ≤ n → n ≤ mostNodes → countTest n ≡ true
 unfolding countTest
@@ -46,8 +46,8 @@ tally-holds rows words p =
     let q = both-accepted (rowsCheck 0 0 rows) _ p in (q .0, eqb-true _ _ (demanded _ _ (q .1)))
 
 module _ (ed : Edition) (rows : List Row) (entries : List Entry) (words : ℕ) where
-  regrouped : writerCheck ed rows entries words
-      ≡ mustHold (countTest (length rows)) (at 3 0 0) andThen (tally rows words andThen nodesBy (writtenCheck ed) 0 rows entries)
+  pub regrouped : writerCheck ed rows entries words
+      ≡ mustHold (countTest (length rows)) (at 3 0 0) andThen (tally rows words andThen bodiesBy (bodyBy (writtenCheck ed)) 0 rows entries)
   unfolding writerCheck
   regrouped = ap (λ o. mustHold (countTest (length rows)) (at 3 0 0) andThen o) (sym (then-assoc (rowsCheck 0 0 rows) _ _))
 
@@ -58,7 +58,7 @@ module _ (ed : Edition) (rows : List Row) (entries : List Entry) (words : ℕ) w
     pub writer-tally : (r : Numbered) → tally rows words ≡ refused r → writerCheck ed rows entries words ≡ refused r
     writer-tally r p = regrouped ∙ rw (h, p)
 
-    pub writer-nodes : tally rows words ≡ accepted → writerCheck ed rows entries words ≡ nodesBy (writtenCheck ed) 0 rows entries
+    pub writer-nodes : tally rows words ≡ accepted → writerCheck ed rows entries words ≡ bodiesBy (bodyBy (writtenCheck ed)) 0 rows entries
     writer-nodes p = regrouped ∙ rw (h, p)
 
   pub record WriterHolds : Type 0 where
@@ -66,7 +66,7 @@ module _ (ed : Edition) (rows : List Row) (entries : List Entry) (words : ℕ) w
     pub few : length rows ≤ mostNodes
     pub rowsHold : rowsCheck 0 0 rows ≡ accepted
     pub counts : words ≡ entryCount rows * entrySize
-    pub nodes : nodesBy (writtenCheck ed) 0 rows entries ≡ accepted
+    pub nodes : bodiesBy (bodyBy (writtenCheck ed)) 0 rows entries ≡ accepted
 
   pub writer-holds : writerCheck ed rows entries words ≡ accepted → WriterHolds
   writer-holds p =
@@ -100,21 +100,29 @@ module _ (row p : ℕ) (e : Entry) where
   unfolding writtenCheck
   first-accepts q z = then-accepted (entryCheck row p e) _ q ∙ mustHold-accepts _ _ (eq-eqb (e .jitter) 0 z)
 
--- so the writer's check of entries is that of a file, and that the edition has a place for each
+-- so the entries at a row are accepted exactly if each is, and their numbers are all different
+pub body-written : (ed : Edition) (row : ℕ) (es : List Entry)
+    → bodyBy (writtenCheck ed) row es ≡ accepted ↔ (Each (λ e. EntryHolds e × EditionFits ed e) es × NumbersDiffer es)
+body-written ed = body-exactly (writtenCheck ed) (λ e. EntryHolds e × EditionFits ed e) (written-accepted ed)
+
+-- and the writer's check of entries is that of a file, and that the edition has a place for each
 module _ (ed : Edition) (k : ℕ) (rs : List Row) (es : List Entry) where
-  pub nodes-written : nodesBy entryCheck k rs es ≡ accepted → Each (EditionFits ed) es
-      → nodesBy (writtenCheck ed) k rs es ≡ accepted
+  pub nodes-written : bodiesBy bodyCheck k rs es ≡ accepted → Each (EditionFits ed) es
+      → bodiesBy (bodyBy (writtenCheck ed)) k rs es ≡ accepted
   nodes-written a fits =
-      nodes-accepted (writtenCheck ed) _ (written-accepted ed) k rs es
-      (λ i h j l. (
-        nodes-each entryCheck EntryHolds entry-accepted k rs es a i h j l,
-        each-part (EditionFits ed) es fits (rowIn rs i .count) (entryCount (take i rs)) j l,
+      bodies-accepted (bodyBy (writtenCheck ed)) _ (body-written ed) k rs es
+      (λ i h.
+      let t = bodies-each bodyCheck _ body-accepted k rs es a i h in (
+        (λ j l. (t .0 j l, each-part (EditionFits ed) es fits (rowIn rs i .count) (entryCount (take i rs)) j l)),
+        t .1,
       ))
 
-  pub written-nodes : nodesBy (writtenCheck ed) k rs es ≡ accepted → nodesBy entryCheck k rs es ≡ accepted
+  pub written-nodes : bodiesBy (bodyBy (writtenCheck ed)) k rs es ≡ accepted → bodiesBy bodyCheck k rs es ≡ accepted
   written-nodes a =
-      nodes-accepted entryCheck EntryHolds entry-accepted k rs es
-      (λ i h j l. nodes-each (writtenCheck ed) _ (written-accepted ed) k rs es a i h j l .0)
+      bodies-accepted bodyCheck _ body-accepted k rs es
+      (λ i h. let t = bodies-each (bodyBy (writtenCheck ed)) _ (body-written ed) k rs es a i h in ((λ j l. t .0 j l .0), t .1))
 
-  pub written-fits : nodesBy (writtenCheck ed) k rs es ≡ accepted → length es ≤ entryCount rs → Each (EditionFits ed) es
-  written-fits a l j h = nodes-all (writtenCheck ed) _ (written-accepted ed) k rs es a l j h .1
+  pub written-fits : bodiesBy (bodyBy (writtenCheck ed)) k rs es ≡ accepted → length es ≤ entryCount rs → Each (EditionFits ed) es
+  written-fits a =
+      parts-all (EditionFits ed) rs es
+      (λ i h j l. bodies-each (bodyBy (writtenCheck ed)) _ (body-written ed) k rs es a i h .0 j l .1)

@@ -6,7 +6,7 @@ use lib.ListN.{length, getD, take, drop}
 use lib.Dec.{leb, eqb}
 use Rattle.task_model.specs.declared.Entry.{Entry}
 use Rattle.refusals.specs.Refusals.{at, Outcome, accepted, _andThen_, mustHold}
-use Rattle.task_model.specs.Checks.{entryCheck, entriesBy, sizeTest}
+use Rattle.task_model.specs.Checks.{entryCheck, eachBy, bodyBy, bodyCheck, sizeTest}
 use Rattle.node_words.specs.Words.{entrySize}
 use Rattle.plan_file.specs.declared.Edition.{Edition}
 use Rattle.plan_file.specs.declared.Edition.the-variants.{First, Second}
@@ -40,11 +40,15 @@ contentsCheck size f i least required (r ∷ rs) =
     andThen mustHold (eqb (offsetAt f i) required) (at 5 i 0)
     andThen contentsCheck size f (suc i) (suc (r .number)) (required + r .count * size) rs
 
--- The entries of each row, from index `i` on, one by one, each by its row, its position in its node, and itself.
-unfoldable pub nodesBy : (ℕ → ℕ → Entry → Outcome) → ℕ → List Row → List Entry → Outcome
-nodesBy check i [] es = accepted
-nodesBy check i (r ∷ rs) es =
-    entriesBy (check i) 0 (take (r .count) es) andThen nodesBy check (suc i) rs (drop (r .count) es)
+-- The entries of each row, from index `i` on, by a check of all entries at a row. A row is checked once those before it have
+-- passed.
+unfoldable pub bodiesBy : (ℕ → List Entry → Outcome) → ℕ → List Row → List Entry → Outcome
+bodiesBy check i [] es = accepted
+bodiesBy check i (r ∷ rs) es = check i (take (r .count) es) andThen bodiesBy check (suc i) rs (drop (r .count) es)
+
+-- The entries of each row, one by one, each by its row, its position in its node, and itself.
+abbrev pub nodesBy : (ℕ → ℕ → Entry → Outcome) → ℕ → List Row → List Entry → Outcome
+nodesBy check i rows es = bodiesBy (eachBy check) i rows es
 
 -- A file's first checks: at least 8 bytes (1), that it opens as it must (2), node count and zero bytes (3), complete
 -- contents (1).
@@ -69,13 +73,13 @@ opensTest f = openingTest First f || openingTest Second f
 abbrev pub headerCheck : List ℕ → Outcome
 headerCheck f = headerBy (opensTest f) f
 
--- All checks of a file: its header, its layout in its edition, then 7, 8 and 14 entry by entry. (An entry of the first
--- edition has J 0, so it never gives 14.)
+-- All checks of a file: its header, its layout in its edition, then row by row: 7, 8 and 14 entry by entry, and then the
+-- numbers of the row's entries (16). (An entry of the first edition has J 0, so it never gives 14.)
 unfoldable pub fileCheck : List ℕ → Outcome
 fileCheck f =
     headerCheck f
     andThen layoutCheck (entryLength (editionOf f)) f 0 0 (bodiesStart (nodeCount f)) (rowsIn f)
-    andThen nodesBy entryCheck 0 (rowsIn f) (entriesIn f)
+    andThen bodiesBy bodyCheck 0 (rowsIn f) (entriesIn f)
 
 -- An entry that is to be written: 7, 8 and 14. The first edition has no place for J, so a J above zero is 14 there too.
 unfoldable pub writtenCheck : Edition → ℕ → ℕ → Entry → Outcome
@@ -83,14 +87,14 @@ writtenCheck First row position e = entryCheck row position e andThen mustHold (
 writtenCheck Second row position e = entryCheck row position e
 
 -- The writer's checks for an edition, of rows, and of entries that were given in `words` words: the node count (3); 4 row by
--- row; the rows must count exactly these entries (6), and a part of an entry left over is 6 too; 7, 8 and 14 entry by
--- entry.
+-- row; the rows must count exactly these entries (6), and a part of an entry left over is 6 too; then row by row 7, 8 and 14
+-- entry by entry, and the numbers (16).
 unfoldable pub writerCheck : Edition → List Row → List Entry → ℕ → Outcome
 writerCheck ed rows entries words =
     mustHold (countTest (length rows)) (at 3 0 0)
     andThen rowsCheck 0 0 rows
     andThen mustHold (eqb words (entryCount rows * entrySize)) (at 6 0 0)
-    andThen nodesBy (writtenCheck ed) 0 rows entries
+    andThen bodiesBy (bodyBy (writtenCheck ed)) 0 rows entries
 
 -- The checks of a plan for an edition. It is accepted exactly if none of the writer's checks is met.
 abbrev pub planCheck : Edition → Plan → Outcome

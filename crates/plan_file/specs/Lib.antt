@@ -4,6 +4,7 @@ pub mod Encoding
 pub mod Decoding
 pub mod Check
 pub mod FirstEdition
+pub mod WithoutNumbers
 pub mod Find
 pub mod Limits
 pub mod Answers

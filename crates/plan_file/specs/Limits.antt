@@ -4,7 +4,7 @@ use mathlib.Core.Path.{_≡_}
 use mathlib.Core.List.{List}
 use lib.ListN.{length}
 use Rattle.task_model.specs.declared.Entry.{Entry}
-use Rattle.task_model.specs.Limits.{mostEntries, entryAt, NodeHolds}
+use Rattle.task_model.specs.Limits.{mostEntries, entryAt, NodeValid}
 use Rattle.node_words.specs.Words.{entrySize}
 use Rattle.plan_file.specs.declared.Edition.{Edition}
 use Rattle.plan_file.specs.declared.Edition.the-variants.{First, Second}
@@ -12,13 +12,13 @@ use Rattle.plan_file.specs.Plan.{mostNodes, Plan, PlanFits, entryCount, 
 use Rattle.plan_file.specs.Encoding.{entryLength, bodiesStart, encoding}
 use Rattle.plan_file.specs.Find.{rowIn, nodeOfRow}
 
--- A plan within the limits: 1 to 32 rows, node numbers that rise from row to row, each node within its limits, and rows
--- that count as many entries as there are.
+-- A plan within the limits: 1 to 32 rows, node numbers that rise from row to row, each node within its limits and with each
+-- entry number once, and rows that count as many entries as there are.
 pub record PlanHolds (p : Plan) : Type 0 where
   pub some : 1 ≤ length (p .rows)
   pub few : length (p .rows) ≤ mostNodes
   pub rising : (i : ℕ) → suc i < length (p .rows) → rowIn (p .rows) i .number < rowIn (p .rows) (suc i) .number
-  pub nodes : (i : ℕ) → i < length (p .rows) → NodeHolds (nodeOfRow p i)
+  pub nodes : (i : ℕ) → i < length (p .rows) → NodeValid (nodeOfRow p i)
   pub counts : entryCount (p .rows) ≡ length (p .entries)
 
 -- An edition has a place for all that an entry has: the first has none for J, which must be 0.

@@ -1,4 +1,5 @@
--- What the quick test of a plan to be written asks of all its entries, before any place is looked for.
+-- What the quick test of entries to be written asks of all of them, before any place is looked for; and how many marks the
+-- check of the numbers in a file has.
 use Prim.Native.Nat.{ℕ, _≤_, _<_}
 use mathlib.Core.List.{List}
 use lib.ListN.{length}
@@ -15,3 +16,7 @@ AllWithin most es = (j : ℕ) → j < length es → EntryHolds (entryAt es j) ×
 abbrev pub mostJitter : Edition → ℕ
 mostJitter First = 0
 mostJitter Second = mostTicks
+
+-- How many marks the check of numbers keeps for a file.
+abbrev pub fileMarks : ℕ
+fileMarks = 2048

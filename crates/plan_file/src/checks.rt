@@ -6,10 +6,12 @@ use super::MOST_NODES;
 use super::ROW_BYTES;
 use super::Row;
 use super::SECOND_ENTRY_BYTES;
-use super::editions::entries_in;
 use super::editions::entry_bytes;
 use super::editions::opens;
 use super::node_count;
+use super::numbers::FILE_MARKS;
+use super::numbers::FileMarks;
+use super::numbers::check_numbers;
 use super::read::entry_in;
 use super::read::first_entry;
 use super::read::row_of;
@@ -19,6 +21,8 @@ use byte_words::word_at;
 use node_words::ENTRY_WORDS;
 use node_words::check_entries;
 use node_words::entry_of;
+use node_words::numbers::MARKS;
+use node_words::numbers::Marks;
 use refusals::Checked;
 use refusals::Refusal;
 use task_model::MOST_ENTRIES;
@@ -35,13 +39,14 @@ ghost use lib.Dec.{eqb};
 ghost use Prim.Native.Nat.{_+_, _*_, _≤_};
 ghost use Rattle.refusals.specs.Refusals.{outcome, at, _andThen_, mustHold};
 ghost use Rattle.task_model.specs.Limits.{AllHold};
-ghost use Rattle.task_model.specs.Checks.{entryCheck, entriesBy, entriesCheck};
-ghost use Rattle.node_words.specs.Words.{entrySize, entriesFrom, entriesOf};
+ghost use Rattle.task_model.specs.Checks.{entriesBy, entriesCheck, bodyBy, bodyCheck};
+ghost use Rattle.node_words.specs.Words.{entrySize, entriesFrom};
+ghost use Rattle.node_words.specs.Marks.{markCount};
 ghost use Rattle.plan_file.specs.Plan.{mostNodes, entryCount, rowOf};
 ghost use Rattle.plan_file.specs.Encoding.{headerLength, entryLength, bodiesStart};
 ghost use Rattle.plan_file.specs.Decoding.{nodeCount, offsetAt, rowsFrom, entriesAt};
-ghost use Rattle.plan_file.specs.Quick.{mostJitter, AllWithin};
-ghost use Rattle.plan_file.specs.Check.{zerosTest, countTest, rowTest, rowsCheck, opensTest, layoutCheck, nodesBy, headerCheck, writtenCheck};
+ghost use Rattle.plan_file.specs.Quick.{mostJitter, AllWithin, fileMarks};
+ghost use Rattle.plan_file.specs.Check.{zerosTest, countTest, rowTest, rowsCheck, opensTest, layoutCheck, bodiesBy, headerCheck, writtenCheck};
 
 // Whether a row's number is at least `least`, and its levels and entry count are within the limits.
 fn row_holds(least: u32, r: Row) -> bool
@@ -198,8 +203,8 @@ fn all_hold(edition: Edition, file: &[u8], start: usize, count: usize) -> bool
     }
 }
 
-// Checks the entries of one body.
-fn check_body(edition: Edition, file: &[u8], row: usize, start: usize, count: usize) -> Checked
+// Checks the entries of one body one by one, for the place of a refusal.
+fn check_each(edition: Edition, file: &[u8], row: usize, start: usize, count: usize) -> Checked
     requires { ⌜ start + count * entryLength edition ≤ length (now file) ⌝ }
     ensures { λ a. ⌜ outcome a ≡ entriesCheck row 0 (entriesAt edition (now (file .entry)) start count) ⌝ }
 {
@@ -218,44 +223,48 @@ fn check_body(edition: Edition, file: &[u8], row: usize, start: usize, count: us
     Checked::Accepted
 }
 
-// Checks the entries of every body, row by row. Only the row that fails is gone through for the place.
-fn check_by_row(edition: Edition, file: &[u8], nodes: usize) -> Checked
+// Checks one body: its entries (7, 8, 14), then their numbers (16). Only entries that fail are gone through for the place.
+fn check_body(
+    edition: Edition,
+    file: &[u8],
+    row: usize,
+    start: usize,
+    count: usize,
+    marks: &mut FileMarks,
+) -> Checked
+    requires { ⌜ (start + count * entryLength edition ≤ length (now file)) × (length (now marks) ≡ fileMarks) ⌝ }
+    ensures { λ a. ⌜ outcome a ≡ bodyCheck row (entriesAt edition (now (file .entry)) start count) ⌝ }
+    ensures { λ _. ⌜ length (now (marks .exit)) ≡ fileMarks ⌝ }
+{
+    if !all_hold(edition, file, start, count) {
+        return check_each(edition, file, row, start, count);
+    }
+    check_numbers(edition, file, row, start, count, marks)
+}
+
+// Checks every body, row by row: a row's numbers before the entries of the next row.
+pub(crate) fn check_bodies(edition: Edition, file: &[u8], nodes: usize) -> Checked
     requires { ⌜ bodiesStart nodes + entryCount (rowsFrom (now file) 0 nodes) * entryLength edition ≤ length (now file) ⌝ }
     ensures { λ a.
         ⌜ outcome a ≡
-        nodesBy entryCheck 0 (rowsFrom (now (file .entry)) 0 nodes)
+        bodiesBy bodyCheck 0 (rowsFrom (now (file .entry)) 0 nodes)
         (entriesAt edition (now (file .entry)) (bodiesStart nodes) (entryCount (rowsFrom (now (file .entry)) 0 nodes))) ⌝ }
 {
     let size = entry_bytes(edition);
+    let mut marks: FileMarks = [0u8; FILE_MARKS];
     let mut start: usize = HEADER_BYTES + nodes * ROW_BYTES;
     let mut row: usize = 0;
     while row < nodes {
         let r = row_at(file, row);
         let count = r.count as usize;
-        if !all_hold(edition, file, start, count) {
-            return check_body(edition, file, row, start, count);
-        }
+        let found = check_body(edition, file, row, start, count, &mut marks);
+        let Checked::Accepted = found else {
+            return found;
+        };
         start += count * size;
         row += 1;
     }
     Checked::Accepted
-}
-
-// Checks the entries of every body. It first tests them all as one body, because a single loop is the quickest way through
-// an accepted file. Only if that fails, it goes row by row, to find the place of the refusal.
-pub(crate) fn check_bodies(edition: Edition, file: &[u8], nodes: usize) -> Checked
-    requires { ⌜ length (now file) ≡ bodiesStart nodes + entryCount (rowsFrom (now file) 0 nodes) * entryLength edition ⌝ }
-    ensures { λ a.
-        ⌜ outcome a ≡
-        nodesBy entryCheck 0 (rowsFrom (now (file .entry)) 0 nodes)
-        (entriesAt edition (now (file .entry)) (bodiesStart nodes) (entryCount (rowsFrom (now (file .entry)) 0 nodes))) ⌝ }
-{
-    let start = HEADER_BYTES + nodes * ROW_BYTES;
-    let count = entries_in(edition, file.len() - start);
-    if all_hold(edition, file, start, count) {
-        return Checked::Accepted;
-    }
-    check_by_row(edition, file, nodes)
 }
 
 // Checks each row (4), then that `words` is the number of words of all entries that the rows count (6).
@@ -316,15 +325,15 @@ fn check_written(edition: Edition, row: usize, words: &[u32], first: usize, coun
     }
 }
 
-// Whether the first `count` entries in memory are all within the limits, with J up to `most`. The loop keeps no place of a
-// refusal, because every accepted plan goes through it.
-fn words_hold(words: &[u32], count: usize, most: u32) -> bool
-    requires { ⌜ count * entrySize ≤ length (now words) ⌝ }
-    ensures { λ a. ⌜ (a ≡ true) ↔ AllWithin most (entriesOf (now (words .entry)) count) ⌝ }
+// Whether `count` entries in memory, from entry `first` on, are all within the limits, with J up to `most`. The loop keeps no
+// place of a refusal, because every accepted plan goes through it.
+fn words_hold(words: &[u32], first: usize, count: usize, most: u32) -> bool
+    requires { ⌜ (first + count) * entrySize ≤ length (now words) ⌝ }
+    ensures { λ a. ⌜ (a ≡ true) ↔ AllWithin most (entriesFrom (now (words .entry)) first count) ⌝ }
 {
     let mut position: usize = 0;
     while position < count {
-        let e = entry_of(words, position * ENTRY_WORDS);
+        let e = entry_of(words, (first + position) * ENTRY_WORDS);
         if !entry_holds(e) {
             return false;
         }
@@ -336,31 +345,52 @@ fn words_hold(words: &[u32], count: usize, most: u32) -> bool
     true
 }
 
-// Whether the first `count` entries in memory can all be written in an edition. The first has no place for J.
-fn all_written(edition: Edition, words: &[u32], count: usize) -> bool
-    requires { ⌜ count * entrySize ≤ length (now words) ⌝ }
-    ensures { λ a. ⌜ (a ≡ true) ↔ AllWithin (mostJitter edition) (entriesOf (now (words .entry)) count) ⌝ }
+// Whether these entries can all be written in an edition. The first has no place for J.
+fn all_written(edition: Edition, words: &[u32], first: usize, count: usize) -> bool
+    requires { ⌜ (first + count) * entrySize ≤ length (now words) ⌝ }
+    ensures { λ a. ⌜ (a ≡ true) ↔ AllWithin (mostJitter edition) (entriesFrom (now (words .entry)) first count) ⌝ }
 {
     match edition {
-        Edition::First => words_hold(words, count, 0),
-        Edition::Second => words_hold(words, count, MOST_TICKS),
+        Edition::First => words_hold(words, first, count, 0),
+        Edition::Second => words_hold(words, first, count, MOST_TICKS),
     }
 }
 
-// Checks the entries of every row, row by row.
-fn check_by_node(edition: Edition, rows: &[u32], words: &[u32]) -> Checked
+// Checks one node that is to be written: its entries (7, 8, 14), then their numbers (16). Only entries that fail are gone
+// through for the place.
+fn check_node(
+    edition: Edition,
+    row: usize,
+    words: &[u32],
+    first: usize,
+    count: usize,
+    marks: &mut Marks,
+) -> Checked
+    requires { ⌜ ((first + count) * entrySize ≤ length (now words)) × (length (now marks) ≡ markCount) ⌝ }
+    ensures { λ a. ⌜ outcome a ≡ bodyBy (writtenCheck edition) row (entriesFrom (now (words .entry)) first count) ⌝ }
+    ensures { λ _. ⌜ length (now (marks .exit)) ≡ markCount ⌝ }
+{
+    if !all_written(edition, words, first, count) {
+        return check_written(edition, row, words, first, count);
+    }
+    node_words::numbers::check_numbers(row, words, first, count, marks, (row % 255 + 1) as u8)
+}
+
+// Checks every node, row by row: a row's numbers before the entries of the next row.
+pub(crate) fn check_nodes(edition: Edition, rows: &[u32], words: &[u32]) -> Checked
     requires { ⌜ entryCount (map rowOf (now rows)) * entrySize ≤ length (now words) ⌝ }
     ensures { λ a.
         ⌜ outcome a ≡
-        nodesBy (writtenCheck edition) 0 (map rowOf (now (rows .entry)))
+        bodiesBy (bodyBy (writtenCheck edition)) 0 (map rowOf (now (rows .entry)))
         (entriesFrom (now (words .entry)) 0 (entryCount (map rowOf (now (rows .entry))))) ⌝ }
 {
+    let mut marks: Marks = [0u8; MARKS];
     let mut first: usize = 0;
     let mut row: usize = 0;
     while row < rows.len() {
         let r = row_of(rows[row]);
         let count = r.count as usize;
-        let found = check_written(edition, row, words, first, count);
+        let found = check_node(edition, row, words, first, count, &mut marks);
         let Checked::Accepted = found else {
             return found;
         };
@@ -368,19 +398,4 @@ fn check_by_node(edition: Edition, rows: &[u32], words: &[u32]) -> Checked
         row += 1;
     }
     Checked::Accepted
-}
-
-// Checks the entries of every row. It first tests them all in one loop, which is the quickest way through an accepted plan.
-// Only if that fails, it goes row by row, to find the place of the refusal.
-pub(crate) fn check_nodes(edition: Edition, rows: &[u32], words: &[u32]) -> Checked
-    requires { ⌜ entryCount (map rowOf (now rows)) * entrySize ≡ length (now words) ⌝ }
-    ensures { λ a.
-        ⌜ outcome a ≡
-        nodesBy (writtenCheck edition) 0 (map rowOf (now (rows .entry)))
-        (entriesFrom (now (words .entry)) 0 (entryCount (map rowOf (now (rows .entry))))) ⌝ }
-{
-    if all_written(edition, words, words.len() / ENTRY_WORDS) {
-        return Checked::Accepted;
-    }
-    check_by_node(edition, rows, words)
 }

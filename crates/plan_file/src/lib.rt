@@ -5,6 +5,7 @@
 // are low byte first, so fields have the same widths as in the file.
 mod checks;
 pub mod editions;
+mod numbers;
 pub mod read;
 pub mod store;
 

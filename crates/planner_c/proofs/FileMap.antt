@@ -6,7 +6,7 @@ use native.Mathlib.Omega.{arith}
 use lib.ListN.{length}
 use lib.Seq.{take-length}
 use Rattle.refusals.specs.Refusals.{accepted}
-use Rattle.task_model.specs.Limits.{Node, NodeHolds}
+use Rattle.task_model.specs.Limits.{Node, NodeValid}
 use Rattle.node_words.specs.Words.{entryFrom}
 use Rattle.refusals.specs.Answers.{left}
 use Rattle.task_model.specs.Checks.{nodeCheck}
@@ -22,7 +22,7 @@ use Rattle.plan_file.specs.Decoding.{planIn, nodeCount}
 use Rattle.plan_file.specs.Check.{fileCheck, planCheck}
 use Rattle.plan_file.specs.Find.{rowIn, nodeOfRow, findCheck, nodeFound}
 use Rattle.plan_file.proofs.Contents.{length-rows}
-use Rattle.plan_file.proofs.Theorems.{write-read, accepted-exactly, plan-limits, finds, nodes-hold}
+use Rattle.plan_file.proofs.Theorems.{write-read, accepted-exactly, plan-limits, finds, nodes-valid}
 use Rattle.level_map.specs.Answer.{mapOf, heldAnswer}
 use Rattle.planner.specs.Mapping.{fileAnswer}
 use Rattle.planner.proofs.Answers.{file-found}
@@ -42,11 +42,11 @@ module _ (f : List ℕ) (a : fileCheck f ≡ accepted) (i number : ℕ) (has : i
   row-answer : (room : ℕ) → fileAnswer f number room ≡ heldAnswer (nodeOfRow (planIn f) i) room
   row-answer room = file-found f number (found .0) room ∙ ap (λ n. heldAnswer n room) (found .1)
 
-  row-holds : NodeHolds (nodeOfRow (planIn f) i)
-  row-holds = nodes-hold f a i (omega (arith, length-rows f 0 (nodeCount f)))
+  row-valid : NodeValid (nodeOfRow (planIn f) i)
+  row-valid = nodes-valid f a i (omega (arith, length-rows f 0 (nodeCount f)))
 
--- a node within the limits, with numbers of 16 bits, is a plan of one row that the writer accepts in an edition that has a
--- place for all that its entries have
+-- a node within the limits, with each number once and numbers of 16 bits, is a plan of one row that the writer accepts in an
+-- edition that has a place for all that its entries have
 module _ (ed : Edition) (n : Node) (k : Kept n) (number : ℕ) (short : number < 65536) (placed : EditionHolds ed (oneRow number n)) where
   one-fits : PlanFits (oneRow number n)
   one-fits =
@@ -54,8 +54,8 @@ module _ (ed : Edition) (n : Node) (k : Kept n) (number : ℕ) (short : number <
         rows = (
           record {
             number = short;
-            levels = omega (arith, k .holds .fewLevels);
-            count = omega (arith, k .holds .fewEntries);
+            levels = omega (arith, k .valid .within .fewLevels);
+            count = omega (arith, k .valid .within .fewEntries);
           },
           tt,
         );
@@ -66,9 +66,9 @@ module _ (ed : Edition) (n : Node) (k : Kept n) (number : ℕ) (short : number <
   unfolding nodeOfRow entryCount
   only-node = ap (λ es. record { levels = n .levels; entries = es }) (take-length (n .entries))
 
-  each-holds : (i : ℕ) → i < 1 → NodeHolds (nodeOfRow (oneRow number n) i)
-  each-holds zero h = rw only-node (k .holds)
-  each-holds (suc i) h = absurd (omega arith)
+  each-valid : (i : ℕ) → i < 1 → NodeValid (nodeOfRow (oneRow number n) i)
+  each-valid zero h = rw only-node (k .valid)
+  each-valid (suc i) h = absurd (omega arith)
 
   counted : entryCount (oneRow number n .rows) ≡ length (n .entries)
   unfolding entryCount
@@ -81,7 +81,7 @@ module _ (ed : Edition) (n : Node) (k : Kept n) (number : ℕ) (short : number <
           some = omega arith;
           few = omega arith;
           rising = λ i h. absurd (omega arith);
-          nodes = each-holds;
+          nodes = each-valid;
           counts = counted;
         },
         placed,
@@ -107,12 +107,12 @@ module _ (ed : Edition) (n : Node) (k : Kept n) (number : ℕ) (short : number <
   one-node = ap (λ (p : Plan). nodeOfRow p 0) one-plan ∙ only-node
 
 -- what words hold has numbers of 16 bits
-kept-in : (s : Session) → NodeHolds (nodeIn s) → Kept (nodeIn s)
+kept-in : (s : Session) → NodeValid (nodeIn s) → Kept (nodeIn s)
 unfolding entryFrom
 kept-in s h =
     record {
-      holds = h;
-      numbers =
+      valid = h;
+      short =
           λ j l.
           let i : j < s .count = omega (arith, length-entries (s .words) 0 (s .count)) in
           rw (entry-of (s .words) (s .count) j i) (omega arith);
@@ -123,7 +123,7 @@ kept-in s h =
 module _ (s : Session) (f : List ℕ) (a : fileCheck f ≡ accepted) (i number : ℕ) (has : i < length (planIn f .rows))
     (named : rowIn (planIn f .rows) i .number ≡ number) (same : nodeOfRow (planIn f) i ≡ nodeIn s) where
   row-checks : nodeCheck 0 (nodeIn s) ≡ accepted
-  row-checks = node-accepted 0 (nodeIn s) .1 (rw (← same) (row-holds f a i number has named))
+  row-checks = node-accepted 0 (nodeIn s) .1 (rw (← same) (row-valid f a i number has named))
 
   -- Mapping the file answers as mapping the session does.
   pub file-answers : (room : ℕ) → fileAnswer f number room ≡ mapAnswer (nodeIn s) room
@@ -142,7 +142,7 @@ module _ (s : Session) (f : List ℕ) (a : fileCheck f ≡ accepted) (i number :
 module _ (ed : Edition) (s : Session) (h : Sound s) (number : ℕ) (short : number < 65536)
     (placed : EditionHolds ed (oneRow number (nodeIn s))) where
   kept : Kept (nodeIn s)
-  kept = kept-in s (h .within)
+  kept = kept-in s (h .valid)
 
   -- The writer accepts that plan.
   pub one-row-written : planCheck ed (oneRow number (nodeIn s)) ≡ accepted

@@ -19,6 +19,7 @@ use Rattle.refusals.specs.declared.Refusal.the-variants.{
   FullList,
   Jitter,
   JitterLost,
+  Repeat,
 }
 use Rattle.refusals.specs.Refusals.{Numbered, at, numbered}
 
@@ -43,3 +44,4 @@ number-some OutsideList p = omega arith
 number-some FullList p = omega arith
 number-some (Jitter row position) p = omega arith
 number-some (JitterLost row position) p = omega arith
+number-some (Repeat row position) p = omega arith

@@ -18,6 +18,7 @@ use Rattle.refusals.specs.declared.Refusal.the-variants.{
   FullList,
   Jitter,
   JitterLost,
+  Repeat,
 }
 use Rattle.refusals.specs.declared.Numbers.{Numbers}
 use Rattle.refusals.specs.declared.Checked.{Checked}
@@ -50,6 +51,7 @@ numbered OutsideList = at 12 0 0
 numbered FullList = at 13 0 0
 numbered (Jitter row position) = at 14 row position
 numbered (JitterLost row position) = at 15 row position
+numbered (Repeat row position) = at 16 row position
 
 -- The same, from the struct that the code returns.
 abbrev pub numbersIn : Numbers → Numbered

@@ -20,6 +20,7 @@ pub enum Refusal {
     FullList,
     Jitter { row: usize, position: usize },
     JitterLost { row: usize, position: usize },
+    Repeat { row: usize, position: usize },
 }
 
 pub enum Checked {
@@ -60,6 +61,7 @@ fn look_up(r: Refusal) -> Numbers
         Refusal::FullList => numbers_at(13, 0, 0),
         Refusal::Jitter { row, position } => numbers_at(14, row, position),
         Refusal::JitterLost { row, position } => numbers_at(15, row, position),
+        Refusal::Repeat { row, position } => numbers_at(16, row, position),
     }
 }
 

@@ -1,23 +1,24 @@
 -- Laws of checks in sequence, and of the session that a call leaves after them.
 use Prim.Native.Nat.{ℕ, _≤_, _<_}
 use mathlib.Core.Path.{_≡_, _∙_, sym, ap}
-use mathlib.Core.Bool.{true, _&&_}
+use mathlib.Core.Bool.{Bool, true, false, not, _&&_}
 use mathlib.Core.List.{List}
 use native.Mathlib.Omega.{arith}
 use lib.ListN.{length}
 use lib.Dec.{leb, ltb}
-use borrow.Author.Tests.{le-leb, lt-leb, lt-ltb, le-ltb, leb-true, ltb-true}
+use borrow.Author.Tests.{le-leb, lt-leb, lt-ltb, le-ltb, leb-true, ltb-true, not-true}
 use Rattle.task_model.specs.declared.Entry.{Entry}
 use Rattle.refusals.specs.declared.Refusal.{Refusal}
 use Rattle.refusals.specs.declared.Checked.{Checked}
 use Rattle.refusals.specs.declared.Checked.the-variants.{Accepted, Refused}
-use Rattle.refusals.specs.Refusals.{Numbered, Outcome, at, accepted, refused, outcome, _andThen_}
-use Rattle.task_model.specs.Limits.{mostLevels, mostEntries, Node, AllHold}
-use Rattle.task_model.specs.Checks.{entryCheck, nodeCheck}
+use Rattle.refusals.specs.Refusals.{Numbered, Outcome, at, accepted, refused, outcome, _andThen_, mustHold}
+use Rattle.task_model.specs.Limits.{mostLevels, mostEntries, Node, EntryHolds, AllHold}
+use Rattle.task_model.specs.Checks.{entryCheck, hasNumber, nodeCheck}
 use Rattle.node_words.specs.Words.{nodeOf}
+use Rattle.node_words.specs.Lists.{removeAt}
 use Rattle.task_model.proofs.Tests.{and-true, decided}
 use Rattle.node_words.proofs.Entries.{length-entries}
-use Rattle.task_model.proofs.Theorems.{node-accepted}
+use Rattle.task_model.proofs.Theorems.{entry-accepted, node-accepted}
 use Rattle.completion.specs.Group.{groupLevel}
 use Rattle.completion.specs.Test.{completionTest}
 use Rattle.refusals.proofs.Outcomes.{then-refused, then-accepted, then-assoc, both-accepted, mustHold-refuses, demanded}
@@ -34,6 +35,7 @@ use Rattle.session.specs.Operations.{
   settingLevels,
   timing,
   levelsCheck,
+  othersCheck,
   changeCheckBy,
   queryCheckBy,
   operationCheck,
@@ -88,6 +90,37 @@ module _ (o : Operation) (n : Node) (lent : Checked) (p : outcome lent ≡ lentC
   pub lent-accepted : lent ≡ Accepted → {own : Outcome} → own ≡ operationCheck o n → own ≡ stepCheck o n
   lent-accepted e h = h ∙ sym (lent-goes-on o n (sym p ∙ ap outcome e))
 
+-- a new entry among others: its fields, and then its number
+module _ (p : ℕ) (e : Entry) (others : List Entry) where
+  abbrev pub newCheck : Outcome
+  newCheck = entryCheck 0 p e andThen othersCheck p e others
+
+  pub others-free : hasNumber (e .number) others ≡ false → othersCheck p e others ≡ accepted
+  unfolding othersCheck
+  others-free q = rw q
+
+  pub others-new : othersCheck p e others ≡ accepted → hasNumber (e .number) others ≡ false
+  unfolding othersCheck
+  others-new a = not-true _ (demanded _ _ a)
+
+  pub new-taken : entryCheck 0 p e ≡ accepted → hasNumber (e .number) others ≡ true → newCheck ≡ refused (at 16 0 p)
+  unfolding othersCheck
+  new-taken a q = rw (a, q)
+
+  pub new-accepted : newCheck ≡ accepted → EntryHolds e × (hasNumber (e .number) others ≡ false)
+  new-accepted a = let q = both-accepted _ _ a in (entry-accepted 0 p e .0 (q .0), others-new (q .1))
+
+  -- the same, of what the check of the fields answered, and then that of the number, with whether the others have it
+  module _ (fields : Checked) (q : outcome fields ≡ entryCheck 0 p e) where
+    pub fields-refused : {r : Refusal} → fields ≡ Refused r → outcome fields ≡ newCheck
+    fields-refused f = ap outcome f ∙ sym (then-refused _ _ _ (sym q ∙ ap outcome f))
+
+    pub fields-accepted : fields ≡ Accepted → {o : Outcome} (taken : Bool) → o ≡ mustHold (not taken) (at 16 0 p)
+        → taken ≡ hasNumber (e .number) others → o ≡ newCheck
+    unfolding othersCheck
+    fields-accepted f taken t b =
+        t ∙ ap (λ (x : Bool). mustHold (not x) (at 16 0 p)) b ∙ sym (then-accepted _ _ (sym q ∙ ap outcome f))
+
 -- each operation's checks
 module _ (n : Node) (p : ℕ) where
   module _ (e : Entry) where
@@ -100,24 +133,34 @@ module _ (n : Node) (p : ℕ) where
     insert-full h l = rw (le-leb p (length (n .entries)) h, le-ltb (length (n .entries)) mostEntries l)
 
     pub insert-entry : p ≤ length (n .entries) → length (n .entries) < mostEntries
-        → operationCheck (changing (inserting p e)) n ≡ entryCheck 0 p e
+        → operationCheck (changing (inserting p e)) n ≡ newCheck p e (n .entries)
     unfolding operationCheckBy changeCheckBy queryCheckBy
     insert-entry h l = rw (le-leb p (length (n .entries)) h, lt-ltb (length (n .entries)) mostEntries l)
 
     pub insert-accepted : operationCheck (changing (inserting p e)) n ≡ accepted
-        → (p ≤ length (n .entries)) × (length (n .entries) < mostEntries) × (entryCheck 0 p e ≡ accepted)
+        → (p ≤ length (n .entries)) × (length (n .entries) < mostEntries) × EntryHolds e × (hasNumber (e .number) (n .entries) ≡ false)
     unfolding operationCheckBy changeCheckBy queryCheckBy
     insert-accepted a =
         let q = both-accepted _ _ a in
         let t = both-accepted _ _ (q .1) in
-        (leb-true _ _ (demanded _ _ (q .0)), ltb-true _ _ (demanded _ _ (t .0)), t .1)
+        let m = new-accepted p e (n .entries) (t .1) in
+        (leb-true _ _ (demanded _ _ (q .0)), ltb-true _ _ (demanded _ _ (t .0)), m .0, m .1)
 
-    pub replace-accepted : operationCheck (changing (replacing p e)) n ≡ accepted → (p < length (n .entries)) × (entryCheck 0 p e ≡ accepted)
+    pub replace-entry : p < length (n .entries) → operationCheck (changing (replacing p e)) n ≡ newCheck p e (removeAt p (n .entries))
     unfolding operationCheckBy changeCheckBy queryCheckBy
-    replace-accepted a = let q = both-accepted _ _ a in (ltb-true _ _ (demanded _ _ (q .0)), q .1)
+    replace-entry h = rw (lt-ltb p (length (n .entries)) h)
+
+    pub replace-accepted : operationCheck (changing (replacing p e)) n ≡ accepted
+        → (p < length (n .entries)) × EntryHolds e × (hasNumber (e .number) (removeAt p (n .entries)) ≡ false)
+    unfolding operationCheckBy changeCheckBy queryCheckBy
+    replace-accepted a =
+        let q = both-accepted _ _ a in
+        let m = new-accepted p e (removeAt p (n .entries)) (q .1) in
+        (ltb-true _ _ (demanded _ _ (q .0)), m .0, m .1)
 
     -- replacing checks what removing does, and then the entry
-    pub replace-step : stepCheck (changing (replacing p e)) n ≡ (stepCheck (changing (removing p)) n andThen entryCheck 0 p e)
+    pub replace-step : stepCheck (changing (replacing p e)) n
+        ≡ (stepCheck (changing (removing p)) n andThen newCheck p e (removeAt p (n .entries)))
     unfolding stepCheckBy lentCheckBy operationCheckBy changeCheckBy
     replace-step = sym (then-assoc (nodeCheck 0 n) _ _)
 
@@ -191,7 +234,7 @@ module _ (ws : List ℕ) (count levels : ℕ) where
   sized = length-entries ws 0 count
 
   few : nodeCheck 0 n ≡ accepted → count ≤ mostEntries
-  few p = omega (arith, node-accepted 0 n .0 p .fewEntries, sized)
+  few p = omega (arith, node-accepted 0 n .0 p .within .fewEntries, sized)
 
   pub change-ready : (c : Change) → stepCheck (changing c) n ≡ accepted → Ready c count
   unfolding lentCheckBy
@@ -208,4 +251,4 @@ module _ (ws : List ℕ) (count levels : ℕ) where
   time-ready first last i a =
       let q = step-accepted (asking (timing first last i)) n a in
       let t = time-accepted n first last i (q .1) in
-      (node-accepted 0 n .0 (q .0) .each, (t .0, t .1, omega (arith, sized), few (q .0)))
+      (node-accepted 0 n .0 (q .0) .within .each, (t .0, t .1, omega (arith, sized), few (q .0)))

@@ -30,7 +30,7 @@ module _ (n : Node) where
 
   pub own-best : nodeCheck 0 n ≡ accepted → (buffer : List ℕ)
       → NodeBestMapOrNone n buffer (mapAnswer n (length buffer)) (left (mapAnswer n (length buffer)) (mapOf n) buffer)
-  own-best p buffer = rw (own-answer p (length buffer)) (best-map-or-none n (node-accepted 0 n .0 p .each) buffer)
+  own-best p buffer = rw (own-answer p (length buffer)) (best-map-or-none n (node-accepted 0 n .0 p .within .each) buffer)
 
   -- a session that may not be lent is refused, and the buffer kept; one that may is mapped as a node at hand
   pub maps-forged : (r : Refusal) → nodeCheck 0 n ≡ refused (numbered r) → (buffer : List ℕ) → Maps n buffer (Refused r) buffer

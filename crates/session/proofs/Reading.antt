@@ -6,16 +6,16 @@ use mathlib.Core.List.{List, [], _∷_}
 use native.Mathlib.Omega.{arith}
 use lib.ListN.{length}
 use Rattle.task_model.specs.declared.Entry.{Entry}
-use Rattle.task_model.specs.Limits.{Node, entryAt, EntryHolds, NodeHolds}
+use Rattle.task_model.specs.Limits.{Node, entryAt, EntryHolds, NodeValid}
 use Rattle.node_words.specs.Words.{EntryFits, EntriesFit}
 use Rattle.node_words.proofs.Words.{read-entries}
 use Rattle.session.specs.State.{nodeIn, sessionOf}
 use Rattle.node_words.specs.Lists.{zeroPadded}
 
--- a node within the limits, with numbers of 16 bits
+-- a node within the limits, with each entry number once, and numbers of 16 bits
 pub record Kept (n : Node) : Type 0 where
-  pub holds : NodeHolds n
-  pub numbers : (j : ℕ) → j < length (n .entries) → entryAt (n .entries) j .number < 65536
+  pub valid : NodeValid n
+  pub short : (j : ℕ) → j < length (n .entries) → entryAt (n .entries) j .number < 65536
 
 pub fits : (e : Entry) → EntryHolds e → e .number < 65536 → EntryFits e
 fits e h l =
@@ -36,7 +36,7 @@ all-fit (e ∷ es) f = (f 0 (omega arith), all-fit es (λ j h. f (suc j) (omega 
 
 module _ (n : Node) (k : Kept n) where
   pub kept-fit : EntriesFit (n .entries)
-  kept-fit = all-fit (n .entries) (λ j h. fits _ (k .holds .each j h) (k .numbers j h))
+  kept-fit = all-fit (n .entries) (λ j h. fits _ (k .valid .within .each j h) (k .short j h))
 
   pub read-back : nodeIn (sessionOf n) ≡ n
   unfolding sessionOf zeroPadded

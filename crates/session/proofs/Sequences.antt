@@ -7,9 +7,9 @@ use native.Mathlib.Omega.{arith}
 use lib.ListN.{length}
 use Rattle.task_model.specs.declared.Entry.{Entry}
 use Rattle.refusals.specs.Refusals.{Numbered, accepted, refused}
-use Rattle.task_model.specs.Limits.{mostLevels, mostEntries, Node, EntryHolds, NodeHolds}
+use Rattle.task_model.specs.Limits.{mostLevels, mostEntries, Node, EntryHolds, NumbersDiffer, NodeValid}
 use Rattle.refusals.proofs.Outcomes.{either}
-use Rattle.task_model.proofs.Theorems.{entry-accepted, node-accepted}
+use Rattle.task_model.proofs.Theorems.{node-accepted}
 use Rattle.session.specs.State.{nodeIn, sessionOf}
 use Rattle.session.specs.Operations.{
   Change,
@@ -43,6 +43,7 @@ use Rattle.session.specs.Operations.{
 use Rattle.session.specs.Steps.{sessionMade, sessionAfter, sessionAfterAll, answersOf}
 use Rattle.node_words.proofs.Lists.{size-inserted, size-removed, size-replaced, Each, each-of, of-each, each-inserted, each-removed, each-replaced}
 use Rattle.session.proofs.Reading.{Kept, read-back}
+use Rattle.session.proofs.Numbers.{differ-inserted, differ-removed, differ-replaced}
 use Rattle.session.proofs.Checking.{lent-goes-on, levels-accepted, insert-accepted, remove-accepted, replace-accepted, after-refused, after-accepted}
 
 -- within the limits, with a number of 16 bits
@@ -52,44 +53,73 @@ Good e = EntryHolds e × (e .number < 65536)
 pub kept-empty : (levels : ℕ) → 1 ≤ levels → levels ≤ mostLevels → Kept (emptyNode levels)
 kept-empty levels l h =
     record {
-      holds = record { someLevels = l; fewLevels = h; fewEntries = omega arith; each = λ j h. absurd (omega arith) };
-      numbers = λ j h. absurd (omega arith);
+      valid =
+          record {
+            within = record { someLevels = l; fewLevels = h; fewEntries = omega arith; each = λ j h. absurd (omega arith) };
+            numbers = λ j h. absurd (omega arith);
+          };
+      short = λ j h. absurd (omega arith);
     }
 
 -- a list of entries in the place of another
-kept-with : (n : Node) (es : List Entry) → Kept n → length es ≤ mostEntries → Each Good es → Kept (record { levels = n .levels; entries = es })
-kept-with n es k few good =
+kept-with : (n : Node) (es : List Entry) → Kept n → length es ≤ mostEntries → Each Good es → NumbersDiffer es
+    → Kept (record { levels = n .levels; entries = es })
+kept-with n es k few good differ =
+    let w = k .valid .within in
     record {
-      holds =
+      valid =
           record {
-            someLevels = k .holds .someLevels;
-            fewLevels = k .holds .fewLevels;
-            fewEntries = few;
-            each = λ j h. of-each Good es good j h .0;
+            within =
+                record {
+                  someLevels = w .someLevels;
+                  fewLevels = w .fewLevels;
+                  fewEntries = few;
+                  each = λ j h. of-each Good es good j h .0;
+                };
+            numbers = differ;
           };
-      numbers = λ j h. of-each Good es good j h .1;
+      short = λ j h. of-each Good es good j h .1;
     }
 
 module _ (n : Node) (k : Kept n) where
   all : Each Good (n .entries)
-  all = each-of Good (n .entries) (λ j h. (k .holds .each j h, k .numbers j h))
+  all = each-of Good (n .entries) (λ j h. (k .valid .within .each j h, k .short j h))
 
-  -- an accepted change keeps a node within the limits, and so does any accepted operation
+  few : length (n .entries) ≤ mostEntries
+  few = k .valid .within .fewEntries
+
+  differ : NumbersDiffer (n .entries)
+  differ = k .valid .numbers
+
+  -- an accepted change keeps a node within the limits and its numbers different, and so does any accepted operation
   kept-changed : (c : Change) → CallableChange c → operationCheck (changing c) n ≡ accepted → Kept (changed c n)
   unfolding changed operationCheckBy changeCheckBy
   kept-changed (inserting p e) c a =
       let h = insert-accepted n p e a in
-      kept-with n _ k (omega (arith, size-inserted (n .entries) e p (h .0))) (each-inserted Good p e (n .entries) (entry-accepted 0 p e .0 (h .2), c) all)
+      kept-with n _ k
+      (omega (arith, size-inserted (n .entries) e p (h .0)))
+      (each-inserted Good p e (n .entries) (h .2, c) all)
+      (differ-inserted p e (n .entries) differ (h .3))
   kept-changed (removing p) c a =
-      kept-with n _ k (omega (arith, size-removed (n .entries) p (remove-accepted n p a), k .holds .fewEntries)) (each-removed Good p (n .entries) all)
+      kept-with n _ k
+      (omega (arith, size-removed (n .entries) p (remove-accepted n p a), few))
+      (each-removed Good p (n .entries) all)
+      (differ-removed p (n .entries) differ)
   kept-changed (replacing p e) c a =
       let h = replace-accepted n p e a in
-      kept-with n _ k (omega (arith, size-replaced (n .entries) e p (h .0), k .holds .fewEntries)) (each-replaced Good p e (n .entries) (entry-accepted 0 p e .0 (h .1), c) all)
+      kept-with n _ k
+      (omega (arith, size-replaced (n .entries) e p (h .0), few))
+      (each-replaced Good p e (n .entries) (h .1, c) all)
+      (differ-replaced p e (n .entries) differ (h .2))
   kept-changed (settingLevels levels) c a =
       let h = levels-accepted levels a in
       record {
-        holds = record { someLevels = h .0; fewLevels = h .1; fewEntries = k .holds .fewEntries; each = k .holds .each };
-        numbers = k .numbers;
+        valid =
+            record {
+              within = record { someLevels = h .0; fewLevels = h .1; fewEntries = few; each = k .valid .within .each };
+              numbers = differ;
+            };
+        short = k .short;
       }
 
   pub kept-made : (o : Operation) → Callable o → operationCheck o n ≡ accepted → Kept (made o n)
@@ -107,14 +137,14 @@ module _ (o : Operation) (n : Node) where
   unfolding nodeAfterBy
   node-kept r p = rw (p, nodeAfterBy)
 
--- what a session that is lent holds is within the limits, so that its own checks decide
-pub lent-within : (o : Operation) (n : Node) → NodeHolds n → lentCheck o n ≡ accepted
+-- what a session that is lent holds passes the checks of a node, so that its own checks decide
+pub lent-within : (o : Operation) (n : Node) → NodeValid n → lentCheck o n ≡ accepted
 unfolding lentCheckBy
 lent-within (opening levels) n h = refl
 lent-within (changing c) n h = node-accepted 0 n .1 h
 lent-within (asking q) n h = node-accepted 0 n .1 h
 
-pub own-checks : (o : Operation) (n : Node) → NodeHolds n → stepCheck o n ≡ operationCheck o n
+pub own-checks : (o : Operation) (n : Node) → NodeValid n → stepCheck o n ≡ operationCheck o n
 own-checks o n h = lent-goes-on o n (lent-within o n h)
 
 -- what an operation makes of the session of a node is the session of what it makes of the node
@@ -126,7 +156,7 @@ made-session (asking q) n k = refl
 -- one step
 module _ (o : Operation) (n : Node) (k : Kept n) where
   answer : stepCheck o (nodeIn (sessionOf n)) ≡ operationCheck o n
-  answer = ap (stepCheck o) (read-back n k) ∙ own-checks o n (k .holds)
+  answer = ap (stepCheck o) (read-back n k) ∙ own-checks o n (k .valid)
 
   step-session : sessionAfter o (sessionOf n) ≡ sessionOf (nodeAfter o n)
   step-session =

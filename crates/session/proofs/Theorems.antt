@@ -1,13 +1,13 @@
 -- The theorems of the session.
 use Prim.Native.Nat.{ℕ, _≤_, _<_}
-use mathlib.Core.Path.{_≡_, _∙_, refl, sym, ap}
+use mathlib.Core.Path.{_≡_, _∙_, refl, sym, ap, subst}
 use mathlib.Core.Logic.{⊎-elim, _↔_}
 use mathlib.Core.List.{List, _∷_}
 use native.Mathlib.Omega.{arith}
 use lib.ListN.{length}
 use Rattle.task_model.specs.declared.Entry.{Entry}
 use Rattle.refusals.specs.Refusals.{Numbered, at, accepted, refused}
-use Rattle.task_model.specs.Limits.{mostLevels, Node, entryAt}
+use Rattle.task_model.specs.Limits.{mostLevels, Node, entryAt, NumbersDiffer}
 use Rattle.task_model.specs.Checks.{nodeCheck}
 use Rattle.task_model.proofs.Laws.{node-sizes}
 use Rattle.node_words.proofs.Entries.{length-entries}
@@ -99,13 +99,17 @@ module _ (levels : ℕ) (some : 1 ≤ levels) (few : levels ≤ mostLevels) (os 
   pub made-sound : Sound (sessionAfterAll (opening levels ∷ os) s)
   made-sound =
       record {
-        within = rw contents-follow (rows-kept os (emptyNode levels) opened-kept call .holds);
+        valid = rw contents-follow (rows-kept os (emptyNode levels) opened-kept call .valid);
         determined = session-follows ∙ ap sessionOf (sym contents-follow);
       }
 
+  -- So they never hold an entry number twice.
+  pub session-numbers : NumbersDiffer (nodeIn (sessionAfterAll (opening levels ∷ os) s) .entries)
+  session-numbers = made-sound .valid .numbers
+
 -- On a sound session an operation's own checks hold exactly.
 pub sound-checks : (o : Operation) (s : Session) → Sound s → stepCheck o (nodeIn s) ≡ operationCheck o (nodeIn s)
-sound-checks o s h = own-checks o (nodeIn s) (h .within)
+sound-checks o s h = own-checks o (nodeIn s) (h .valid)
 
 -- A sound session is determined by its level count and its list of entries.
 pub sound-same : (s t : Session) → Sound s → Sound t → nodeIn s ≡ nodeIn t → s ≡ t
@@ -182,7 +186,7 @@ map-refusal s room r = ((λ p. rw p), λ p. giving-refuses (stepCheck (asking (m
 -- Mapping a sound session checks 10, then 11, and answers and writes as mapping a node at hand does.
 module _ (s : Session) (h : Sound s) where
   within-checks : nodeCheck 0 (nodeIn s) ≡ accepted
-  within-checks = node-accepted 0 (nodeIn s) .1 (h .within)
+  within-checks = node-accepted 0 (nodeIn s) .1 (h .valid)
 
   pub map-answers : (room : ℕ) → mapAnswer (nodeIn s) room ≡ heldAnswer (nodeIn s) room
   map-answers = own-answer (nodeIn s) within-checks
@@ -225,3 +229,10 @@ words-asked q w h =
 -- After any row of operations the words hold the session after that row, so what is said of sessions above holds of them.
 pub words-follow : (os : List Operation) (w : List ℕ) → sessionIn (wordsAfterAll os w) ≡ sessionAfterAll os (sessionIn w)
 words-follow os w = rows-words os w
+
+-- So do the words that a caller in C lends: after the opening and any row of operations they hold no entry number twice.
+pub words-numbers : (levels : ℕ) → 1 ≤ levels → levels ≤ mostLevels → (os : List Operation) → AllCallable os → (w : List ℕ)
+    → NumbersDiffer (nodeIn (sessionIn (wordsAfterAll (opening levels ∷ os) w)) .entries)
+words-numbers levels some few os call w =
+    subst (λ t. NumbersDiffer (nodeIn t .entries)) (sym (words-follow (opening levels ∷ os) w))
+    (session-numbers levels some few os call (sessionIn w))

@@ -32,6 +32,7 @@ use Rattle.session.specs.Operations.{
   opening,
   changing,
   asking,
+  othersCheck,
   changeCheckBy,
   queryCheckBy,
   operationCheck,
@@ -69,11 +70,17 @@ module _ (n : Node) where
       (λ o.
       mustHold (leb position (length (n .entries))) (at 12 0 0)
       andThen mustHold (ltb (length (n .entries)) mostEntries) (at 13 0 0)
-      andThen o)
+      andThen o
+      andThen othersCheck position e (n .entries))
       (entry-punctual e z 0 position)
   change-punctual (removing position) z = refl
   change-punctual (replacing position e) z =
-      ap (λ o. mustHold (ltb position (length (n .entries))) (at 12 0 0) andThen o) (entry-punctual e z 0 position)
+      ap
+      (λ o.
+      mustHold (ltb position (length (n .entries))) (at 12 0 0)
+      andThen o
+      andThen othersCheck position e (removeAt position (n .entries)))
+      (entry-punctual e z 0 position)
   change-punctual (settingLevels levels) z = refl
 
   module _ (punctual : Punctual (n .entries)) where

@@ -6,3 +6,4 @@ pub mod Timing
 pub mod Mapping
 pub mod InWords
 pub mod WithoutJitter
+pub mod WithoutNumbers

@@ -21,8 +21,8 @@ abbrev pub mapAnswer : Node → ℕ → Answer ℕ
 mapAnswer n room = mapAnswerBy rules n room
 
 -- Mapping n into a buffer answers a and leaves the buffer as `after`. It writes the map from the buffer's start, one byte
--- per entry, and keeps the bytes beyond; a refusal leaves the buffer untouched. If n is within the limits and fits the
--- buffer, promise 3 of docs/SPEC.md holds: the answer is 11 exactly if no assignment passes, and otherwise the map is the
+-- per entry, and keeps the bytes beyond; a refusal leaves the buffer untouched. If n passes the checks of a node and fits
+-- the buffer, promise 3 of docs/SPEC.md holds: the answer is 11 exactly if no assignment passes, and otherwise the map is the
 -- best.
 pub record Maps (n : Node) (buffer : List ℕ) (a : MappedNode) (after : List ℕ) : Type 0 where
   pub answers : answer a ≡ mapAnswer n (length buffer)

@@ -1,7 +1,7 @@
 -- The operations of a session (docs/SPEC.md, 'The session'), as functions of the level count and the list of entries: the
 -- checks of each operation, in their order, and the node after it.
 use Prim.Native.Nat.{ℕ, _<_}
-use mathlib.Core.Bool.{_&&_}
+use mathlib.Core.Bool.{not, _&&_}
 use mathlib.Core.List.{List, [], _∷_}
 use lib.ListN.{length}
 use lib.Dec.{leb, ltb}
@@ -9,7 +9,7 @@ use Rattle.task_model.specs.declared.Entry.{Entry}
 use Rattle.refusals.specs.Refusals.{at, Outcome, accepted, refused, _andThen_, mustHold}
 use Rattle.task_model.specs.Limits.{mostLevels, mostEntries, Node}
 use Rattle.node_words.specs.Lists.{insertAt, removeAt, replaceAt}
-use Rattle.task_model.specs.Checks.{entryCheck, nodeCheckBy}
+use Rattle.task_model.specs.Checks.{entryCheck, hasNumber, nodeCheckBy}
 use Rattle.completion.specs.Test.{completionTest}
 use Rattle.level_map.specs.Assignments.{EntryTest}
 use Rattle.level_map.specs.Answer.{heldCheckUnder}
@@ -67,16 +67,24 @@ pub record Rules : Type 0 where
 abbrev pub rules : Rules
 rules = record { check = entryCheck; test = completionTest }
 
--- The checks of a change of a node, in their order. Insert: 12, 13, then the entry. Remove: 12. Replace: 12, then the entry.
+-- The number of a new entry at a position: 16 if one of the other entries has it.
+unfoldable pub othersCheck : ℕ → Entry → List Entry → Outcome
+othersCheck position e others = mustHold (not (hasNumber (e .number) others)) (at 16 0 position)
+
+-- The checks of a change of a node, in their order. Insert: 12, 13, then the entry's fields, then its number (16). Remove: 12.
+-- Replace: 12, then the entry's fields, then its number (16); the entry that goes does not count, so its number may be kept.
 -- Setting levels: 4.
 unfoldable pub changeCheckBy : Rules → Change → Node → Outcome
 changeCheckBy by (inserting position e) n =
     mustHold (leb position (length (n .entries))) (at 12 0 0)
     andThen mustHold (ltb (length (n .entries)) mostEntries) (at 13 0 0)
     andThen by .check 0 position e
+    andThen othersCheck position e (n .entries)
 changeCheckBy by (removing position) n = mustHold (ltb position (length (n .entries))) (at 12 0 0)
 changeCheckBy by (replacing position e) n =
-    mustHold (ltb position (length (n .entries))) (at 12 0 0) andThen by .check 0 position e
+    mustHold (ltb position (length (n .entries))) (at 12 0 0)
+    andThen by .check 0 position e
+    andThen othersCheck position e (removeAt position (n .entries))
 changeCheckBy by (settingLevels levels) n = levelsCheck levels
 
 -- The checks of a query. Mapping: 10, 11. Timing: 12.
@@ -143,8 +151,8 @@ abbrev pub answersAll : List Operation → Node → List Outcome
 answersAll os n = answersAllBy rules os n
 
 -- The checks of the session that is lent. A caller can lend memory that no operation made, so every operation but opening
--- first checks it like a node of a file: 4, then each entry, with its position. A session that was opened and then changed
--- by operations always passes.
+-- first checks it like a node of a file: 4, then each entry, with its position, then the entries' numbers (16). A session that
+-- was opened and then changed by operations always passes.
 unfoldable pub lentCheckBy : Rules → Operation → Node → Outcome
 lentCheckBy by (opening levels) n = accepted
 lentCheckBy by (changing c) n = nodeCheckBy (by .check) 0 n

@@ -1,4 +1,5 @@
--- The rules of a session before entries had a jitter, and operations with entries whose J is 0.
+-- The rules of a session before entries had a jitter, and operations with entries whose J is 0. Entry numbers are checked
+-- under these rules too; specs/WithoutNumbers has the checks without that.
 use Prim.Native.Nat.{ℕ}
 use mathlib.Core.Path.{_≡_}
 use mathlib.Core.List.{List, [], _∷_}

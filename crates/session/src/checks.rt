@@ -1,7 +1,8 @@
 // The checks of each operation, in their order; numbers in parentheses are the refusals. A session is given by its level
 // count, its entry count and the words of its entries. It is checked first, like a node of a file: 4, then 7, 8 and 14 with the
-// entry's position.
+// entry's position, then 16.
 use node_words::check_words;
+use node_words::numbers::has_number;
 use refusals::Checked;
 use refusals::Refusal;
 use task_model::Entry;
@@ -9,10 +10,13 @@ use task_model::MOST_ENTRIES;
 use task_model::MOST_LEVELS;
 use task_model::check_entry;
 ghost use mathlib.Core.Path.{_≡_};
-ghost use Prim.Native.Nat.{_≤_};
+ghost use mathlib.Core.Bool.{not};
+ghost use Prim.Native.Nat.{_*_, _≤_, _<_};
 ghost use lib.ListN.{length};
-ghost use Rattle.refusals.specs.Refusals.{outcome};
-ghost use Rattle.node_words.specs.Words.{nodeSize, nodeOf};
+ghost use Rattle.refusals.specs.Refusals.{at, outcome, mustHold};
+ghost use Rattle.task_model.specs.Checks.{hasNumber};
+ghost use Rattle.node_words.specs.Words.{entrySize, nodeSize, entriesOf, nodeOf};
+ghost use Rattle.node_words.specs.Lists.{removeAt};
 ghost use Rattle.session.specs.Operations.{changing, asking, inserting, removing, replacing, settingLevels, timing, levelsCheck, stepCheck};
 
 // Checks that there are 1 to 64 levels (4).
@@ -28,8 +32,18 @@ pub fn check_levels(levels: u8) -> Checked
     Checked::Accepted
 }
 
-// Checks that the position is at most the entry count (12), that the list is not full (13), and that the entry is within
-// the limits (7, 8, 14).
+// Checks that the number of an entry at a position is not taken (16).
+fn check_number(position: usize, taken: bool) -> Checked
+    ensures { λ a. ⌜ outcome a ≡ mustHold (not taken) (at 16 0 position) ⌝ }
+{
+    if taken {
+        return Checked::Refused(Refusal::Repeat { row: 0, position });
+    }
+    Checked::Accepted
+}
+
+// Checks that the position is at most the entry count (12), that the list is not full (13), that the entry is within the
+// limits (7, 8, 14), and that no other has its number (16).
 pub fn check_insert(levels: u32, count: usize, words: &[u32], position: usize, e: Entry) -> Checked
     requires { ⌜ nodeSize ≤ length (now words) ⌝ }
     ensures { λ a. ⌜ outcome a ≡ stepCheck (changing (inserting position e)) (nodeOf (now (words .entry)) count levels) ⌝ }
@@ -44,7 +58,11 @@ pub fn check_insert(levels: u32, count: usize, words: &[u32], position: usize, e
     if MOST_ENTRIES <= count {
         return Checked::Refused(Refusal::FullList);
     }
-    check_entry(0, position, e)
+    let fields = check_entry(0, position, e);
+    let Checked::Accepted = fields else {
+        return fields;
+    };
+    check_number(position, has_number(words, 0, count, e.number))
 }
 
 // Checks that there is an entry at the position (12).
@@ -62,7 +80,19 @@ pub fn check_remove(levels: u32, count: usize, words: &[u32], position: usize) -
     Checked::Accepted
 }
 
-// Checks that there is an entry at the position (12), and that the new entry is within the limits (7, 8, 14).
+// Whether an entry at another position than this one has this number.
+fn other_has_number(words: &[u32], count: usize, position: usize, number: u16) -> bool
+    requires { ⌜ (position < count) × (count * entrySize ≤ length (now words)) ⌝ }
+    ensures { λ a. ⌜ a ≡ hasNumber number (removeAt position (entriesOf (now (words .entry)) count)) ⌝ }
+{
+    if has_number(words, 0, position, number) {
+        return true;
+    }
+    has_number(words, position + 1, count - 1 - position, number)
+}
+
+// Checks that there is an entry at the position (12), that the new entry is within the limits (7, 8, 14), and that no other
+// has its number (16). The entry that goes does not count.
 pub fn check_replace(levels: u32, count: usize, words: &[u32], position: usize, e: Entry) -> Checked
     requires { ⌜ nodeSize ≤ length (now words) ⌝ }
     ensures { λ a. ⌜ outcome a ≡ stepCheck (changing (replacing position e)) (nodeOf (now (words .entry)) count levels) ⌝ }
@@ -71,7 +101,11 @@ pub fn check_replace(levels: u32, count: usize, words: &[u32], position: usize, 
     let Checked::Accepted = found else {
         return found;
     };
-    check_entry(0, position, e)
+    let fields = check_entry(0, position, e);
+    let Checked::Accepted = fields else {
+        return fields;
+    };
+    check_number(position, other_has_number(words, count, position, e.number))
 }
 
 // Checks that the new count of levels is 1 to 64 (4).

@@ -46,7 +46,7 @@ pub fn set_levels(words: &mut [u32], levels: u8) -> Checked
     answer
 }
 
-// Inserts an entry before a position, or just after the last entry (12, 13, 7, 8, 14).
+// Inserts an entry before a position, or just after the last entry (12, 13, 7, 8, 14, 16).
 pub fn insert(words: &mut [u32], position: usize, e: Entry) -> Checked
     requires { ⌜ length (now words) ≡ sessionSize ⌝ }
     ensures { λ a. ⌜ FollowsIn (changing (inserting position e)) (now (words .entry)) a (now (words .exit)) ⌝ }
@@ -76,7 +76,7 @@ pub fn remove(words: &mut [u32], position: usize) -> Checked
     answer
 }
 
-// Replaces the entry at a position (12, 7, 8, 14).
+// Replaces the entry at a position (12, 7, 8, 14, 16).
 pub fn replace(words: &mut [u32], position: usize, e: Entry) -> Checked
     requires { ⌜ length (now words) ≡ sessionSize ⌝ }
     ensures { λ a. ⌜ FollowsIn (changing (replacing position e)) (now (words .entry)) a (now (words .exit)) ⌝ }

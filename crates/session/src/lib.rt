@@ -150,7 +150,7 @@ pub fn set_levels(s: &mut Session, levels: u8) -> Checked
     c.answer
 }
 
-// Inserts an entry before a position, or just after the last entry (12, 13, 7, 8, 14).
+// Inserts an entry before a position, or just after the last entry (12, 13, 7, 8, 14, 16).
 pub fn insert(s: &mut Session, position: usize, e: Entry) -> Checked
     ensures { λ a. ⌜ Follows (changing (inserting position e)) (now (s .entry)) a (now (s .exit)) ⌝ }
 {
@@ -168,7 +168,7 @@ pub fn remove(s: &mut Session, position: usize) -> Checked
     c.answer
 }
 
-// Replaces the entry at a position (12, 7, 8, 14).
+// Replaces the entry at a position (12, 7, 8, 14, 16).
 pub fn replace(s: &mut Session, position: usize, e: Entry) -> Checked
     ensures { λ a. ⌜ Follows (changing (replacing position e)) (now (s .entry)) a (now (s .exit)) ⌝ }
 {

@@ -11,8 +11,9 @@ use borrow.Author.Tests.{leb-true, leb-false, ltb-true, ltb-false, le-leb, lt-le
 use Rattle.task_model.proofs.Tests.{and-true, true-or-false, decided}
 use Rattle.task_model.specs.declared.Entry.{Entry}
 use Rattle.refusals.specs.Refusals.{Numbered, at, Outcome, accepted, refused}
+use Rattle.refusals.proofs.Outcomes.{either, then-refused, then-accepted, both-accepted}
 use Rattle.task_model.specs.Limits.{mostTicks, mostLevels, mostEntries, Node, TimesHold, JitterHolds}
-use Rattle.task_model.specs.Checks.{kindTest, timesTest, jitterTest, entryTest, entryCheck, entriesBy, entriesCheck, sizeTest, nodeCheckBy, nodeCheck}
+use Rattle.task_model.specs.Checks.{kindTest, timesTest, jitterTest, entryTest, entryCheck, entriesBy, entriesCheck, numbersCheck, bodyBy, sizeTest, nodeCheckBy, nodeCheck, bodyCheck}
 
 -- 7
 module _ (kind calls : ℕ) where
@@ -159,6 +160,24 @@ module _ (check : ℕ → Entry → Outcome) (position : ℕ) (e : Entry) (es : 
   unfolding entriesBy
   entries-stop r p = rw p
 
+-- the entries at a row, by any check of one entry, and then their numbers
+module _ (check : ℕ → ℕ → Entry → Outcome) (row : ℕ) (es : List Entry) where
+  pub body-entries : (r : Numbered) → entriesBy (check row) 0 es ≡ refused r → bodyBy check row es ≡ refused r
+  unfolding bodyBy
+  body-entries r p = then-refused _ _ r p
+
+  -- entries that are not all accepted give their refusal
+  pub body-stops : (entriesBy (check row) 0 es ≡ accepted → ⊥) → bodyBy check row es ≡ entriesBy (check row) 0 es
+  body-stops n = ⊎-elim (λ p. absurd (n p)) (λ q. body-entries (q .0) (q .1) ∙ sym (q .1)) (either (entriesBy (check row) 0 es))
+
+  pub body-numbers : entriesBy (check row) 0 es ≡ accepted → bodyBy check row es ≡ numbersCheck row es
+  unfolding bodyBy
+  body-numbers p = then-accepted _ _ p
+
+  pub body-both : bodyBy check row es ≡ accepted → (entriesBy (check row) 0 es ≡ accepted) × (numbersCheck row es ≡ accepted)
+  unfolding bodyBy
+  body-both p = both-accepted _ _ p
+
 -- 4, then the entries
 module _ (row : ℕ) (n : Node) where
   pub node-sizes : ((1 ≤ n .levels) → (n .levels ≤ mostLevels) → (length (n .entries) ≤ mostEntries) → ⊥) → nodeCheck row n ≡ refused (at 4 row 0)
@@ -167,6 +186,6 @@ module _ (row : ℕ) (n : Node) where
       rw (decided (sizeTest (n .levels) (length (n .entries))) sizes-hold (λ h. out (h .0) (h .1) (h .2)))
 
   pub node-entries : 1 ≤ n .levels → n .levels ≤ mostLevels → length (n .entries) ≤ mostEntries
-      → nodeCheck row n ≡ entriesCheck row 0 (n .entries)
+      → nodeCheck row n ≡ bodyCheck row (n .entries)
   unfolding nodeCheckBy
   node-entries h1 h2 h3 = rw (sizes-true (n .levels) (length (n .entries)) h1 h2 h3)

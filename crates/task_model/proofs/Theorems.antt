@@ -2,7 +2,7 @@
 use Prim.Native.Nat.{ℕ, zero, suc, _+_, _≤_, _<_}
 use mathlib.Core.Path.{_≡_, _∙_, refl, sym, ap}
 use mathlib.Core.Bool.{Bool, true, false, _&&_, true≢false}
-use mathlib.Core.Logic.{inl, inr, ⊎-elim, _↔_}
+use mathlib.Core.Logic.{_⊎_, inl, inr, ⊎-elim, _↔_}
 use mathlib.Core.List.{List, [], _∷_}
 use native.Mathlib.Omega.{arith}
 use lib.ListN.{length}
@@ -11,9 +11,11 @@ use borrow.Author.Tests.{leb-true, le-leb, eqb-true}
 use Rattle.refusals.proofs.Outcomes.{either, not-both}
 use Rattle.task_model.specs.declared.Entry.{Entry}
 use Rattle.refusals.specs.Refusals.{Numbered, at, Outcome, accepted, refused}
-use Rattle.task_model.specs.Limits.{mostLevels, mostEntries, Node, entryAt, KindHolds, TimesHold, JitterHolds, EntryHolds, AllHold, NodeHolds}
-use Rattle.task_model.specs.Checks.{kindTest, timesTest, jitterTest, entryTest, entryCheck, entriesBy, entriesCheck, sizeTest, nodeCheck}
+use Rattle.task_model.specs.Limits.{mostLevels, mostEntries, Node, entryAt, KindHolds, TimesHold, JitterHolds, EntryHolds, AllHold, NodeHolds, NumbersDiffer, FirstRepeat, NodeValid}
+use Rattle.task_model.specs.Checks.{kindTest, timesTest, jitterTest, entryTest, entryCheck, eachBy, entriesCheck, numbersCheck, bodyBy, bodyCheck, sizeTest, nodeCheck}
 use Rattle.task_model.proofs.Tests.{and-true, true-or-false, decided}
+use Rattle.task_model.proofs.Each.{each-from, each-accepted, each-refused}
+use Rattle.task_model.proofs.Numbers.{numbers-accepted, numbers-repeat, numbers-refused}
 use Rattle.task_model.proofs.Laws.{
   times-true,
   times-hold,
@@ -25,8 +27,9 @@ use Rattle.task_model.proofs.Laws.{
   check-times,
   check-jitter,
   check-accepts,
-  entries-next,
-  entries-stop,
+  body-entries,
+  body-numbers,
+  body-both,
   sizes-hold,
   sizes-true,
   node-sizes,
@@ -147,92 +150,119 @@ module _ (row position : ℕ) (e : Entry) where
     λ h. check-jitter row position e (kind-true e (h .0)) (times-true e (h .1)) (jitter-false e (h .2)),
   )
 
-  -- 4 is of a node's sizes, and of no entry
-  not-four : Found row position e → entryCheck row position e ≡ refused (at 4 row 0) → ⊥
-  not-four (bad-kind q n) p = differ (λ z. omega arith) p q
-  not-four (bad-times q k n) p = differ (λ z. omega arith) p q
-  not-four (bad-jitter q k t n) p = differ (λ z. omega arith) p q
-  not-four (within q h) p = not-both q p
+  -- no other number is that of an entry's check
+  no-other : Found row position e → (r : Numbered) → (r .number ≡ 7 → ⊥) → (r .number ≡ 8 → ⊥) → (r .number ≡ 14 → ⊥)
+      → entryCheck row position e ≡ refused r → ⊥
+  no-other (bad-kind q n) r h7 h8 h14 p = differ h7 p q
+  no-other (bad-times q k n) r h7 h8 h14 p = differ h8 p q
+  no-other (bad-jitter q k t n) r h7 h8 h14 p = differ h14 p q
+  no-other (within q h) r h7 h8 h14 p = not-both q p
 
--- what holds of the first entry, and of those after it
-hold-cons : (P : Entry → Type 0) (e : Entry) (es : List Entry) (n : ℕ) → P e → ((i : ℕ) → i < n → P (entryAt es i))
-    → (i : ℕ) → i < suc n → P (entryAt (e ∷ es) i)
-hold-cons P e es n h f zero l = h
-hold-cons P e es n h f (suc i) l = f i (omega arith)
+-- all entries at a row, where the check of one entry accepts exactly what P says
+module _ (check : ℕ → ℕ → Entry → Outcome) (P : Entry → Type 0)
+    (one : (row p : ℕ) (e : Entry) → check row p e ≡ accepted ↔ P e) (row : ℕ) (es : List Entry) where
+  abbrev All : Type 0
+  All = (j : ℕ) → j < length es → P (entryAt es j)
 
--- entry by entry, where the check of one entry accepts exactly what P says
-module _ (check : ℕ → Entry → Outcome) (P : Entry → Type 0) (one : (p : ℕ) (e : Entry) → check p e ≡ accepted ↔ P e) where
-  all-of : (p : ℕ) (es : List Entry) → entriesBy check p es ≡ accepted → (j : ℕ) → j < length es → P (entryAt es j)
-  all-of p [] a = λ j h. absurd (omega arith)
-  all-of p (e ∷ es) a =
-      ⊎-elim
-      (λ q. hold-cons P e es (length es) (one p e .0 q) (all-of (suc p) es (sym (entries-next check p e es q) ∙ a)))
-      (λ q. absurd (not-both a (entries-stop check p e es (q .0) (q .1))))
-      (either (check p e))
+  pub each-exactly : eachBy check row es ≡ accepted ↔ All
+  each-exactly = each-accepted (check row) (λ q e. P e) (one row) es
 
-  to-all : (p : ℕ) (es : List Entry) → ((j : ℕ) → j < length es → P (entryAt es j)) → entriesBy check p es ≡ accepted
-  unfolding entriesBy
-  to-all p [] h = refl
-  to-all p (e ∷ es) h =
-      entries-next check p e es (one p e .1 (h 0 (omega arith))) ∙ to-all (suc p) es (λ j l. h (suc j) (omega arith))
+  pub body-exactly : bodyBy check row es ≡ accepted ↔ (All × NumbersDiffer es)
+  body-exactly = (
+    λ a. let q = body-both check row es a in (each-exactly .0 (q .0), numbers-accepted row es .0 (q .1)),
+    λ h. body-numbers check row es (each-exactly .1 (h .0)) ∙ numbers-accepted row es .1 (h .1),
+  )
 
-  pub each-accepted : (p : ℕ) (es : List Entry) → entriesBy check p es ≡ accepted ↔ ((j : ℕ) → j < length es → P (entryAt es j))
-  each-accepted p es = (all-of p es, to-all p es)
+  -- where the check of an entry never gives 16
+  module _ (never : (p : ℕ) (e : Entry) (r : Numbered) → check row p e ≡ refused r → r .number ≡ 16 → ⊥) where
+    -- 16 comes from the numbers
+    sixteen-numbers : (r : Numbered) → r .number ≡ 16 → bodyBy check row es ≡ refused r
+        → All × (numbersCheck row es ≡ refused r)
+    sixteen-numbers r z a =
+        ⊎-elim
+        (λ p. (each-exactly .0 p, sym (body-numbers check row es p) ∙ a))
+        (λ q.
+        let t = each-refused (check row) (λ p e. P e) (one row) es r (q .1 ∙ sym (body-entries check row es (q .0) (q .1)) ∙ a) in
+        absurd (never (t .0) _ r (t .3) z))
+        (either (eachBy check row es))
 
-  first-of : (p : ℕ) (es : List Entry) (r : Numbered) → entriesBy check p es ≡ refused r
-      → (j : ℕ) × (j < length es) × ((i : ℕ) → i < j → P (entryAt es i)) × (check (p + j) (entryAt es j) ≡ refused r)
-  unfolding entriesBy
-  first-of p [] r a = absurd (not-both refl a)
-  first-of p (e ∷ es) r a =
-      ⊎-elim
-      (λ q.
-      let t = first-of (suc p) es r (sym (entries-next check p e es q) ∙ a) in (
-        suc (t .0),
-        omega arith,
-        hold-cons P e es (t .0) (one p e .0 q) (t .2),
-        let n : p + suc (t .0) ≡ suc p + t .0 = omega arith in rw n (t .3),
-      ))
-      (λ q. (
-        0,
-        omega arith,
-        (λ i h. absurd (omega arith)),
-        let n : p + 0 ≡ p = omega arith in rw n (q .1 ∙ sym (entries-stop check p e es (q .0) (q .1)) ∙ a),
-      ))
-      (either (check p e))
+    -- and names the row
+    pub sixteen-row : (i j : ℕ) → bodyBy check row es ≡ refused (at 16 i j) → i ≡ row
+    sixteen-row i j a =
+        let t = numbers-refused row es (at 16 i j) (sixteen-numbers (at 16 i j) refl a .1) in ap (λ (n : Numbered). n .row) (t .2)
 
-  pub each-refused : (es : List Entry) (r : Numbered) → entriesBy check 0 es ≡ refused r
-      → (j : ℕ) × (j < length es) × ((i : ℕ) → i < j → P (entryAt es i)) × (check j (entryAt es j) ≡ refused r)
-  each-refused es r a =
-      let t = first-of 0 es r a in
-      let n : 0 + t .0 ≡ t .0 = omega arith in
-      (t .0, t .1, t .2, (rw n at (t .3)))
+    pub repeat-exactly : (j : ℕ) → bodyBy check row es ≡ refused (at 16 row j) ↔ (All × FirstRepeat es j)
+    repeat-exactly j = (
+      λ a. let t = sixteen-numbers (at 16 row j) refl a in (t .0, numbers-repeat row es j .0 (t .1)),
+      λ h. body-numbers check row es (each-exactly .1 (h .0)) ∙ numbers-repeat row es j .1 (h .1),
+    )
 
 module _ (row : ℕ) where
   -- Entries are accepted exactly if each is within the limits.
   pub entries-accepted : (p : ℕ) (es : List Entry) → entriesCheck row p es ≡ accepted ↔ AllHold es
-  entries-accepted p es = each-accepted (entryCheck row) EntryHolds (entry-accepted row) p es
+  entries-accepted p es = each-from (entryCheck row) (λ q e. EntryHolds e) (entry-accepted row) p es
 
   -- They are refused exactly as the first entry that is not within the limits is.
   pub entries-refused : (es : List Entry) (r : Numbered) → entriesCheck row 0 es ≡ refused r
       → (j : ℕ) × (j < length es) × ((i : ℕ) → i < j → EntryHolds (entryAt es i)) × (entryCheck row j (entryAt es j) ≡ refused r)
-  entries-refused es r a = each-refused (entryCheck row) EntryHolds (entry-accepted row) es r a
+  entries-refused es r a = each-refused (entryCheck row) (λ q e. EntryHolds e) (entry-accepted row) es r a
 
-  -- A node is accepted exactly if it is within every limit.
-  pub node-accepted : (n : Node) → nodeCheck row n ≡ accepted ↔ NodeHolds n
+  -- Another number than 7, 8 and 14 is never given for them.
+  pub entries-other : (es : List Entry) (r : Numbered) → (r .number ≡ 7 → ⊥) → (r .number ≡ 8 → ⊥) → (r .number ≡ 14 → ⊥)
+      → entriesCheck row 0 es ≡ refused r → ⊥
+  entries-other es r h7 h8 h14 a =
+      let t = entries-refused es r a in no-other row (t .0) _ (found row (t .0) _) r h7 h8 h14 (t .3)
+
+  -- All entries at a row are accepted exactly if each is within the limits and their numbers are all different.
+  pub body-accepted : (es : List Entry) → bodyCheck row es ≡ accepted ↔ (AllHold es × NumbersDiffer es)
+  body-accepted es = body-exactly entryCheck EntryHolds entry-accepted row es
+
+  pub entry-never : (p : ℕ) (e : Entry) (r : Numbered) → entryCheck row p e ≡ refused r → r .number ≡ 16 → ⊥
+  entry-never p e r a z = no-other row p e (found row p e) r (λ y. omega arith) (λ y. omega arith) (λ y. omega arith) a
+
+  -- They are refused as 16 at a position exactly if each is within the limits and the first repeat is there.
+  pub body-repeat : (es : List Entry) (j : ℕ) → bodyCheck row es ≡ refused (at 16 row j) ↔ (AllHold es × FirstRepeat es j)
+  body-repeat es j = repeat-exactly entryCheck EntryHolds entry-accepted row es entry-never j
+
+  -- A node with sizes within the limits, or refused as 4.
+  sizes-or : (n : Node)
+      → ((1 ≤ n .levels) × (n .levels ≤ mostLevels) × (length (n .entries) ≤ mostEntries)) ⊎ (nodeCheck row n ≡ refused (at 4 row 0))
+  sizes-or n =
+      ⊎-elim (λ p. inl (sizes-hold p))
+      (λ p. inr (node-sizes row n (λ h1 h2 h3. true≢false (sym (sizes-true _ _ h1 h2 h3) ∙ p))))
+      (true-or-false (sizeTest (n .levels) (length (n .entries))))
+
+  -- A node is accepted exactly if it is within every limit and its numbers are all different.
+  pub node-accepted : (n : Node) → nodeCheck row n ≡ accepted ↔ NodeValid n
   node-accepted n = (
     λ a.
         ⊎-elim
-        (λ p.
-        let h = sizes-hold p in
+        (λ h.
+        let b = body-accepted (n .entries) .0 (sym (node-entries row n (h .0) (h .1) (h .2)) ∙ a) in
         record {
-          someLevels = h .0;
-          fewLevels = h .1;
-          fewEntries = h .2;
-          each = entries-accepted 0 (n .entries) .0 (sym (node-entries row n (h .0) (h .1) (h .2)) ∙ a);
+          within = record { someLevels = h .0; fewLevels = h .1; fewEntries = h .2; each = b .0 };
+          numbers = b .1;
         })
-        (λ p. absurd (not-both a (node-sizes row n (λ h1 h2 h3. true≢false (sym (sizes-true _ _ h1 h2 h3) ∙ p)))))
-        (true-or-false (sizeTest (n .levels) (length (n .entries)))),
-    λ h. node-entries row n (h .someLevels) (h .fewLevels) (h .fewEntries) ∙ entries-accepted 0 (n .entries) .1 (h .each),
+        (λ p. absurd (not-both a p))
+        (sizes-or n),
+    λ h.
+        let w = h .within in
+        node-entries row n (w .someLevels) (w .fewLevels) (w .fewEntries) ∙ body-accepted (n .entries) .1 (w .each, h .numbers),
+  )
+
+  -- It is refused as 16 at a position exactly if it is within every limit and the first repeat is there.
+  pub node-repeat : (n : Node) (j : ℕ) → nodeCheck row n ≡ refused (at 16 row j) ↔ (NodeHolds n × FirstRepeat (n .entries) j)
+  node-repeat n j = (
+    λ a.
+        ⊎-elim
+        (λ h.
+        let b = body-repeat (n .entries) j .0 (sym (node-entries row n (h .0) (h .1) (h .2)) ∙ a) in
+        (record { someLevels = h .0; fewLevels = h .1; fewEntries = h .2; each = b .0 }, b .1))
+        (λ p. absurd (differ (λ z. omega arith) a p))
+        (sizes-or n),
+    λ h.
+        let w = h .0 in
+        node-entries row n (w .someLevels) (w .fewLevels) (w .fewEntries) ∙ body-repeat (n .entries) j .1 (w .each, h .1),
   )
 
   -- It is refused as 4 exactly if its sizes are outside: not 1 to 64 levels, or more than 64 entries.
@@ -241,7 +271,14 @@ module _ (row : ℕ) where
       ↔ (((1 ≤ n .levels) × (n .levels ≤ mostLevels) × (length (n .entries) ≤ mostEntries)) → ⊥)
   sizes-refused n = (
     λ a h.
-        let r = entries-refused (n .entries) (at 4 row 0) (sym (node-entries row n (h .0) (h .1) (h .2)) ∙ a) in
-        not-four row (r .0) _ (found row (r .0) _) (r .3),
+        let b = sym (node-entries row n (h .0) (h .1) (h .2)) ∙ a in
+        ⊎-elim
+        (λ p.
+        let t = numbers-refused row (n .entries) (at 4 row 0) (sym (body-numbers entryCheck row (n .entries) p) ∙ b) in
+        let z : _≡_ {A = ℕ} 4 16 = ap (λ (r : Numbered). r .number) (t .2) in omega arith)
+        (λ q.
+        entries-other (n .entries) (at 4 row 0) (λ z. omega arith) (λ z. omega arith) (λ z. omega arith)
+        (q .1 ∙ sym (body-entries entryCheck row (n .entries) (q .0) (q .1)) ∙ b))
+        (either (entriesCheck row 0 (n .entries))),
     λ out. node-sizes row n (λ h1 h2 h3. out (h1, h2, h3)),
   )

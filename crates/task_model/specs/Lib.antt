@@ -2,3 +2,4 @@
 pub mod Limits
 pub mod Checks
 pub mod WithoutJitter
+pub mod WithoutNumbers

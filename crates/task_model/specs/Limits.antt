@@ -63,3 +63,22 @@ pub record NodeHolds (n : Node) : Type 0 where
   pub fewLevels : n .levels ≤ mostLevels
   pub fewEntries : length (n .entries) ≤ mostEntries
   pub each : AllHold (n .entries)
+
+-- The entry at position j has the number of an entry before it.
+abbrev pub Repeats : List Entry → ℕ → Type 0
+Repeats es j = (i : ℕ) × (i < j) × (entryAt es i .number ≡ entryAt es j .number)
+
+-- The numbers of a list are all different: no entry has the number of an entry before it.
+abbrev pub NumbersDiffer : List Entry → Type 0
+NumbersDiffer es = (j : ℕ) → j < length es → Repeats es j → ⊥
+
+-- The first entry that has the number of an entry before it is the one at position j.
+pub record FirstRepeat (es : List Entry) (j : ℕ) : Type 0 where
+  pub inside : j < length es
+  pub repeats : Repeats es j
+  pub first : (k : ℕ) → k < j → Repeats es k → ⊥
+
+-- A node that a plan may hold: within the limits, and with each entry number once.
+pub record NodeValid (n : Node) : Type 0 where
+  pub within : NodeHolds n
+  pub numbers : NumbersDiffer (n .entries)

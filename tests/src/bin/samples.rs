@@ -73,6 +73,10 @@ fn main() {
     let mut damaged = cases::second_file(cases::node(1, &[Entry::task(1, 3, 10, 10)]));
     damaged[36] = 8;
     write(folder, "refused_jitter", &damaged);
+    // The second entry of case P has the number of the first.
+    let mut damaged = cases::file(cases::p());
+    damaged[36] = 1;
+    write(folder, "refused_repeat", &damaged);
 }
 
 /// Cases in which entries start late, in the second edition.

@@ -1,7 +1,7 @@
 //! The checks of a file, in the order of docs/SPEC.md.
 
 use super::layout::{body_end, contents_end, edition_of, entry_at, row_at, HEAD_BYTES};
-use crate::limits::{check_entry, check_row};
+use crate::limits::{check_entry, check_numbers, check_row};
 use crate::model::{Edition, Row, MAX_NODES};
 use crate::refusal::{Refusal, COUNT, CUT_OFF, LENGTH, OFFSET, OPENING};
 
@@ -51,13 +51,17 @@ fn check_contents(edition: Edition, file: &[u8], nodes: usize) -> Result<Vec<Row
     Ok(rows)
 }
 
-/// Checks 7, 8 and 14 entry by entry.
+/// Node by node: 7, 8 and 14 entry by entry, then 16.
 fn check_bodies(edition: Edition, file: &[u8], rows: &[Row]) -> Result<(), Refusal> {
     let mut offset = contents_end(rows.len());
     for (index, row) in rows.iter().enumerate() {
+        let mut entries = Vec::new();
         for position in 0..usize::from(row.entries) {
-            check_entry(&entry_at(edition, file, offset, position), index, position)?;
+            let entry = entry_at(edition, file, offset, position);
+            check_entry(&entry, index, position)?;
+            entries.push(entry);
         }
+        check_numbers(&entries, index)?;
         offset = body_end(edition, offset, row.entries);
     }
     Ok(())

@@ -1,12 +1,13 @@
 //! The writer.
 
 use super::layout::{body_end, contents_end, entry_length, opening_bytes, ROW_BYTES};
-use crate::limits::{check_entry, check_no_jitter, check_row};
+use crate::limits::{check_entry, check_no_jitter, check_numbers, check_row};
 use crate::model::{Edition, Entry, Plan, Row, MAX_NODES};
 use crate::refusal::{Refusal, BUFFER, COUNT, LENGTH, OPENING};
 
 /// The writer's checks of a plan to be written in the edition with this
-/// number: 2, 3, 4, 6, then 7, 8 and 14 entry by entry. Returns the edition.
+/// number: 2, 3, 4, 6, then node by node 7, 8 and 14 entry by entry and 16.
+/// Returns the edition.
 pub fn check_parts(edition: u32, rows: &[Row], entries: &[Entry]) -> Result<Edition, Refusal> {
     let Some(edition) = Edition::numbered(edition) else {
         return Err(Refusal::plain(OPENING));
@@ -23,11 +24,15 @@ pub fn check_parts(edition: u32, rows: &[Row], entries: &[Entry]) -> Result<Edit
     if entries.len() != counted {
         return Err(Refusal::plain(LENGTH));
     }
-    for (entry, (row, position)) in entries.iter().zip(places(rows)) {
-        check_entry(entry, row, position)?;
-        if edition == Edition::First {
-            check_no_jitter(entry, row, position)?;
+    let plan = Plan::from_parts(edition, rows, entries);
+    for (row, node) in plan.nodes.iter().enumerate() {
+        for (position, entry) in node.entries.iter().enumerate() {
+            check_entry(entry, row, position)?;
+            if edition == Edition::First {
+                check_no_jitter(entry, row, position)?;
+            }
         }
+        check_numbers(&node.entries, row)?;
     }
     Ok(edition)
 }
@@ -56,13 +61,6 @@ pub fn encode(plan: &Plan) -> Result<Vec<u8>, Refusal> {
     let (rows, entries) = (plan.rows(), plan.entries());
     let edition = check_parts(plan.edition.number(), &rows, &entries)?;
     Ok(bytes_of(edition, &rows, &entries))
-}
-
-/// Row and position of each entry that the rows count.
-fn places(rows: &[Row]) -> impl Iterator<Item = (usize, usize)> + '_ {
-    rows.iter()
-        .enumerate()
-        .flat_map(|(index, row)| (0..usize::from(row.entries)).map(move |at| (index, at)))
 }
 
 fn bytes_of(edition: Edition, rows: &[Row], entries: &[Entry]) -> Vec<u8> {

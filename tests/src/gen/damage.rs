@@ -1,13 +1,16 @@
 //! Damaged files, each with the expected refusal.
 
 use super::faults::{break_jitter, break_kind, break_row, break_ticks};
+use super::numbers::repeat_places;
 use super::plans::in_edition;
 use crate::file::{
     body_end, contents_end, encode, entry_at, entry_bytes, entry_length, opening_bytes, row_at,
     HEAD_BYTES,
 };
-use crate::model::{Edition, Entry, Plan, MAX_NODES};
-use crate::refusal::{Refusal, COUNT, CUT_OFF, JITTER, KIND, LENGTH, OFFSET, OPENING, ROW, TICKS};
+use crate::model::{Edition, Entry, Plan, MAX_ENTRIES, MAX_NODES};
+use crate::refusal::{
+    Refusal, COUNT, CUT_OFF, JITTER, KIND, LENGTH, OFFSET, OPENING, REPEAT, ROW, TICKS,
+};
 use crate::rng::Rng;
 
 /// The check that a fault aims at.
@@ -33,10 +36,12 @@ pub enum Aim {
     Ticks,
     /// 14.
     Jitter,
+    /// 16.
+    Repeat,
 }
 
 /// Every aim.
-pub const AIMS: [Aim; 10] = [
+pub const AIMS: [Aim; 11] = [
     Aim::Head,
     Aim::Opening,
     Aim::Count,
@@ -47,6 +52,7 @@ pub const AIMS: [Aim; 10] = [
     Aim::Kind,
     Aim::Ticks,
     Aim::Jitter,
+    Aim::Repeat,
 ];
 
 /// A damaged file.
@@ -61,7 +67,7 @@ pub struct Damaged {
 /// The plan's file with one fault for each aim, made in that order. A fault of
 /// J needs the second edition.
 ///
-/// The plan must have an entry.
+/// The plan must have a node of two entries.
 pub fn damage(rng: &mut Rng, plan: &Plan, aims: &[Aim]) -> Damaged {
     let edition = match aims.contains(&Aim::Jitter) {
         true => Edition::Second,
@@ -95,7 +101,7 @@ pub fn byte_changes(file: &[u8]) -> impl Iterator<Item = (usize, Vec<u8>)> + '_ 
 }
 
 /// A check's place in the order: stage, row, entry, step within the row or
-/// entry.
+/// entry. 16 comes behind all entries of its row.
 type Rank = (u8, usize, usize, u8);
 
 struct Fault {
@@ -122,6 +128,13 @@ impl Fault {
         Fault {
             rank: (6, row, entry, step),
             refusal: Refusal::at_entry(number, row, entry),
+        }
+    }
+
+    fn of_numbers(row: usize, entry: usize) -> Fault {
+        Fault {
+            rank: (6, row, MAX_ENTRIES, entry as u8),
+            refusal: Refusal::at_entry(REPEAT, row, entry),
         }
     }
 }
@@ -180,6 +193,7 @@ impl Work {
                 let (row, entry) = self.break_entry(rng, break_jitter);
                 Fault::in_body(row, entry, 2, JITTER)
             }
+            Aim::Repeat => self.repeat(rng),
         }
     }
 
@@ -260,16 +274,30 @@ impl Work {
         Fault::plain(5, LENGTH)
     }
 
+    /// Gives an entry the number of an earlier one of its node.
+    fn repeat(&mut self, rng: &mut Rng) -> Fault {
+        let row = self.row_of(rng, 2);
+        let [from, to] = repeat_places(rng, self.plan.nodes[row].entries.len());
+        let [from, at] = [from, to].map(|entry| self.body_of(row) + entry * self.entry_length());
+        self.file.copy_within(from..from + 2, at);
+        Fault::of_numbers(row, to)
+    }
+
+    /// A random row with at least so many entries.
+    fn row_of(&self, rng: &mut Rng, least: usize) -> usize {
+        let rows: Vec<usize> = (0..self.plan.nodes.len())
+            .filter(|&row| self.plan.nodes[row].entries.len() >= least)
+            .collect();
+        rng.pick(&rows)
+    }
+
     /// Breaks a random entry and returns its row and position.
     fn break_entry(
         &mut self,
         rng: &mut Rng,
         break_one: fn(&mut Rng, &mut Entry),
     ) -> (usize, usize) {
-        let filled: Vec<usize> = (0..self.plan.nodes.len())
-            .filter(|&row| !self.plan.nodes[row].entries.is_empty())
-            .collect();
-        let row = rng.pick(&filled);
+        let row = self.row_of(rng, 1);
         let position = rng.index(self.plan.nodes[row].entries.len());
         let (edition, body) = (self.plan.edition, self.body_of(row));
         let mut entry = entry_at(edition, &self.file, body, position);

@@ -2,6 +2,7 @@
 
 use super::budget::draw_fitting;
 use super::jitter::Jitter;
+use super::numbers::settle;
 use crate::map::group_passes;
 use crate::model::{Entry, MAX_R, MAX_TICKS, SECTION, TASK};
 use crate::rng::Rng;
@@ -34,7 +35,7 @@ pub fn tiny(rng: &mut Rng, count: usize) -> Vec<Entry> {
 
 /// Small random numbers.
 pub fn scattered(rng: &mut Rng, count: usize) -> Vec<Entry> {
-    (0..count)
+    let entries = (0..count)
         .map(|_| {
             let t = rng.range(1, 30);
             let d = rng.range(1, t);
@@ -44,7 +45,8 @@ pub fn scattered(rng: &mut Rng, count: usize) -> Vec<Entry> {
             let number = rng.word() as u16;
             kinded(rng, Entry::task(number, c, t, d).calling(r).blocked(b))
         })
-        .collect()
+        .collect();
+    settle(entries)
 }
 
 /// Entries like those of a station: usual periods, utilisation 0.3 to 0.95,
@@ -93,7 +95,7 @@ pub fn light(rng: &mut Rng, count: usize) -> Vec<Entry> {
     if rng.chance(1, 2) {
         entries.sort_by_key(|entry| entry.d);
     }
-    entries
+    settle(entries)
 }
 
 /// Numbers at both ends of the limits.
@@ -111,7 +113,7 @@ pub fn at_limits_counted(rng: &mut Rng, count: usize, jitter: Jitter) -> (Vec<En
     ]);
     draw_fitting(|| {
         let entries = (0..count).map(|_| limit_entry(rng, periods)).collect();
-        jitter.put(rng, entries)
+        jitter.put(rng, settle(entries))
     })
 }
 

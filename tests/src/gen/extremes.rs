@@ -2,6 +2,7 @@
 //! starts and demands that do not fit 32 bits.
 
 use super::jitter::most;
+use super::numbers::from_one;
 use crate::model::{Entry, MAX_ENTRIES, MAX_R, MAX_TICKS};
 use crate::rng::Rng;
 use crate::timing::{completion_in_group, demand, group_levels, limit, Timing};
@@ -144,7 +145,7 @@ pub fn many_releases(rng: &mut Rng) -> Vec<Entry> {
 pub fn five_full() -> Vec<Entry> {
     let mut entries = vec![Entry::task(1, 1_000, 1_000, 1_000); 5];
     entries.push(Entry::task(6, 1, MAX_TICKS, MAX_TICKS).blocked(799_995_000));
-    entries
+    from_one(entries)
 }
 
 /// Entries with periods of nearly 10^9 that may start nearly a period late, and

@@ -4,6 +4,7 @@
 use super::entries;
 use super::faults::{break_jitter, break_kind, break_ticks};
 use super::jitter::Jitter;
+use super::numbers::repeat_places;
 use crate::lent::{words_of, Words, SESSION_WORDS};
 use crate::model::Entry;
 use crate::rng::Rng;
@@ -40,7 +41,7 @@ pub fn damaged(rng: &mut Rng) -> Words {
 }
 
 fn damage(rng: &mut Rng, words: &mut Words, count: usize) {
-    match rng.below(6) {
+    match rng.below(9) {
         0 => words[0] = rng.pick(&[0, 65, 255, 256, 257, 1 << 16 | 3, u32::MAX]),
         1 => words[1] = rng.pick(&[65, 66, 255, 256, 257, 1 << 16 | 1, u32::MAX]),
         // With one entry less, words beyond the last entry are not 0; with one
@@ -48,8 +49,16 @@ fn damage(rng: &mut Rng, words: &mut Words, count: usize) {
         2 => words[1] = rng.pick(&[count.saturating_sub(1), count + 1, 64]) as u32,
         3 => words[rng.count(2, SESSION_WORDS - 1)] = rng.word() as u32,
         4 if count > 0 => break_entry(rng, words, count),
+        5..8 if count > 1 => repeat(rng, words, count),
         _ => words[rng.count(2 + ENTRY_WORDS * count, SESSION_WORDS - 1)] = rng.word() as u32,
     }
+}
+
+/// Gives an entry the number of an earlier one.
+fn repeat(rng: &mut Rng, words: &mut Words, count: usize) {
+    let [from, to] = repeat_places(rng, count);
+    let slots: &mut [[u32; ENTRY_WORDS]] = words[2..].as_chunks_mut().0;
+    slots[to][0] = slots[to][0] & !0xFFFF | slots[from][0] & 0xFFFF;
 }
 
 fn break_entry(rng: &mut Rng, words: &mut Words, count: usize) {

@@ -3,6 +3,7 @@
 
 use super::entries::scaled;
 use super::jitter::{most, Jitter};
+use super::numbers::from_one;
 use crate::model::{Entry, Node, Plan, MAX_ENTRIES, MAX_NODES, MAX_R, MAX_TICKS};
 use crate::rng::Rng;
 use crate::timing::{completion_in_group, Timing};
@@ -76,7 +77,7 @@ fn sixty_two() -> Vec<Entry> {
 pub fn many_rounds(count: usize) -> Vec<Entry> {
     let mut entries: Vec<Entry> = [2, 3, 7, 43, 1_807].map(|t| task(1, t)).to_vec();
     entries.resize(count, task(1, MAX_TICKS));
-    numbered(entries)
+    from_one(entries)
 }
 
 /// The full node of [`many_rounds`], whose last 59 entries end at
@@ -141,15 +142,7 @@ fn powers_to(last: u32) -> Vec<Entry> {
 /// Fills the node up to 64 entries with copies of `last`.
 fn filled(mut entries: Vec<Entry>, last: Entry) -> Vec<Entry> {
     entries.resize(MAX_ENTRIES, last);
-    numbered(entries)
-}
-
-/// The entries with numbers from 1 on.
-fn numbered(mut entries: Vec<Entry>) -> Vec<Entry> {
-    for (number, entry) in (1..).zip(&mut entries) {
-        entry.number = number;
-    }
-    entries
+    from_one(entries)
 }
 
 /// Numbers with many divisors; the periods of the urgent entries divide one of
@@ -172,7 +165,7 @@ pub fn near_one(rng: &mut Rng, jitter: Jitter) -> Vec<Entry> {
     }
     let longest = entries.iter().map(|e| e.t.max(e.b)).max().unwrap_or(1);
     let factor = rng.pick(&[1, 1, 2, 3, MAX_TICKS / longest]);
-    numbered(entries.iter().map(|e| scaled(e, factor)).collect())
+    from_one(entries.iter().map(|e| scaled(e, factor)).collect())
 }
 
 /// One to four entries with a utilisation of 1 + `excess`/`whole`, where

@@ -4,6 +4,7 @@ use super::entries;
 use super::faults::{break_jitter, break_kind, break_ticks};
 use super::jitter::any;
 use super::lent::{damaged, sound};
+use super::numbers::{free, held};
 use super::overruns;
 use super::sessions::FAMILIES;
 use crate::lent::{apply, session_in, SESSION_WORDS};
@@ -33,9 +34,18 @@ pub fn next_op(rng: &mut Rng, session: &Session, course: Course) -> Op {
     let opens = u64::from(course == Course::Short && rng.chance(1, 3));
     let weights = [inserts, removes, 3, 1, 4, maps, opens];
     match weighted(rng, &weights) {
-        0 => Op::Insert(position(rng, len + 1), entry(rng, course)),
+        0 => {
+            let (at, entry) = (position(rng, len + 1), entry(rng, course));
+            let number = number(rng, session.entries(), None, course);
+            Op::Insert(at, Entry { number, ..entry })
+        }
         1 => Op::Remove(position(rng, len)),
-        2 => Op::Replace(position(rng, len), entry(rng, course)),
+        2 => {
+            let (at, entry) = (position(rng, len), entry(rng, course));
+            let replaced = session.entries().get(at);
+            let number = number(rng, session.entries(), replaced, course);
+            Op::Replace(at, Entry { number, ..entry })
+        }
         3 => Op::SetLevels(levels(rng)),
         4 => group(rng, len),
         5 => Op::Map,
@@ -97,6 +107,23 @@ pub fn group(rng: &mut Rng, len: usize) -> Op {
         places.sort();
     }
     Op::Time(places[0], places[2], places[1])
+}
+
+/// The number of an entry to be put in, or in place of `replaced`: mostly one
+/// that is free, or that of the replaced entry, else that of any entry, or one of
+/// a few, which may have been removed before.
+fn number(rng: &mut Rng, entries: &[Entry], replaced: Option<&Entry>, course: Course) -> u16 {
+    let drawn = rng.below(match course {
+        Course::Short => 12,
+        // More refusals would keep the list from growing.
+        Course::Growing => 20,
+    });
+    match (drawn, replaced) {
+        (0..3, _) => held(rng, entries).unwrap_or(0),
+        (3 | 4, _) => rng.range(1, 2 + 2 * entries.len() as u64) as u16,
+        (5..9, Some(replaced)) => replaced.number,
+        _ => free(rng, entries),
+    }
 }
 
 fn entry(rng: &mut Rng, course: Course) -> Entry {

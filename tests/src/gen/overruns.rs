@@ -4,6 +4,7 @@
 use super::budget::draw_fitting;
 use super::entries;
 use super::jitter::{any as any_jitter, most, Jitter};
+use super::numbers::from_one;
 use super::odd::near_one;
 use crate::lent::{words_of, Words};
 use crate::model::{Entry, MAX_ENTRIES, MAX_R, MAX_TICKS};
@@ -270,7 +271,7 @@ pub fn largest(by_jitter: bool, first: usize) -> Timed {
     let own = Entry::task(2, MAX_TICKS, MAX_TICKS, MAX_TICKS).blocked(MAX_TICKS);
     entries.push(own.calling(1));
     Timed {
-        entries,
+        entries: from_one(entries),
         first,
         last: MAX_ENTRIES - 1,
         i: MAX_ENTRIES - 1,

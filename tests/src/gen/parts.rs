@@ -1,9 +1,10 @@
 //! Faulty calls of the writer, each with the expected refusal.
 
 use super::faults::{break_jitter, break_kind, break_row, break_ticks, put_jitter};
+use super::numbers::repeat_places;
 use crate::file::encode;
-use crate::model::{Edition, Entry, Plan, Row, MAX_NODES};
-use crate::refusal::{Refusal, BUFFER, COUNT, JITTER, KIND, LENGTH, OPENING, ROW, TICKS};
+use crate::model::{Edition, Entry, Plan, Row, MAX_ENTRIES, MAX_NODES};
+use crate::refusal::{Refusal, BUFFER, COUNT, JITTER, KIND, LENGTH, OPENING, REPEAT, ROW, TICKS};
 use crate::rng::Rng;
 
 /// The check that a fault aims at, in the writer's order.
@@ -23,12 +24,14 @@ pub enum PartAim {
     Ticks,
     /// 14.
     Jitter,
+    /// 16.
+    Repeat,
     /// 10.
     Buffer,
 }
 
 /// Every aim.
-pub const PART_AIMS: [PartAim; 8] = [
+pub const PART_AIMS: [PartAim; 9] = [
     PartAim::Edition,
     PartAim::Count,
     PartAim::Row,
@@ -36,6 +39,7 @@ pub const PART_AIMS: [PartAim; 8] = [
     PartAim::Kind,
     PartAim::Ticks,
     PartAim::Jitter,
+    PartAim::Repeat,
     PartAim::Buffer,
 ];
 
@@ -55,10 +59,11 @@ pub struct Parts {
 }
 
 /// A check's place in the order: stage, row, entry, step within the row or
-/// entry.
+/// entry. 16 comes behind all entries of its row.
 type Rank = (u8, usize, usize, u8);
 
-/// The plan's parts with one fault for each aim. The plan must have an entry.
+/// The plan's parts with one fault for each aim. The plan must have a node of two
+/// entries.
 pub fn damage_parts(rng: &mut Rng, plan: &Plan, aims: &[PartAim]) -> Parts {
     let mut parts = Parts {
         edition: plan.edition.number(),
@@ -117,12 +122,27 @@ fn put_in(rng: &mut Rng, plan: &Plan, parts: &mut Parts, aim: PartAim) -> (Rank,
             };
             break_entry(rng, plan, parts, (2, JITTER), break_one)
         }
+        PartAim::Repeat => repeat(rng, plan, parts),
         PartAim::Buffer => {
             let needed = file_bytes(plan);
             parts.room = rng.pick(&[needed - 1, needed - 1, 0]);
             ((5, 0, 0, 0), Refusal::plain(BUFFER))
         }
     }
+}
+
+/// Gives an entry the number of an earlier one of its node.
+fn repeat(rng: &mut Rng, plan: &Plan, parts: &mut Parts) -> (Rank, Refusal) {
+    let count = |row: usize| plan.nodes[row].entries.len();
+    let rows: Vec<usize> = (0..plan.nodes.len())
+        .filter(|&row| count(row) > 1)
+        .collect();
+    let row = rng.pick(&rows);
+    let [from, to] = repeat_places(rng, count(row));
+    let before: usize = (0..row).map(count).sum();
+    parts.entries[before + to].number = parts.entries[before + from].number;
+    let rank = (4, row, MAX_ENTRIES, to as u8);
+    (rank, Refusal::at_entry(REPEAT, row, to))
 }
 
 /// Breaks a random entry, at a step of its checks and with its number.

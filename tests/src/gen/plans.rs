@@ -1,6 +1,8 @@
-//! Whole plans, in half of the draws of the second edition.
+//! Whole plans, in half of the draws of the second edition. The numbers of a
+//! node's entries all differ.
 
 use super::jitter::Jitter;
+use super::numbers;
 use super::{entries, odd};
 use crate::model::{Edition, Entry, Node, Plan, MAX_ENTRIES, MAX_NODES};
 use crate::rng::Rng;
@@ -19,11 +21,11 @@ pub fn small(rng: &mut Rng) -> Plan {
     })
 }
 
-/// A small plan with at least one entry.
+/// A small plan with a node of at least two entries.
 pub fn filled(rng: &mut Rng) -> Plan {
     loop {
         let plan = small(rng);
-        if !plan.entries().is_empty() {
+        if plan.nodes.iter().any(|node| node.entries.len() > 1) {
             return plan;
         }
     }
@@ -188,10 +190,11 @@ pub fn punctual(mut plan: Plan) -> Plan {
     Plan::first(plan.nodes)
 }
 
-/// A small plan of the second edition in which an entry has J.
+/// A small plan of the second edition with a node of at least two entries, in
+/// which an entry has J.
 pub fn late(rng: &mut Rng) -> Plan {
     loop {
-        let plan = small(rng);
+        let plan = filled(rng);
         if !plan.is_punctual() {
             return plan;
         }
@@ -220,6 +223,7 @@ fn plan_in(
                 Edition::Second => Jitter::draw(rng),
             };
             let entries = draw(rng, jitter);
+            let entries = numbered(rng, entries);
             Node {
                 number,
                 levels: levels_for(rng, entries.len()),
@@ -228,6 +232,20 @@ fn plan_in(
         })
         .collect();
     Plan { edition, nodes }
+}
+
+/// In half of the draws the entries as they are, else with numbers of any kind.
+/// These come from a generator of their own, so that the numbers change nothing
+/// else of a plan.
+fn numbered(rng: &Rng, entries: Vec<Entry>) -> Vec<Entry> {
+    let mut rng = Rng::new(rng.clone().word());
+    match rng.chance(1, 2) {
+        true => entries,
+        false => {
+            let drawn = numbers::different(&mut rng, entries.len());
+            numbers::with(entries, &drawn)
+        }
+    }
 }
 
 /// Level counts near what the entries need, and both ends of the limits.

@@ -3,6 +3,7 @@
 
 use super::budget::{rounds_ceiling, ROUNDS};
 use super::jitter::any;
+use super::numbers::free;
 use super::ops::group;
 use super::plans;
 use crate::lent::words_of;
@@ -103,7 +104,9 @@ impl Family {
         match rng.below(8) {
             0 | 1 if len < MAX_ENTRIES => {
                 let others = self.node(rng).entries;
-                Op::Insert(rng.count(0, len), rng.pick(&others))
+                let (position, entry) = (rng.count(0, len), rng.pick(&others));
+                let number = free(rng, session.entries());
+                Op::Insert(position, Entry { number, ..entry })
             }
             2 if len > 1 => Op::Remove(rng.index(len)),
             3 | 4 => {

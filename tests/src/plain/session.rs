@@ -1,7 +1,7 @@
 //! The session in plain Rust: the lent memory is checked as the proved
 //! functions check it, and changed in place.
 
-use super::{completion, demand, entry_holds, map_entries, Entry, MOST};
+use super::{completion, demand, entry_holds, map_entries, Entry, Marks, MOST};
 use crate::ffi::session::Session;
 use crate::timing::Timing;
 use crate::words::ENTRY_WORDS;
@@ -21,6 +21,11 @@ pub(super) fn entry(words: &[u32; ENTRY_WORDS]) -> Entry {
     }
 }
 
+/// The number of the entry in six words.
+pub(super) fn number(words: &[u32; ENTRY_WORDS]) -> u16 {
+    words[0] as u16
+}
+
 /// How many entries a sound session has.
 fn count_of(session: &Session) -> Option<usize> {
     let count = session.count as usize;
@@ -29,7 +34,7 @@ fn count_of(session: &Session) -> Option<usize> {
     }
     let entries = &session.words.as_chunks().0[..count];
     let sound = entries.iter().all(|words| entry_holds(&entry(words)));
-    sound.then_some(count)
+    (sound && Marks::<1024>::new().differ(1, entries, number)).then_some(count)
 }
 
 /// Inserts an entry, and returns whether it did.
@@ -42,6 +47,9 @@ pub fn insert(session: &mut Session, position: usize, words: &[u32; ENTRY_WORDS]
         return false;
     }
     let entries = session.words.as_chunks_mut().0;
+    if entries[..count].iter().any(|e| number(e) == number(words)) {
+        return false;
+    }
     entries.copy_within(position..count, position + 1);
     entries[position] = *words;
     entries[count + 1..].fill([0; ENTRY_WORDS]);

@@ -1,6 +1,6 @@
 //! Entries, read in place.
 
-use crate::refusal::{Refusal, JITTER, KIND, TICKS};
+use crate::refusal::{Refusal, JITTER, KIND, REPEAT, TICKS};
 
 /// Most entries of a node.
 pub const MOST: usize = 64;
@@ -129,6 +129,45 @@ where
     fn in_bodies(bodies: &[u8]) -> &[Self] {
         bodies.as_chunks().0
     }
+}
+
+/// A mark for each number that the entries of a node have, by its low bits.
+///
+/// A mark that is met only says that an earlier number has the same low bits;
+/// then the earlier entries are looked at. The marks of rows differ, so the table
+/// is cleared once for all of them.
+pub struct Marks<const SLOTS: usize>([u8; SLOTS]);
+
+/// Marks for a file.
+pub type FileMarks = Marks<2048>;
+/// Marks for entries in words: a session, or a plan to be written.
+pub type WordMarks = Marks<1024>;
+
+impl<const SLOTS: usize> Marks<SLOTS> {
+    pub fn new() -> Marks<SLOTS> {
+        Marks([0; SLOTS])
+    }
+
+    /// Checks that the numbers of a row's entries differ.
+    pub fn check<E: Entry>(&mut self, entries: &[E], row: usize) -> Result<(), Refusal> {
+        let mark = row as u8 + 1;
+        for (at, entry) in entries.iter().enumerate() {
+            let number = entry.number();
+            let met = &mut self.0[number as usize % SLOTS];
+            if *met == mark && has_number(&entries[..at], number) {
+                return Err(Refusal::at_entry(REPEAT, row, at));
+            }
+            *met = mark;
+        }
+        Ok(())
+    }
+}
+
+/// Whether one of the entries has this number. Mostly none has, so that all are
+/// compared without a branch.
+pub fn has_number<E: Entry>(entries: &[E], number: u32) -> bool {
+    let same = entries.iter().map(|entry| entry.number() == number);
+    same.fold(false, |any, same| any | same)
 }
 
 /// The refusal of the first of these entries that is outside the limits.

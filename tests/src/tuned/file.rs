@@ -1,6 +1,8 @@
 //! Plan files.
 
-use super::entry::{refusal_in, Entry, FirstBytes, InFile, SecondBytes, Words, MOST};
+use super::entry::{
+    refusal_in, Entry, FileMarks, FirstBytes, InFile, SecondBytes, WordMarks, Words, MOST,
+};
 use crate::model::Edition;
 use crate::refusal::{Refusal, BUFFER, COUNT, CUT_OFF, JITTER, LENGTH, OFFSET, OPENING, ROW};
 
@@ -73,13 +75,8 @@ impl<'a, E: InFile> Plan<'a, E> {
             entries: E::in_bodies(bodies),
         };
         plan.check_rows(file.len())?;
-        // All entries in one loop; only a refused file needs a second pass, for
-        // the place.
-        if plan.entries.iter().all(Entry::holds) {
-            Ok(plan)
-        } else {
-            Err(plan.refusal())
-        }
+        plan.check_nodes()?;
+        Ok(plan)
     }
 
     fn check_rows(&self, length: usize) -> Result<(), Refusal> {
@@ -103,13 +100,17 @@ impl<'a, E: InFile> Plan<'a, E> {
         Ok(())
     }
 
-    /// The refusal of its first bad entry.
-    #[cold]
-    fn refusal(&self) -> Refusal {
-        self.nodes()
-            .enumerate()
-            .find_map(|(row, (_, entries))| refusal_in(entries, row))
-            .expect("an entry is outside the limits")
+    /// Checks node after node: the entries in one loop, then their numbers. Only
+    /// a refused node needs a second pass, for the place.
+    fn check_nodes(&self) -> Result<(), Refusal> {
+        let mut marks = FileMarks::new();
+        for (row, (_, entries)) in self.nodes().enumerate() {
+            if !entries.iter().all(Entry::holds) {
+                return Err(refusal_in(entries, row).expect("an entry is outside the limits"));
+            }
+            marks.check(entries, row)?;
+        }
+        Ok(())
     }
 
     /// How many nodes it has.
@@ -267,16 +268,21 @@ fn check_parts<'a>(
         return Err(Refusal::plain(LENGTH));
     }
     let entries: &[Words] = words.as_chunks().0;
-    let hold = match edition {
-        Edition::First => entries
-            .iter()
-            .all(|entry| refusal_in_first(entry).is_none()),
-        Edition::Second => entries.iter().all(Entry::holds),
-    };
-    match hold {
-        true => Ok(entries),
-        false => Err(refusal_of_parts(edition, rows, entries)),
+    let mut marks = WordMarks::new();
+    let mut rest = entries;
+    for (row, word) in rows.iter().enumerate() {
+        let (node, behind) = rest.split_at(Row::of(*word).count);
+        let hold = match edition {
+            Edition::First => node.iter().all(|entry| refusal_in_first(entry).is_none()),
+            Edition::Second => node.iter().all(Entry::holds),
+        };
+        if !hold {
+            return Err(refusal_of_node(edition, node, row));
+        }
+        marks.check(node, row)?;
+        rest = behind;
     }
+    Ok(entries)
 }
 
 /// The number of an entry's refusal, if it can't be written in the first
@@ -286,20 +292,15 @@ fn refusal_in_first(entry: &Words) -> Option<u8> {
     entry.refusal().or(jitter)
 }
 
-/// The refusal of the first bad entry.
+/// The refusal of the first bad entry of a node.
 #[cold]
-fn refusal_of_parts(edition: Edition, rows: &[u32], entries: &[Words]) -> Refusal {
-    let mut rest = entries.iter();
-    for (row, word) in rows.iter().enumerate() {
-        for (at, entry) in rest.by_ref().take(Row::of(*word).count).enumerate() {
-            let number = match edition {
-                Edition::First => refusal_in_first(entry),
-                Edition::Second => entry.refusal(),
-            };
-            if let Some(number) = number {
-                return Refusal::at_entry(number, row, at);
-            }
-        }
-    }
-    unreachable!("an entry is outside the limits")
+fn refusal_of_node(edition: Edition, entries: &[Words], row: usize) -> Refusal {
+    let number = |entry: &Words| match edition {
+        Edition::First => refusal_in_first(entry),
+        Edition::Second => entry.refusal(),
+    };
+    let mut places = entries.iter().enumerate();
+    places
+        .find_map(|(at, entry)| Some(Refusal::at_entry(number(entry)?, row, at)))
+        .expect("an entry is outside the limits")
 }

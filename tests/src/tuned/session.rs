@@ -1,9 +1,9 @@
 //! Sessions: the lent memory is checked, read and changed in place.
 
-use super::entry::{refusal_in, Entry, Words, MOST};
+use super::entry::{has_number, refusal_in, Entry, WordMarks, Words, MOST};
 use super::map::map_entries;
 use super::timing::{runs_of, Test};
-use crate::refusal::{Refusal, FULL, POSITION, ROW};
+use crate::refusal::{Refusal, FULL, POSITION, REPEAT, ROW};
 use crate::timing::Timing;
 
 /// The lent memory.
@@ -18,10 +18,11 @@ fn held(session: &Session) -> Result<&[Words], Refusal> {
     let entries = slots
         .get(..session.count as usize)
         .ok_or(Refusal::at_row(ROW, 0))?;
-    if entries.iter().all(Entry::holds) {
-        return Ok(entries);
+    if !entries.iter().all(Entry::holds) {
+        return Err(refusal_in(entries, 0).expect("an entry is outside the limits"));
     }
-    Err(refusal_in(entries, 0).expect("an entry is outside the limits"))
+    WordMarks::new().check(entries, 0)?;
+    Ok(entries)
 }
 
 /// The slots of a session's entries, used or not.
@@ -85,6 +86,9 @@ pub fn insert(session: &mut Session, position: usize, entry: &Words) -> Result<(
     }
     check_entry(entry, position)?;
     let slots = slots(session);
+    if has_number(&slots[..count], entry.number()) {
+        return Err(Refusal::at_entry(REPEAT, 0, position));
+    }
     slots.copy_within(position..count, position + 1);
     slots[position] = *entry;
     clear_rest(session, count + 1);
@@ -111,7 +115,12 @@ pub fn replace(session: &mut Session, position: usize, entry: &Words) -> Result<
         return Err(Refusal::plain(POSITION));
     }
     check_entry(entry, position)?;
-    slots(session)[position] = *entry;
+    let slots = slots(session);
+    let (before, behind) = (&slots[..position], &slots[position + 1..count]);
+    if has_number(before, entry.number()) || has_number(behind, entry.number()) {
+        return Err(Refusal::at_entry(REPEAT, 0, position));
+    }
+    slots[position] = *entry;
     clear_rest(session, count);
     Ok(())
 }

@@ -9,7 +9,9 @@ use oracle::gen::plans;
 use oracle::map::map_node;
 use oracle::model::{Edition, Entry, Plan};
 use oracle::options::{rng, times};
-use oracle::refusal::{Refusal, BUFFER, FULL, JITTER, KIND, NO_MAP, NO_NODE, POSITION, TICKS};
+use oracle::refusal::{
+    Refusal, BUFFER, FULL, JITTER, KIND, NO_MAP, NO_NODE, POSITION, REPEAT, TICKS,
+};
 use oracle::session::Session;
 
 #[test]
@@ -97,67 +99,95 @@ pub const ENTRIES: [Entry; 9] = [
     BAD_BOTH.jittered(1),
 ];
 
+/// Good entries, each with its position as number.
+fn held(count: usize) -> Vec<Entry> {
+    let at = |position| Entry {
+        number: position as u16,
+        ..GOOD
+    };
+    (0..count).map(at).collect()
+}
+
 /// A session with `count` good entries.
 fn session_of(count: usize) -> Session {
     let mut session = Session::open(2).unwrap();
-    for position in 0..count {
-        session.insert(position, GOOD).unwrap();
+    for (position, entry) in held(count).into_iter().enumerate() {
+        session.insert(position, entry).unwrap();
     }
     session
 }
 
-/// The expected refusal of an entry at this position of a session.
-fn of_entry(entry: Entry, position: usize) -> Option<Refusal> {
-    let number = match entry {
-        GOOD | LATEST => return None,
-        Entry { kind: 3, .. } => KIND,
-        Entry { c: 6, .. } => TICKS,
-        _ => JITTER,
+/// Entries for a session of `count` with every number that it holds, and with one
+/// that it does not.
+fn numbered(count: usize) -> impl Iterator<Item = Entry> {
+    let numbers = (0..=count as u16).chain([u16::MAX]);
+    numbers.flat_map(|number| ENTRIES.map(|entry| Entry { number, ..entry }))
+}
+
+/// The expected refusal of an entry at this position of a session, or of its
+/// number if that `repeats`.
+fn of_entry(entry: Entry, position: usize, repeats: bool) -> Option<Refusal> {
+    let number = match (entry.kind, entry.c, entry.j) {
+        (3, ..) => KIND,
+        (_, 6, _) => TICKS,
+        (_, _, 900) => JITTER,
+        _ if repeats => REPEAT,
+        _ => return None,
     };
     Some(Refusal::at_entry(number, 0, position))
 }
 
 #[test]
-fn insert_checks_12_13_7_8_14() {
+fn insert_checks_12_13_7_8_14_16() {
+    let mut met = 0;
     for count in [0, 1, 63, 64] {
         for position in [0, count / 2, count, count + 1, 64, 65, usize::MAX] {
-            for entry in ENTRIES {
+            for entry in numbered(count) {
                 let mut session = session_of(count);
+                let repeats = usize::from(entry.number) < count;
                 let due = if position > count {
                     Some(Refusal::plain(POSITION))
                 } else if count == 64 {
                     Some(Refusal::plain(FULL))
                 } else {
-                    of_entry(entry, position)
+                    of_entry(entry, position, repeats)
                 };
                 assert_eq!(session.insert(position, entry).err(), due);
                 let unchanged = session == session_of(count);
                 assert_eq!(unchanged, due.is_some());
+                met += usize::from(due.is_some_and(|refusal| refusal.number == REPEAT));
             }
         }
     }
+    // Two good entries with every number, at three places.
+    assert_eq!(met, 6 * (1 + 63));
 }
 
 #[test]
-fn replace_checks_12_7_8_14() {
+fn replace_checks_12_7_8_14_16() {
+    let mut met = 0;
     for count in [0, 1, 64] {
         for position in [0, count / 2, count, count + 1, 64, usize::MAX] {
-            for entry in ENTRIES {
+            for entry in numbered(count) {
                 let mut session = session_of(count);
+                let number = usize::from(entry.number);
                 let due = if position >= count {
                     Some(Refusal::plain(POSITION))
                 } else {
-                    of_entry(entry, position)
+                    of_entry(entry, position, number < count && number != position)
                 };
                 assert_eq!(session.replace(position, entry).err(), due);
-                let mut kept = vec![GOOD; count];
+                let mut kept = held(count);
                 if due.is_none() {
                     kept[position] = entry;
                 }
                 assert_eq!(session.entries(), kept);
+                met += usize::from(due.is_some_and(|refusal| refusal.number == REPEAT));
             }
         }
     }
+    // Two good entries with every number but its own, at two places.
+    assert_eq!(met, 4 * 63);
 }
 
 #[test]

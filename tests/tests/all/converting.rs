@@ -6,6 +6,7 @@ use oracle::file::{convert, convert_back, convert_forward, encode, longest};
 use oracle::gen::buffers::known;
 use oracle::gen::damage::{damage, AIMS};
 use oracle::gen::jitter::first_late;
+use oracle::gen::numbers::settle;
 use oracle::gen::plans::{self, in_edition, punctual};
 use oracle::listing::list;
 use oracle::model::{Edition, Entry, Node, Plan, MAX_ENTRIES, MAX_NODES, SECTION};
@@ -198,7 +199,7 @@ fn the_first_jitter_is_reported() {
 fn jitter_beyond_its_limit_is_14() {
     let entry = Entry::task(1, 3, 12, 10);
     for first in [0, 1, 7] {
-        let entries = [entry.jittered(first), entry.jittered(7)];
+        let entries = settle(vec![entry.jittered(first), entry.jittered(7)]);
         let mut file = cases::second_file(cases::node(1, &entries));
         let place = usize::from(first == 0);
         let due = Refusal::at_entry(JITTER_LOST, 0, place);
@@ -281,7 +282,7 @@ fn fields_at_their_limits() {
     let nodes = (0..MAX_NODES as u16).map(|row| Node {
         number: u16::MAX - 31 + row,
         levels: 64,
-        entries: [most, section].repeat(MAX_ENTRIES / 2),
+        entries: settle([most, section].repeat(MAX_ENTRIES / 2)),
     });
     let plan = Plan::first(nodes.collect());
     let [first, second] = Edition::BOTH.map(|e| encode(&in_edition(&plan, e)).unwrap());

@@ -13,7 +13,7 @@ use oracle::options::rng;
 use oracle::programs::{feed, root, run};
 use oracle::refusal::{
     Refusal, BUFFER, COUNT, CUT_OFF, FULL, JITTER, JITTER_LOST, KIND, LENGTH, NO_MAP, NO_NODE,
-    NUMBERS, OFFSET, OPENING, POSITION, ROW, TICKS,
+    NUMBERS, OFFSET, OPENING, POSITION, REPEAT, ROW, TICKS,
 };
 use oracle::session::Session;
 use oracle::timing::Timing;
@@ -250,6 +250,7 @@ fn refusals_in_the_header() {
         ("FULL_LIST", FULL),
         ("JITTER", JITTER),
         ("JITTER_LOST", JITTER_LOST),
+        ("REPEAT", REPEAT),
     ];
     assert_eq!(names, due.map(|(name, n)| (format!("MAIPLUR_{name}"), n)));
     assert_eq!(due.map(|(_, n)| n).to_vec(), Vec::from_iter(1..=NUMBERS));

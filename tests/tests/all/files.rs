@@ -8,7 +8,9 @@ use oracle::gen::damage::{byte_changes, damage, truncations, Aim, AIMS};
 use oracle::gen::plans;
 use oracle::model::{Edition, Entry, Plan, Row};
 use oracle::options::{rng, times};
-use oracle::refusal::{Refusal, COUNT, CUT_OFF, JITTER, KIND, LENGTH, OFFSET, OPENING, ROW, TICKS};
+use oracle::refusal::{
+    Refusal, COUNT, CUT_OFF, JITTER, KIND, LENGTH, OFFSET, OPENING, REPEAT, ROW, TICKS,
+};
 use oracle::rng::Rng;
 
 #[test]
@@ -141,7 +143,7 @@ fn possible_numbers(plan: &Plan, at: usize) -> &'static [u8] {
         };
     }
     match (at - contents) % entry_length(plan.edition) {
-        0 | 1 => &[],
+        0 | 1 => &[REPEAT],
         2 | 3 => &[KIND],
         // Another C or D may leave too little room for J.
         4..8 | 12..16 => &[TICKS, JITTER],

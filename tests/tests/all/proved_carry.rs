@@ -9,6 +9,7 @@ use oracle::corpus;
 use oracle::file::{decode, encode};
 use oracle::gen::damage::{damage, AIMS};
 use oracle::gen::listings::long_listing;
+use oracle::gen::numbers::from_one;
 use oracle::gen::places::put_entry;
 use oracle::gen::plans::{self, in_edition, punctual};
 use oracle::listing::list;
@@ -180,7 +181,7 @@ fn damaged_files() {
         }
     }
     say(format!("damaged files through the program: {tally}"));
-    for number in [1, 2, 3, 4, 5, 6, 7, 8, 14] {
+    for number in [1, 2, 3, 4, 5, 6, 7, 8, 14, 16] {
         assert!(tally.met(number) >= times(20), "{number}: {tally}");
     }
 }
@@ -225,7 +226,7 @@ fn lost_jitter_has_its_place() {
     let mut rng = rng(436);
     let nodes = |number| Node {
         number,
-        ..cases::node(1, &[cases::p().entries[0]; 64])
+        ..cases::node(1, &from_one(vec![cases::p().entries[0]; 64]))
     };
     let plan = Plan::second((0..32).map(nodes).collect());
     let file = encode(&plan).unwrap();

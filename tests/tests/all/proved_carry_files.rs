@@ -53,7 +53,7 @@ fn files(folder: &Path) -> Files {
 fn samples() -> Files {
     let mut samples = files(&root().join("samples"));
     samples.retain(|name, _| name.ends_with(".plan"));
-    assert_eq!(samples.len(), 23);
+    assert_eq!(samples.len(), 24);
     samples
 }
 

@@ -11,6 +11,7 @@ use oracle::gen::budget::plan_fits;
 use oracle::gen::buffers::{known, random};
 use oracle::gen::damage::{byte_changes, damage, truncations, Aim, AIMS};
 use oracle::gen::jitter::{first_late, most};
+use oracle::gen::numbers::from_one;
 use oracle::gen::places::{full_plan, put_entry};
 use oracle::gen::plans::{self, in_edition, punctual};
 use oracle::listing::{list, MOST_TEXT};
@@ -23,7 +24,7 @@ use oracle::tally::Tally;
 type Draw = fn(&mut Rng) -> Plan;
 
 /// The numbers of a file's own checks.
-const OWN: [u8; 9] = [1, 2, 3, 4, 5, 6, 7, 8, 14];
+const OWN: [u8; 10] = [1, 2, 3, 4, 5, 6, 7, 8, 14, 16];
 
 /// The file, converted into a buffer that always suffices.
 fn converted(
@@ -206,7 +207,7 @@ fn second(rng: &mut Rng) -> Plan {
 fn own_checks_before_2() {
     let back = damaged_files(426, first, Edition::other).back;
     say(format!("damaged files of the first edition, back: {back}"));
-    assert_met(&back, [1, 2, 3, 4, 5, 6, 7, 8], times(500));
+    assert_met(&back, [1, 2, 3, 4, 5, 6, 7, 8, 16], times(500));
     for draw in [second, plans::late] {
         let forward = damaged_files(427, draw, Edition::other).forward;
         say(format!(
@@ -229,7 +230,7 @@ fn own_checks_before_15() {
 #[test]
 fn own_checks_before_10() {
     let forward = damaged_files(429, first, |edition| edition).forward;
-    assert_met(&forward, [1, 2, 3, 4, 5, 6, 7, 8], times(500));
+    assert_met(&forward, [1, 2, 3, 4, 5, 6, 7, 8, 16], times(500));
     let back = damaged_files(430, second, |edition| edition).back;
     assert_met(&back, OWN, times(500));
     assert_eq!([forward.met(BUFFER), back.met(BUFFER)], [0; 2]);
@@ -344,7 +345,7 @@ fn jitter_at_its_limits() {
     let top = MAX_TICKS;
     for (c, d) in [(1, 1), (1, 2), (3, 10), (1, 65_537), (1, top), (top, top)] {
         let entry = Entry::task(1, c, top, d);
-        let good = cases::second_file(cases::node(1, &[entry, entry]));
+        let good = cases::second_file(cases::node(1, &from_one(vec![entry; 2])));
         let most = d - c;
         let near = [0, 1, 1 << 8, 1 << 16, 1 << 24, most, most + 1];
         for j in near.into_iter().chain([1 << 31, u64::from(u32::MAX)]) {

@@ -29,7 +29,7 @@ fn one_fault() {
         assert_due(&mut rng, &mut tally, &[aim], times(600));
     }
     say(format!("one fault: {tally}"));
-    for number in (1..=8).chain([14]) {
+    for number in (1..=8).chain([14, 16]) {
         assert!(tally.met(number) >= times(600), "{number}: {tally}");
     }
 }

@@ -8,6 +8,7 @@ use oracle::ffi;
 use oracle::file::{contents_end, decode, edition_of, encode, entry_length, longest, row_at};
 use oracle::gen::damage::truncations;
 use oracle::gen::jitter::first_late;
+use oracle::gen::numbers::settle;
 use oracle::gen::plans::{self, drawn_in, in_edition, punctual};
 use oracle::model::{Edition, Entry, Node, Plan, MAX_ENTRIES, MAX_NODES};
 use oracle::options::{rng, times};
@@ -186,7 +187,7 @@ fn bodies_that_fit_both_editions() {
 fn telling_entries(rng: &mut Rng, edition: Edition, count: usize) -> Vec<Entry> {
     // Kind 1 and r 0 make the first word 65,536 and more; as a time it is long.
     let long = 1 << 16;
-    (0..count)
+    let entries = (0..count)
         .map(|_| {
             let t = long + rng.below(3);
             let d = long + rng.below(1 + t - long);
@@ -199,7 +200,8 @@ fn telling_entries(rng: &mut Rng, edition: Edition, count: usize) -> Vec<Entry> 
             let number = rng.below(3) as u16;
             Entry::task(number, c, t, d).blocked(b).jittered(j)
         })
-        .collect()
+        .collect();
+    settle(entries)
 }
 
 /// Files cut at every length.

@@ -7,7 +7,7 @@ use oracle::options::{rng, times};
 #[test]
 fn a_short_run() {
     let mut fuzz = Fuzz::new(rng(251));
-    while fuzz.files() < times(14_000) {
+    while fuzz.files() < times(18_000) {
         if let Err(difference) = fuzz.step() {
             panic!("after {} files: {difference:?}", fuzz.files());
         }
@@ -20,18 +20,18 @@ fn a_short_run() {
     sessions.assert_maps(times(4_000), times(4_000));
     sessions.assert_few_left_out(15);
     sessions.assert_timed(times(800), times(800), times(100));
-    for number in (1..=11).chain([14]) {
+    for number in (1..=11).chain([14, 16]) {
         assert!(files.met(number) >= times(500), "{number}: {files}");
     }
     let (forward, back) = (&fuzz.conversions().forward, &fuzz.conversions().back);
     for ways in [forward, back] {
         assert!(ways.accepted() >= times(500), "{ways}");
-        for number in (1..=8).chain([10, 14]) {
+        for number in (1..=8).chain([10, 14, 16]) {
             assert!(ways.met(number) >= times(300), "{number}: {ways}");
         }
     }
     assert!(back.met(15) >= times(900), "{back}");
-    for number in [4, 7, 8, 10, 11, 12, 13, 14] {
+    for number in [4, 7, 8, 10, 11, 12, 13, 14, 16] {
         assert!(sessions.met(number) >= times(250), "{number}: {sessions}");
     }
 }

@@ -10,6 +10,7 @@ use oracle::ffi::{self, session::Session as Proved};
 use oracle::file::entry_bytes;
 use oracle::gen::entries;
 use oracle::gen::jitter::{most, Jitter};
+use oracle::gen::numbers::from_one;
 use oracle::gen::places::put_words;
 use oracle::lent::words_of;
 use oracle::map::map_entries;
@@ -177,7 +178,11 @@ fn pairs() -> impl Iterator<Item = [Failing; 2]> {
     (0..64).map(move |bits| [failing(bits), failing(bits / 8)])
 }
 
-/// The entry with these faults; its J is `least`, or one more than the most.
+/// Two entries with these faults; their J is `least`, or one more than the most.
+fn entries_with(both: [Failing; 2], jitter: [u64; 2]) -> Vec<Entry> {
+    from_one(both.map(|failing| entry_with(failing, jitter)).to_vec())
+}
+
 fn entry_with([kind, ticks, jitter]: Failing, [least, most]: [u64; 2]) -> Entry {
     Entry {
         kind: if kind { 3 } else { GOOD.kind },
@@ -202,9 +207,9 @@ fn due_of(both: [Failing; 2]) -> Option<Refusal> {
 fn the_order_of_14_in_a_file() {
     let mut tally = Tally::default();
     for both in pairs() {
-        let mut file = cases::second_file(cases::node(1, &[GOOD; 2]));
-        for (slot, failing) in file[16..].chunks_exact_mut(24).zip(both) {
-            let entry = entry_with(failing, [1_048, most(&GOOD)]);
+        let mut file = cases::second_file(cases::node(1, &from_one(vec![GOOD; 2])));
+        let entries = entries_with(both, [1_048, most(&GOOD)]);
+        for (slot, entry) in file[16..].chunks_exact_mut(24).zip(entries) {
             slot.copy_from_slice(&entry_bytes(Edition::Second, &entry));
         }
         let due = due_of(both);
@@ -241,7 +246,7 @@ fn the_order_of_14_for_the_writer() {
     let none = Row { levels: 0, ..row };
     for both in pairs() {
         for (edition, jitter, length) in [(1, [0, 0], 56), (2, [1_048, 1_048], 64)] {
-            let entries = both.map(|failing| entry_with(failing, jitter));
+            let entries = entries_with(both, jitter);
             let due = due_of(both);
             let mut write = |edition, rows: &[Row], entries: &[Entry], room| {
                 let answer = compare::write(&mut tally, edition, rows, entries, room);
@@ -267,12 +272,13 @@ fn the_order_of_14_for_the_writer() {
 #[test]
 fn the_order_of_14_in_a_lent_session() {
     let mut tally = Tally::default();
-    let held = Session::holding(1, &[GOOD; 2]).expect("good entries");
+    let held = Session::holding(1, &from_one(vec![GOOD; 2])).expect("good entries");
     let wrong = GOOD.jittered(1_049);
     for both in pairs() {
         let mut words = words_of(&held);
-        for (at, failing) in both.into_iter().enumerate() {
-            put_words(&mut words, at, &entry_with(failing, [1_048, most(&GOOD)]));
+        let entries = entries_with(both, [1_048, most(&GOOD)]);
+        for (at, entry) in entries.iter().enumerate() {
+            put_words(&mut words, at, entry);
         }
         let due = due_of(both);
         for (op, own) in [

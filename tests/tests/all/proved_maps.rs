@@ -8,6 +8,7 @@ use oracle::compare;
 use oracle::compare::session::Both;
 use oracle::gen::blocks::{blocks, hurry_one, needs_wide_groups, telling_levels};
 use oracle::gen::entries::wide_passes_after_narrow;
+use oracle::gen::numbers::from_one;
 use oracle::lent::words_of;
 use oracle::map::{by_groupings, by_groups, map_entries, passes};
 use oracle::model::{Entry, MAX_TICKS};
@@ -174,7 +175,7 @@ fn sixty_four_of_the_longest_run() {
     let mut tally = Tally::default();
     for c in [MAX_TICKS, MAX_TICKS / 2, MAX_TICKS / 13, MAX_TICKS / 64] {
         for levels in [1, 2, 63, 64] {
-            let all = [Entry::task(1, c, MAX_TICKS, MAX_TICKS); 64];
+            let all = from_one(vec![Entry::task(1, c, MAX_TICKS, MAX_TICKS); 64]);
             let file = cases::file(cases::node(levels, &all));
             compare::map(&mut tally, &file, 7, 64);
             compare::list(&mut tally, &file);

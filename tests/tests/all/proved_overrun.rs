@@ -9,13 +9,14 @@ use oracle::compare::session::Both;
 use oracle::ffi::session::Session as Proved;
 use oracle::ffi::Values;
 use oracle::gen::lent::damaged;
+use oracle::gen::numbers::from_one;
 use oracle::gen::overruns::{
     any, demand_of, heavy, largest, on_time_above, overrun_of, unhurried, Timed, LARGEST,
 };
 use oracle::lent::{session_in, words_of, Words};
 use oracle::model::{Entry, MAX_TICKS};
 use oracle::options::{rng, times};
-use oracle::refusal::{Refusal, JITTER, KIND, POSITION, ROW, TICKS};
+use oracle::refusal::{Refusal, JITTER, KIND, POSITION, REPEAT, ROW, TICKS};
 use oracle::rng::Rng;
 use oracle::session::{Reply, Session};
 use oracle::tally::Tally;
@@ -294,7 +295,7 @@ fn long_runs() {
 #[test]
 fn the_largest_overruns() {
     let mut tally = Tally::default();
-    let full = vec![Entry::task(1, MAX_TICKS, MAX_TICKS, MAX_TICKS); 64];
+    let full = from_one(vec![Entry::task(1, MAX_TICKS, MAX_TICKS, MAX_TICKS); 64]);
     for (first, last, i) in [(0, 63, 0), (0, 63, 63), (63, 63, 63), (9, 63, 40)] {
         let case = Timed {
             entries: full.clone(),
@@ -320,7 +321,7 @@ fn the_largest_overruns() {
     let mut entries = vec![Entry::task(1, 1, 1, 1); 63];
     entries.push(Entry::task(2, 1, MAX_TICKS, MAX_TICKS).blocked(MAX_TICKS - 64));
     let case = Timed {
-        entries,
+        entries: from_one(entries),
         first: 63,
         last: 63,
         i: 63,
@@ -342,7 +343,8 @@ const GOOD: Entry = Entry::task(1, 3, 9, 4);
 #[test]
 fn refusals_leave_two_places() {
     // The second would be late by 2.
-    let held = words_of(&Session::holding(2, &[GOOD; 2]).expect("good entries"));
+    let two = from_one(vec![GOOD; 2]);
+    let held = words_of(&Session::holding(2, &two).expect("good entries"));
     assert_values(&held, [0, 1, 1], (0, [0, 0, 2]));
     let plain = refused(Refusal::plain(POSITION));
     assert_eq!(plain, (12, [0; 3]));
@@ -359,6 +361,7 @@ fn refusals_leave_two_places() {
         (0, 65, ROW, 0),
         (1, 65, ROW, 0),
         (8, 3 << 16, KIND, 1),
+        (8, 1 << 16 | 1, REPEAT, 1),
         (9, 5, TICKS, 1),
         (13, 2, JITTER, 1),
         (7, 2, JITTER, 0),
@@ -377,8 +380,8 @@ fn refusals_leave_two_places() {
 #[test]
 fn values_of_any_memory() {
     let mut rng = rng(395);
-    let (mut on_time, mut late, mut numbers) = (0, 0, [0; 16]);
-    for _ in 0..times(6_000) {
+    let (mut on_time, mut late, mut numbers) = (0, 0, [0; 17]);
+    for _ in 0..times(9_000) {
         let words = damaged(&mut rng);
         let place = place(&mut rng, words[1] as usize);
         let [first, last, i] = place;
@@ -398,7 +401,8 @@ fn values_of_any_memory() {
             }
         }
     }
-    let refusals = [ROW, KIND, TICKS, POSITION, JITTER].map(|number| numbers[usize::from(number)]);
+    let refusals = [ROW, KIND, TICKS, POSITION, JITTER, REPEAT];
+    let refusals = refusals.map(|number| numbers[usize::from(number)]);
     say(format!(
         "values of any memory: {on_time} on time, {late} late, refused {refusals:?}"
     ));

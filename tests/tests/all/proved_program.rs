@@ -44,7 +44,7 @@ fn samples() {
         assert!(text == due, "{}", plan.display());
         seen += 1;
     }
-    assert_eq!(seen, 23);
+    assert_eq!(seen, 24);
 }
 
 #[test]

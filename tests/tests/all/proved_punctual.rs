@@ -11,6 +11,7 @@ use oracle::gen::damage::{byte_changes, damage, Aim, AIMS};
 use oracle::gen::entries;
 use oracle::gen::faults::{break_kind, break_ticks};
 use oracle::gen::jitter::Jitter;
+use oracle::gen::numbers::{free, held as held_number};
 use oracle::gen::overruns;
 use oracle::gen::parts::{damage_parts, PartAim, PART_AIMS};
 use oracle::gen::plans::{self, punctual as without_jitter};
@@ -313,11 +314,25 @@ fn assert_changed(tally: &mut Tally, held: &[Entry], op: &Op, due: Result<Vec<En
 fn session_changes_are_as_before() {
     let mut rng = rng(376);
     let [mut inserts, mut replacements] = [(); 2].map(|()| Tally::default());
-    for _ in 0..times(6_000) {
+    for _ in 0..times(8_000) {
         let (held, entry) = (draw_held(&mut rng), draw_entry(&mut rng));
         let inside = rng.count(0, held.len());
         let outside = held.len() + 1;
         let at = rng.pick(&[inside, inside, inside, held.len(), outside, usize::MAX]);
+        let entry = match rng.below(4) {
+            0 => Entry {
+                number: held_number(&mut rng, &held).unwrap_or(0),
+                ..entry
+            },
+            1 => Entry {
+                number: held.get(at).map_or(0, |replaced| replaced.number),
+                ..entry
+            },
+            _ => Entry {
+                number: free(&mut rng, &held),
+                ..entry
+            },
+        };
         let due = punctual::inserted(&held, at, entry);
         assert_changed(&mut inserts, &held, &Op::Insert(at, entry), due);
         let due = punctual::replaced(&held, at, entry);
@@ -325,10 +340,10 @@ fn session_changes_are_as_before() {
     }
     say(format!("inserts without J: {inserts}"));
     say(format!("replacements without J: {replacements}"));
-    for (number, least) in [(12, 1_700), (13, 400), (7, 750), (8, 750)] {
+    for (number, least) in [(12, 1_700), (13, 400), (7, 750), (8, 750), (16, 250)] {
         assert!(inserts.met(number) > times(least), "{number}: {inserts}");
     }
-    for (number, least) in [(12, 3_700), (7, 370), (8, 370)] {
+    for (number, least) in [(12, 3_700), (7, 370), (8, 370), (16, 100)] {
         let met = replacements.met(number);
         assert!(met > times(least), "{number}: {replacements}");
     }

@@ -8,8 +8,10 @@ use oracle::cases;
 use oracle::compare::session::Both;
 use oracle::ffi;
 use oracle::gen::lent::{damaged, sound};
+use oracle::gen::numbers::from_one;
 use oracle::gen::ops::{group, levels, next_op, Course};
 use oracle::lent::{words_of, SESSION_WORDS};
+use oracle::model::Entry;
 use oracle::options::{rng, times};
 use oracle::refusal::Refusal;
 use oracle::rng::Rng;
@@ -48,7 +50,7 @@ fn short_sessions() {
         walk(&mut rng, &mut tally, &mut both, Course::Short, 60);
     }
     say(format!("short sessions: {tally}"));
-    for number in [4, 7, 8, 10, 11, 12, 14] {
+    for number in [4, 7, 8, 10, 11, 12, 14, 16] {
         assert!(tally.met(number) > times(100), "{number}: {tally}");
     }
     assert!(tally.accepted() > times(10_000), "{tally}");
@@ -64,7 +66,7 @@ fn full_sessions() {
         walk(&mut rng, &mut tally, &mut both, Course::Growing, 15);
     }
     say(format!("full sessions: {tally}"));
-    for number in [7, 8, 10, 11, 12, 13, 14] {
+    for number in [7, 8, 10, 11, 12, 13, 14, 16] {
         assert!(tally.met(number) > times(20), "{number}: {tally}");
     }
     tally.assert_maps(times(200), times(150));
@@ -103,7 +105,7 @@ fn memory_from_elsewhere() {
     }
     say(format!("memory from elsewhere: {tally}"));
     tally.assert_maps(times(1_600), times(700));
-    for number in [4, 7, 8, 14] {
+    for number in [4, 7, 8, 14, 16] {
         assert!(tally.met(number) > times(1_000), "{number}: {tally}");
     }
     assert!(
@@ -117,11 +119,15 @@ fn memory_from_elsewhere() {
 fn the_order_of_the_checks() {
     let mut tally = Tally::default();
     for count in [0, 1, 4, 63, 64] {
-        let words = words_of(&Session::holding(2, &vec![GOOD; count]).unwrap());
+        let held = from_one(vec![GOOD; count]);
+        let words = words_of(&Session::holding(2, &held).unwrap());
         for position in [0, count / 2, count, count + 1, 64, 65, 1 << 32, usize::MAX] {
-            for entry in ENTRIES {
-                for op in [Op::Insert(position, entry), Op::Replace(position, entry)] {
-                    let _ = Both::of(&words).step(&mut tally, &op, 0);
+            // A free number, and those of the first, a middle and the last entry.
+            for number in [0, 1, count as u16 / 2 + 1, count as u16] {
+                for entry in ENTRIES.map(|entry| Entry { number, ..entry }) {
+                    for op in [Op::Insert(position, entry), Op::Replace(position, entry)] {
+                        let _ = Both::of(&words).step(&mut tally, &op, 0);
+                    }
                 }
             }
             let _ = Both::of(&words).step(&mut tally, &Op::Remove(position), 0);
@@ -137,7 +143,7 @@ fn the_order_of_the_checks() {
         }
     }
     say(format!("the order of the checks: {tally}"));
-    for number in [4, 7, 8, 12, 13, 14] {
+    for number in [4, 7, 8, 12, 13, 14, 16] {
         assert!(tally.met(number) > 10, "{number}: {tally}");
     }
 }

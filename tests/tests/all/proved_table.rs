@@ -107,11 +107,12 @@ fn example_12_remove_0_when_empty() {
 fn example_13_65th_insert() {
     let mut session = Session::of(&[0; SESSION_WORDS]);
     session.open(3).unwrap();
-    let entry = words::entry_words(&Entry::task(1, 1, 900, 900));
+    let entry = |number| words::entry_words(&Entry::task(number, 1, 900, 900));
     for position in 0..64 {
+        let entry = entry(position as u16);
         assert_eq!(session.insert(position, &entry), Ok(()));
     }
-    let full = session.clone();
+    let (full, entry) = (session.clone(), entry(64));
     assert_eq!(session.insert(64, &entry), Err(PLAIN(13)));
     assert_eq!(session.insert(0, &entry), Err(PLAIN(13)));
     assert_eq!(session, full);
@@ -162,6 +163,36 @@ fn example_15_p_with_j_12_sent_back() {
     assert_eq!(convert_back(&first, &mut buffer), Err(PLAIN(2)));
     assert_eq!(convert_forward(&first, &mut buffer[1..]), Err(PLAIN(10)));
     assert_eq!(buffer[..], second);
+}
+
+#[test]
+fn example_16_two_entries_numbered_12() {
+    let entry = |number| Entry::task(number, 1, 900, 900);
+    let mut file = cases::file(cases::node(1, &[entry(12), entry(13)]));
+    assert_eq!(check(&file), Ok(()));
+    file[16 + 20] = 12;
+    let due = |at| Refusal::at_entry(16, 0, at);
+    assert_eq!(check(&file), Err(due(1)));
+    let mut buffer = [0xAA; 64];
+    assert_eq!(convert_forward(&file, &mut buffer), Err(due(1)));
+    assert_eq!(convert_back(&file, &mut buffer), Err(due(1)));
+    let rows = words::of_rows(&[cases::node(1, &[entry(12); 2]).row()]);
+    let entries = |number| words::of_entries(&[entry(12), entry(number)]);
+    assert_eq!(write(1, &rows, &entries(12), &mut buffer), Err(due(1)));
+    assert_eq!(buffer, [0xAA; 64]);
+    assert_eq!(write(1, &rows, &entries(13), &mut buffer), Ok(56));
+    let mut session = Session::of(&[0; SESSION_WORDS]);
+    session.open(1).unwrap();
+    let words = |number| words::entry_words(&entry(number));
+    assert_eq!(session.insert(0, &words(12)), Ok(()));
+    assert_eq!(session.insert(1, &words(12)), Err(due(1)));
+    assert_eq!(session.insert(0, &words(12)), Err(due(0)));
+    assert_eq!(session.insert(1, &words(13)), Ok(()));
+    assert_eq!(session.replace(1, &words(12)), Err(due(1)));
+    assert_eq!(session.replace(0, &words(12)), Ok(()));
+    session.words[6] = words(12)[0];
+    assert_eq!(session.map(&mut [0; 2]).map(|_| ()), Err(due(1)));
+    assert_eq!(session.time(0, 0, 0).map(|_| ()), Err(due(1)));
 }
 
 #[test]

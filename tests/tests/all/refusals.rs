@@ -75,7 +75,7 @@ fn every_number_is_met() {
         note_session(&mut rng, Course::Short, 30, &mut tally);
     }
     for _ in 0..times(20) {
-        note_session(&mut rng, Course::Growing, 400, &mut tally);
+        note_session(&mut rng, Course::Growing, 600, &mut tally);
     }
     say(&tally);
     for number in 1..=NUMBERS {

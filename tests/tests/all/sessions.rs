@@ -85,7 +85,7 @@ fn short_sessions() {
     for _ in 0..times(300) {
         walk(&mut rng, Course::Short, 60, &mut tally);
     }
-    for number in [4, 7, 8, 10, 11, 12, 14] {
+    for number in [4, 7, 8, 10, 11, 12, 14, 16] {
         assert!(tally.met(number) > times(50), "{tally}");
     }
     assert!(tally.accepted() > times(5_000), "{tally}");
@@ -97,7 +97,7 @@ fn sessions_that_fill_up() {
     let mut tally = Tally::default();
     let mut rng = rng(91);
     for _ in 0..times(20) {
-        let longest = walk(&mut rng, Course::Growing, 450, &mut tally);
+        let longest = walk(&mut rng, Course::Growing, 600, &mut tally);
         assert_eq!(longest, 64);
     }
     assert!(tally.met(13) > times(100), "{tally}");

@@ -3,7 +3,7 @@
 use oracle::cases;
 use oracle::file::{check, convert_back, encode, write};
 use oracle::map::map_node;
-use oracle::model::{Entry, Plan};
+use oracle::model::{Entry, Node, Plan};
 use oracle::refusal::Refusal;
 use oracle::session::Session;
 
@@ -99,7 +99,8 @@ fn example_12_remove_0_when_empty() {
 fn example_13_65th_insert() {
     let mut session = Session::open(3).unwrap();
     for position in 0..64 {
-        assert_eq!(session.insert(position, Entry::task(1, 1, 9, 9)), Ok(()));
+        let entry = Entry::task(position as u16, 1, 9, 9);
+        assert_eq!(session.insert(position, entry), Ok(()));
     }
     let full = session.clone();
     for position in 0..=64 {
@@ -168,4 +169,31 @@ fn example_15_p_with_j_12_sent_back() {
     let on_time = cases::second_file(cases::p());
     assert_eq!(convert_back(&on_time, &mut buffer), Ok(76));
     assert_eq!(buffer[..], cases::file(cases::p()));
+}
+
+#[test]
+fn example_16_two_entries_numbered_12() {
+    let entries = |number| [Entry::task(12, 1, 9, 9), Entry::task(number, 2, 9, 9)];
+    let plan = |number| Plan::first(vec![cases::e(), node_8(&entries(number))]);
+    let due = Refusal::at_entry(16, 1, 1);
+    assert_eq!(encode(&plan(12)), Err(due));
+    let mut file = encode(&plan(13)).unwrap();
+    assert_eq!(check(&file), Ok(()));
+    file[24 + 20] = 12;
+    assert_eq!(check(&file), Err(due));
+    assert_eq!(convert_back(&file, &mut []), Err(due));
+    let due = |at| Err(Refusal::at_entry(16, 0, at));
+    let mut session = Session::holding(1, &entries(13)).unwrap();
+    assert_eq!(Session::holding(1, &entries(12)).map(|_| ()), due(1));
+    assert_eq!(session.insert(2, entries(12)[1]), due(2));
+    assert_eq!(session.replace(1, entries(12)[1]), due(1));
+    assert_eq!(session.replace(0, entries(12)[1]), Ok(()));
+}
+
+/// A node with number 8 and one level.
+fn node_8(entries: &[Entry]) -> Node {
+    Node {
+        number: 8,
+        ..cases::node(1, entries)
+    }
 }

@@ -203,7 +203,7 @@ fn refused_files() {
             compare_file(&mut tally, &damage(&mut rng, &plan, &[aim, second]).file);
         }
     }
-    for number in (1..=8).chain([14]) {
+    for number in (1..=8).chain([14, 16]) {
         assert!(tally.met(number) > times(100), "{number}: {tally}");
     }
     let file = encode(&plans::small(&mut rng)).expect("a good plan");
@@ -274,7 +274,7 @@ fn sessions() {
             assert_eq!(buffer, due_buffer, "{}", lent());
         }
     }
-    for number in [4, 7, 8, 10, 11, 12, 13, 14] {
+    for number in [4, 7, 8, 10, 11, 12, 13, 14, 16] {
         assert!(tally.met(number) > times(10), "{number}: {tally}");
     }
 }

@@ -16,8 +16,8 @@ returns-2 c = sym (node-sizes _ _ (λ h1 h2 h3. omega arith))
 abbrev at-start : tie.Then3 → tie.Start
 at-start c = c .before .before .before .before
 
-abbrev at-start-2 : tie.After-check-entries → tie.Start
-at-start-2 c = c .before .before .before .before .before
+abbrev at-start-2 : tie.After-check-body → tie.Start
+at-start-2 c = c .before .before .before .before .before .before
 
 returns-3 : tie.Need-returns-3
 returns-3 c =
@@ -27,7 +27,7 @@ returns-3 c =
 returns-4 : tie.Need-returns-4
 returns-4 c =
     let a = at-start-2 c .args in
-    c .check-entries .ensures
+    c .check-body .ensures
     ∙ sym (node-entries _ _ (omega arith) (omega arith) (omega (arith, length-entries (a .words .now) 0 (a .count))))
 
 pub check-words-spec : {M : Type 1} → statement M

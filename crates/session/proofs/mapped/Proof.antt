@@ -19,7 +19,7 @@ module _ (c : tie.After-enum-told) where
   lent = sym (c .before .before .check-words .ensures) ∙ ap outcome (c .enum-told .given .1)
 
   within : NodeHolds (nodeIn (at-start .args .t1))
-  within = node-accepted 0 _ .0 lent
+  within = node-accepted 0 _ .0 lent .within
 
 returns : tie.Need-returns
 returns c =

@@ -16,9 +16,10 @@ use measure::Table;
 use oracle::ffi;
 use oracle::file::{decode, edition_of, encode};
 use oracle::gen::entries;
+use oracle::gen::numbers;
 use oracle::gen::plans;
 use oracle::listing::MOST_TEXT;
-use oracle::model::{Edition, Entry};
+use oracle::model::{Edition, Entry, Plan, MAX_ENTRIES};
 use oracle::rng::Rng;
 use rows::{Checking, Converting, Listing, Mapping, Reading, Writing};
 use stations::{mapped_entries, one_node, station, Starts};
@@ -70,10 +71,14 @@ fn maps(table: &mut Table, rng: &mut Rng, starts: Starts) {
     }
 }
 
-/// Checking, reading, writing and converting the longest plan of an edition.
+/// Checking, reading, writing and converting the longest plan of an edition, with
+/// random numbers of the entries; checking and writing it also with others.
 /// Returns how the times of converting and of reading compare.
 fn longest(table: &mut Table, rng: &mut Rng, edition: Edition) -> Option<String> {
     let plan = plans::longest_in(rng, edition);
+    // From another generator: the stations that are drawn later stay the same.
+    let mut others = Rng::new(14);
+    let plan = numbered(plan, || numbers::random(&mut others, MAX_ENTRIES));
     let file = &encode(&plan).expect("a good plan");
     let what = match edition {
         Edition::First => "the longest plan, 32 nodes of 64 entries",
@@ -82,6 +87,24 @@ fn longest(table: &mut Table, rng: &mut Rng, edition: Edition) -> Option<String>
     table.row(&Checking { file, what });
     let read = table.row(&Reading { file, what });
     table.row(&Writing::of(file, what));
+    // The second kind has the same low bits, so that marks by low bits tell
+    // nothing.
+    let kinds = [
+        ("numbered 1 to 64", (1..=64).collect()),
+        (
+            "with numbers congruent modulo 1,024",
+            numbers::congruent(MAX_ENTRIES, 1_024, 7),
+        ),
+    ];
+    for (kind, drawn) in kinds {
+        let plan: Plan = numbered(plan.clone(), || Vec::clone(&drawn));
+        let (file, what) = (
+            &encode(&plan).expect("a good plan"),
+            &format!("{what}, {kind}"),
+        );
+        table.row(&Checking { file, what });
+        table.row(&Writing::of(file, what));
+    }
     let way = way(edition);
     let name = format!("convert the longest plan {way}, 32 nodes of 64 entries");
     let converted = table.row(&Converting::of(plan, edition, name));
@@ -89,6 +112,14 @@ fn longest(table: &mut Table, rng: &mut Rng, edition: Edition) -> Option<String>
     Some(format!(
         "converting the longest plan {way}: {ratio:.2} of the time of reading it, goal 2.00 or less"
     ))
+}
+
+/// The plan with these numbers in each node.
+fn numbered(mut plan: Plan, mut draw: impl FnMut() -> Vec<u16>) -> Plan {
+    for node in &mut plan.nodes {
+        node.entries = numbers::with(node.entries.clone(), &draw());
+    }
+    plan
 }
 
 /// The way out of an edition.

@@ -4,6 +4,7 @@ use native.Mathlib.Omega.{arith}
 use lib.ListN.{length, drop}
 use borrow.Author.Needs.{needs}
 use Rattle.refusals.specs.Refusals.{outcome}
+use Rattle.task_model.specs.Checks.{eachBy}
 use Rattle.byte_words.proofs.Runs.{AtHand, run-none}
 use Rattle.plan_file.specs.declared.Edition.the-variants.{First, Second}
 use Rattle.plan_file.specs.Plan.{entryCount}
@@ -19,8 +20,8 @@ abbrev Inv-loop : tie.InvT-loop
 Inv-loop file nodes start₀ row₀ start row =
     (row ≤ nodes)
     × (start + entryCount (drop row (rowsFrom file 0 nodes)) * entryLength Second ≤ length file)
-    × (bodies (lossCheck First) (entriesAt Second file) start row (drop row (rowsFrom file 0 nodes))
-    ≡ bodies (lossCheck First) (entriesAt Second file) (bodiesStart nodes) 0 (rowsFrom file 0 nodes))
+    × (bodies (eachBy (lossCheck First)) (entriesAt Second file) start row (drop row (rowsFrom file 0 nodes))
+    ≡ bodies (eachBy (lossCheck First)) (entriesAt Second file) (bodiesStart nodes) 0 (rowsFrom file 0 nodes))
 
 abbrev μ-loop : tie.MeasureT-loop
 μ-loop file nodes start₀ row₀ start row = nodes - row
@@ -47,7 +48,7 @@ returns c =
     let told = ap outcome (c .enum-told2 .given .1) in
     let k = after-row-at c in
     told
-    ∙ sym (bodies-here (lossCheck First) (entries-run Second _) (at-row k) _ _ refl _ (sym (c .before .before .check-body .ensures) ∙ told))
+    ∙ sym (bodies-here (eachBy (lossCheck First)) (entries-run Second _) (at-row k) _ _ refl _ (sym (c .before .before .check-body .ensures) ∙ told))
     ∙ at-loop k .loop .inv .2
 
 loop-again : tie.Need-loop-again Inv-loop μ-loop
@@ -56,14 +57,14 @@ loop-again c =
       omega arith,
       omega (arith, count-here (at-row k)),
       sym
-          (bodies-here (lossCheck First) (entries-run Second _) (at-row k) _ _ (omega arith) _
+          (bodies-here (eachBy (lossCheck First)) (entries-run Second _) (at-row k) _ _ (omega arith) _
           (sym (c .before .before .check-body .ensures) ∙ ap outcome (c .enum-told .given .1)))
           ∙ at-loop k .loop .inv .2,
     )
 
 returns-2 : tie.Need-returns-2 Inv-loop μ-loop
 returns-2 c =
-    sym (bodies-end (lossCheck First) (entries-run Second _) _ _ _ (run-none (rows-run _) _ _ _ (c .loop-test .left))) ∙ c .before .loop .inv .2
+    sym (bodies-end (eachBy (lossCheck First)) (entries-run Second _) _ _ _ (run-none (rows-run _) _ _ _ (c .loop-test .left))) ∙ c .before .loop .inv .2
 
 pub check-losses-spec : {M : Type 1} → statement M
 check-losses-spec =

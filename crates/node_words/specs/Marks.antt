@@ -1,0 +1,6 @@
+-- The size of the table of marks. A reader need not believe this: only the `requires` of internal functions use it.
+use Prim.Native.Nat.{ℕ}
+
+-- How many marks there are.
+abbrev pub markCount : ℕ
+markCount = 1024
