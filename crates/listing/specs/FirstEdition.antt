@@ -1,4 +1,5 @@
--- The listing of a file as it was before there was a second edition and entries had a jitter.
+-- The listing of a file as it was before there was a second edition and entries had a jitter, but for the check of numbers (16),
+-- which came later.
 use Prim.Native.Nat.{ℕ}
 use mathlib.Core.List.{List}
 use Rattle.completion.specs.WithoutJitter.{punctualTest}

@@ -1,4 +1,4 @@
--- The size of the table of marks. A reader need not believe this: only the `requires` of internal functions use it.
+-- The size of the table of marks. A reader need not believe this: no public entry uses it.
 use Prim.Native.Nat.{ℕ}
 
 -- How many marks there are.

@@ -108,7 +108,7 @@ pub fn check_entries(row: usize, words: &[u32], first: usize, count: usize) -> C
 }
 
 // Checks `count` entries, from entry `first` of the words on: each of them (7, 8, 14), then their numbers (16).
-pub fn check_body(
+fn check_body(
     row: usize,
     words: &[u32],
     first: usize,

@@ -1,17 +1,21 @@
 -- Theorems of 16: a file, and a plan to be written, is refused so exactly if everything before has passed and a number repeats.
+-- And what the place of a refused entry says, now that a row's numbers come before the next row.
 use Prim.Native.Nat.{ℕ, suc, _+_, _*_, _<_}
-use mathlib.Core.Path.{_≡_, _∙_, refl, sym}
-use mathlib.Core.Bool.{Bool, _&&_}
-use mathlib.Core.Logic.{_↔_}
+use mathlib.Core.Path.{_≡_, _∙_, refl, sym, ap}
+use mathlib.Core.Bool.{Bool, true, _&&_}
+use mathlib.Core.Logic.{⊎-elim, _↔_}
 use mathlib.Core.List.{List, [], _∷_}
 use native.Mathlib.Omega.{arith}
 use lib.ListN.{length}
 use lib.Dec.{leb, eqb}
 use Rattle.refusals.specs.Refusals.{Numbered, at, Outcome, accepted, refused, mustHold}
-use Rattle.refusals.proofs.Outcomes.{Never, never-must, never-then, after-never, then-accepted, not-both}
+use Rattle.refusals.proofs.Outcomes.{Never, either, never-must, never-then, after-never, then-accepted, not-both}
 use Rattle.task_model.specs.declared.Entry.{Entry}
-use Rattle.task_model.specs.Limits.{EntryHolds, NumbersDiffer, FirstRepeat}
-use Rattle.task_model.specs.Checks.{entryCheck, bodyBy}
+use Rattle.task_model.specs.Limits.{entryAt, EntryHolds, NumbersDiffer, FirstRepeat}
+use Rattle.task_model.specs.Checks.{entryCheck, eachBy, bodyBy}
+use Rattle.task_model.proofs.Laws.{body-entries, body-numbers}
+use Rattle.task_model.proofs.Each.{each-refused}
+use Rattle.task_model.proofs.Numbers.{numbers-refused}
 use Rattle.task_model.proofs.Theorems.{entry-accepted, entry-never, body-exactly, sixteen-row, repeat-exactly}
 use Rattle.node_words.specs.Words.{entrySize}
 use Rattle.plan_file.specs.declared.Edition.{Edition}
@@ -23,8 +27,9 @@ use Rattle.plan_file.specs.Decoding.{editionOf, nodeCount, offsetAt, row
 use Rattle.plan_file.specs.Check.{countTest, zerosTest, rowTest, rowsCheck, contentsCheck, bodiesBy, headerBy, headerCheck, opensTest, layoutCheck, fileCheck, writtenCheck, writerCheck}
 use Rattle.plan_file.specs.Find.{nodeOfRow}
 use Rattle.plan_file.specs.Limits.{EditionFits}
+use Rattle.plan_file.proofs.File.{file-bodies}
 use Rattle.plan_file.proofs.Bodies.{Each, part, bodies-refused, refused-at}
-use Rattle.plan_file.proofs.WriterChecks.{tally, written-accepted, regrouped}
+use Rattle.plan_file.proofs.WriterChecks.{tally, written-accepted, regrouped, writer-nodes}
 
 -- Row `i` has the first repeat of a plan, at position `j`, where each entry is as P says: in the rows before it each entry is,
 -- and the numbers of each row are all different; in row `i` each entry is.
@@ -63,6 +68,43 @@ module _ (check : ℕ → ℕ → Entry → Outcome) (P : Entry → Type 0)
         (h .there) (h .before)
         (let z : 0 + i ≡ i = omega arith in rw z (repeat-exactly check P one i _ (never i) j .1 (h .fields, h .first))),
   )
+
+-- The refusal r is that of the first entry, row by row and entry by entry, that is not as P says; the numbers of each row before
+-- are all different.
+pub record FieldIn (check : ℕ → ℕ → Entry → Outcome) (P : Entry → Type 0) (p : Plan) (r : Numbered) : Type 0 where
+  pub row : ℕ
+  pub position : ℕ
+  pub there : row < length (p .rows)
+  pub inside : position < length (nodeOfRow p row .entries)
+  pub refuses : check row position (entryAt (nodeOfRow p row .entries) position) ≡ refused r
+  pub before : (j : ℕ) → j < position → P (entryAt (nodeOfRow p row .entries) j)
+  pub rowsBefore : (k : ℕ) → k < row → Each P (nodeOfRow p k .entries) × NumbersDiffer (nodeOfRow p k .entries)
+
+pub rows-field : (check : ℕ → ℕ → Entry → Outcome) (P : Entry → Type 0)
+    → ((row p : ℕ) (e : Entry) → check row p e ≡ accepted ↔ P e) → (p : Plan) (r : Numbered) → (r .number ≡ 16 → ⊥)
+    → bodiesBy (bodyBy check) 0 (p .rows) (p .entries) ≡ refused r → FieldIn check P p r
+unfolding nodeOfRow
+rows-field check P one p r other a =
+    let t = bodies-refused (bodyBy check) (λ es. Each P es × NumbersDiffer es) (body-exactly check P one) 0 (p .rows) (p .entries) r a in
+    let z : 0 + t .row ≡ t .row = omega arith in
+    let es = part (p .rows) (p .entries) (t .row) in
+    let b : bodyBy check (t .row) es ≡ refused r = rw z at (t .refuses) in
+    ⊎-elim
+    (λ c.
+    let n = numbers-refused (t .row) es r (sym (body-numbers check (t .row) es c) ∙ b) in
+    absurd (other (ap (λ (x : Numbered). x .number) (n .2))))
+    (λ q.
+    let f = each-refused (check (t .row)) (λ i e. P e) (one (t .row)) es r (q .1 ∙ sym (body-entries check (t .row) es (q .0) (q .1)) ∙ b) in
+    record {
+      row = t .row;
+      position = f .0;
+      there = t .there;
+      inside = f .1;
+      refuses = f .3;
+      before = f .2;
+      rowsBefore = t .rowsBefore;
+    })
+    (either (eachBy check (t .row) es))
 
 -- 16 is not of a file's header and rows
 header-never : (b : Bool) (f : List ℕ) → Never 16 (headerBy b f)
@@ -135,3 +177,19 @@ writer-repeat ed rows entries words i j =
           (h .0, l .0, rep .0 (l .1)),
       λ h. regrouped ed rows entries words ∙ then-accepted _ _ (h .0) ∙ then-accepted _ _ (h .1) ∙ rep .1 (h .2),
     )
+
+-- A file whose header and rows pass, and which is refused as another number, has that of its first entry at fault. So an entry
+-- of a row is named only if no row before has a repeat.
+pub file-field : (f : List ℕ) (r : Numbered) → (r .number ≡ 16 → ⊥) → headerCheck f ≡ accepted
+    → layoutCheck (entryLength (editionOf f)) f 0 0 (bodiesStart (nodeCount f)) (rowsIn f) ≡ accepted
+    → fileCheck f ≡ refused r → FieldIn entryCheck EntryHolds (planIn f) r
+file-field f r other h l a = rows-field entryCheck EntryHolds entry-accepted (planIn f) r other (sym (file-bodies f h l) ∙ a)
+
+-- And so has a plan to be written.
+pub writer-field : (ed : Edition) (p : Plan) (words : ℕ) (r : Numbered) → (r .number ≡ 16 → ⊥)
+    → countTest (length (p .rows)) ≡ true → tally (p .rows) words ≡ accepted
+    → writerCheck ed (p .rows) (p .entries) words ≡ refused r
+    → FieldIn (writtenCheck ed) (λ e. EntryHolds e × EditionFits ed e) p r
+writer-field ed p words r other h l a =
+    rows-field (writtenCheck ed) (λ e. EntryHolds e × EditionFits ed e) (written-accepted ed) p r other
+    (sym (writer-nodes ed (p .rows) (p .entries) words h l) ∙ a)

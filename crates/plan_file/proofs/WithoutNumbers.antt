@@ -1,6 +1,7 @@
 -- How the checks of files and plans relate to those before entry numbers were checked.
 use Prim.Native.Nat.{ℕ, suc, _*_, _<_}
-use mathlib.Core.Path.{_≡_, _∙_, refl, sym, ap, ap₂}
+use mathlib.Core.Path.{_≡_, _∙_, refl, sym, ap₂}
+use mathlib.Core.Bool.{false}
 use mathlib.Core.Logic.{_↔_}
 use mathlib.Core.List.{List, [], _∷_}
 use native.Mathlib.Omega.{arith}
@@ -8,19 +9,23 @@ use lib.ListN.{length, take, drop}
 use Rattle.refusals.specs.Refusals.{Outcome, accepted, _andThen_}
 use Rattle.task_model.specs.declared.Entry.{Entry}
 use Rattle.task_model.specs.Limits.{NumbersDiffer}
-use Rattle.task_model.specs.Checks.{entryCheck, eachBy, bodyBy}
+use Rattle.task_model.specs.Checks.{entryCheck, bodyBy}
+use Rattle.task_model.specs.WithoutJitter.{Punctual, punctualCheck}
 use Rattle.task_model.proofs.WithoutNumbers.{body-differ}
 use Rattle.node_words.specs.Words.{entrySize}
 use Rattle.plan_file.specs.declared.Edition.{Edition}
+use Rattle.plan_file.specs.declared.Edition.the-variants.{Second}
 use Rattle.plan_file.specs.declared.Row.{Row}
 use Rattle.plan_file.specs.Plan.{Plan, entryCount}
-use Rattle.plan_file.specs.Decoding.{nodeCount, rowsIn, entriesIn, planIn}
+use Rattle.plan_file.specs.Decoding.{openingTest, nodeCount, planIn}
 use Rattle.plan_file.specs.Check.{bodiesBy, nodesBy, fileCheck, writtenCheck, writerCheck, planCheck}
 use Rattle.plan_file.specs.Find.{nodeOfRow}
-use Rattle.plan_file.specs.WithoutNumbers.{PlanNumbersDiffer, looseFileCheck, looseWriterCheck}
+use Rattle.plan_file.specs.WithoutNumbers.{PlanNumbersDiffer, looseFileCheck, looseWriterCheck, loosePlanCheck, looseFirstCheck, looseFirstWriterCheck}
+use Rattle.plan_file.specs.FirstEdition.{firstEditionCheck, firstEditionPlan, firstWriterCheck}
 use Rattle.plan_file.proofs.Bodies.{part, part-later}
 use Rattle.plan_file.proofs.Contents.{length-rows}
 use Rattle.plan_file.proofs.Limits.{plan-holds}
+use Rattle.plan_file.proofs.FirstEdition.{first-edition, first-plan, writer-punctual}
 use Rattle.plan_file.proofs.Theorems.{numbers-differ}
 
 -- row by row, by any check of one entry
@@ -58,12 +63,24 @@ file-fewer f = (
 )
 
 -- And so is a plan.
-pub plan-fewer : (ed : Edition) (p : Plan) (words : ℕ) → words ≡ length (p .entries) * entrySize
-    → planCheck ed p ≡ accepted ↔ ((looseWriterCheck ed (p .rows) (p .entries) words ≡ accepted) × PlanNumbersDiffer p)
-plan-fewer ed p words e =
-    rw e (
-      λ a.
-          let d : PlanNumbersDiffer p = λ i h. plan-holds ed p a .0 .nodes i h .numbers in
-          (sym (writer-differ ed p (length (p .entries) * entrySize) d) ∙ a, d),
-      λ h. writer-differ ed p (length (p .entries) * entrySize) (h .1) ∙ h .0,
-    )
+pub plan-fewer : (ed : Edition) (p : Plan) → planCheck ed p ≡ accepted ↔ ((loosePlanCheck ed p ≡ accepted) × PlanNumbersDiffer p)
+plan-fewer ed p = (
+  λ a.
+      let d : PlanNumbersDiffer p = λ i h. plan-holds ed p a .0 .nodes i h .numbers in
+      (sym (writer-differ ed p (length (p .entries) * entrySize) d) ∙ a, d),
+  λ h. writer-differ ed p (length (p .entries) * entrySize) (h .1) ∙ h .0,
+)
+
+-- A file that does not open with the second edition's bytes, and whose numbers are all different, is checked as it was before
+-- there was a second edition,
+pub first-differ : (f : List ℕ) → openingTest Second f ≡ false → PlanNumbersDiffer (planIn f) → fileCheck f ≡ looseFirstCheck f
+unfolding firstEditionCheck looseFirstCheck
+first-differ f p d =
+    let e : PlanNumbersDiffer (firstEditionPlan f) = rw (first-plan f p) at d in
+    first-edition f p ∙ rw (rows-differ punctualCheck (firstEditionPlan f) e)
+
+-- and so is a plan to be written whose every J is 0.
+pub first-writer-differ : (ed : Edition) (p : Plan) (words : ℕ) → Punctual (p .entries) → PlanNumbersDiffer p
+    → writerCheck ed (p .rows) (p .entries) words ≡ looseFirstWriterCheck (p .rows) (p .entries) words
+unfolding firstWriterCheck looseFirstWriterCheck
+first-writer-differ ed p words h d = writer-punctual ed (p .rows) (p .entries) words h ∙ rw (rows-differ punctualCheck p d)

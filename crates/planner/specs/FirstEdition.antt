@@ -1,4 +1,5 @@
--- Mapping a node of a file as it was before entries had a release jitter, and before there was a second edition.
+-- Mapping a node of a file as it was before entries had a release jitter, and before there was a second edition, but for the
+-- check of numbers (16), which came later.
 use Prim.Native.Nat.{ℕ}
 use mathlib.Core.List.{List}
 use lib.ListN.{length}

@@ -6,3 +6,5 @@ pub mod Writing
 pub mod FileMap
 pub mod Converted
 pub mod Timed
+-- Worked cases of repeated numbers, over files, conversions and sessions.
+pub mod NumberCases

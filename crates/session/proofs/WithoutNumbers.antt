@@ -2,6 +2,7 @@
 use mathlib.Core.Path.{_≡_, _∙_, refl, sym, ap, ap₂}
 use mathlib.Core.Bool.{true≢false}
 use mathlib.Core.Logic.{_↔_}
+use mathlib.Core.List.{List, [], _∷_}
 use lib.ListN.{length}
 use lib.Dec.{leb, ltb}
 use Rattle.refusals.specs.Refusals.{at, Outcome, accepted, refused, _andThen_, mustHold}
@@ -13,6 +14,7 @@ use Rattle.task_model.proofs.WithoutNumbers.{node-differ, node-fewer}
 use Rattle.node_words.specs.Lists.{removeAt}
 use Rattle.session.specs.Operations.{
   Rules,
+  rules,
   Change,
   inserting,
   removing,
@@ -30,8 +32,8 @@ use Rattle.session.specs.Operations.{
 }
 use Rattle.session.specs.declared.Session.{Session}
 use Rattle.session.specs.State.{nodeIn}
-use Rattle.session.specs.Steps.{sessionMade, sessionAfterBy}
-use Rattle.session.specs.WithoutNumbers.{looseChangeBy, looseOperationBy, looseLentBy, looseStepBy, looseAfterBy, NewNumber, NumbersOnce}
+use Rattle.session.specs.Steps.{sessionMade, sessionAfterBy, sessionAfterAll, answersOf}
+use Rattle.session.specs.WithoutNumbers.{looseChangeBy, looseOperationBy, looseLentBy, looseStepBy, looseAfterBy, NewNumber, NumbersOnce, looseAfterAll, looseAnswersOf, AllOnce}
 use Rattle.session.proofs.Numbers.{other-exactly}
 use Rattle.session.proofs.Checking.{others-free, others-new}
 
@@ -108,3 +110,15 @@ module _ (by : Rules) (n : Node) where
 pub session-differ : (by : Rules) (o : Operation) (s : Session) → NumbersOnce o (nodeIn s) → sessionAfterBy by o s ≡ looseAfterBy by o s
 unfolding sessionAfterBy looseAfterBy
 session-differ by o s once = ap (λ x. elim x [ accepted ↦ sessionMade o s | refused r ↦ s ]) (step-differ by (nodeIn s) o once)
+
+-- And so do the answers and the contents of any sequence of operations.
+pub sequence-differ : (os : List Operation) (s : Session) → AllOnce os s
+    → (answersOf os s ≡ looseAnswersOf os s) × (sessionAfterAll os s ≡ looseAfterAll os s)
+unfolding answersOf looseAnswersOf sessionAfterAll looseAfterAll
+sequence-differ [] s once = (refl, refl)
+sequence-differ (o ∷ os) s once =
+    let e = session-differ rules o s (once .0) in
+    let t = sequence-differ os (looseAfterBy rules o s) (once .1) in (
+      ap₂ (λ a rest. a ∷ rest) (step-differ rules (nodeIn s) o (once .0)) (ap (answersOf os) e ∙ t .0),
+      ap (sessionAfterAll os) e ∙ t .1,
+    )

@@ -2,7 +2,7 @@
 -- present checks are these wherever no number occurs twice; by `step-fewer` they accept nothing else.
 use Prim.Native.Nat.{ℕ, _<_}
 use mathlib.Core.Path.{_≡_}
-use mathlib.Core.List.{List}
+use mathlib.Core.List.{List, [], _∷_}
 use lib.ListN.{length}
 use lib.Dec.{leb, ltb}
 use Rattle.refusals.specs.Refusals.{at, Outcome, accepted, refused, _andThen_, mustHold}
@@ -56,10 +56,6 @@ looseLentBy by (asking q) n = looseNodeBy (by .check) 0 n
 unfoldable pub looseStepBy : Rules → Operation → Node → Outcome
 looseStepBy by o n = looseLentBy by o n andThen looseOperationBy by o n
 
--- The same by the rules of a session.
-abbrev pub looseStepCheck : Operation → Node → Outcome
-looseStepCheck o n = looseStepBy rules o n
-
 -- The session after an operation. A refused operation leaves it as it was.
 unfoldable pub looseAfterBy : Rules → Operation → Session → Session
 looseAfterBy by o s =
@@ -80,3 +76,17 @@ abbrev pub NumbersOnce : Operation → Node → Type 0
 NumbersOnce (opening levels) n = Unit
 NumbersOnce (changing c) n = NumbersDiffer (n .entries) × NewNumber c (n .entries)
 NumbersOnce (asking q) n = NumbersDiffer (n .entries)
+
+-- The session after a sequence of operations, and their answers.
+unfoldable pub looseAfterAll : List Operation → Session → Session
+looseAfterAll [] s = s
+looseAfterAll (o ∷ os) s = looseAfterAll os (looseAfterBy rules o s)
+
+unfoldable pub looseAnswersOf : List Operation → Session → List Outcome
+looseAnswersOf [] s = []
+looseAnswersOf (o ∷ os) s = looseStepBy rules o (nodeIn s) ∷ looseAnswersOf os (looseAfterBy rules o s)
+
+-- In a sequence of operations no number ever occurs twice.
+abbrev pub AllOnce : List Operation → Session → Type 0
+AllOnce [] s = Unit
+AllOnce (o ∷ os) s = NumbersOnce o (nodeIn s) × AllOnce os (looseAfterBy rules o s)

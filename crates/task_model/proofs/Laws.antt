@@ -13,7 +13,7 @@ use Rattle.task_model.specs.declared.Entry.{Entry}
 use Rattle.refusals.specs.Refusals.{Numbered, at, Outcome, accepted, refused}
 use Rattle.refusals.proofs.Outcomes.{either, then-refused, then-accepted, both-accepted}
 use Rattle.task_model.specs.Limits.{mostTicks, mostLevels, mostEntries, Node, TimesHold, JitterHolds}
-use Rattle.task_model.specs.Checks.{kindTest, timesTest, jitterTest, entryTest, entryCheck, entriesBy, entriesCheck, numbersCheck, bodyBy, sizeTest, nodeCheckBy, nodeCheck, bodyCheck}
+use Rattle.task_model.specs.Checks.{kindTest, timesTest, jitterTest, entryTest, entryCheck, entriesBy, numbersCheck, bodyBy, sizeTest, nodeCheckBy, nodeCheck, bodyCheck}
 
 -- 7
 module _ (kind calls : ℕ) where

@@ -1,16 +1,16 @@
 -- Laws of the numbers of entries: where a number occurs, and what their check says.
 use Prim.Native.Nat.{ℕ, zero, suc, _+_, _≤_, _<_}
 use mathlib.Core.Path.{_≡_, _∙_, refl, sym, ap}
-use mathlib.Core.Bool.{Bool, true, false, not, _||_, true≢false}
-use mathlib.Core.Logic.{inl, inr, ⊎-elim, _↔_}
+use mathlib.Core.Bool.{Bool, true, false, _||_, true≢false}
+use mathlib.Core.Logic.{⊎-elim, _↔_}
 use mathlib.Core.List.{List, [], _∷_, _++_}
 use native.Mathlib.Omega.{arith}
 use lib.ListN.{length, take}
 use lib.Seq.{getD-take, length-take-le}
 use lib.Dec.{eqb, ltb}
-use borrow.Author.Tests.{eqb-true, eq-eqb, ne-eqb, ltb-true, ltb-false}
-use Rattle.refusals.specs.Refusals.{Numbered, at, accepted, refused, mustHold}
-use Rattle.refusals.proofs.Outcomes.{either, not-both, mustHold-accepts, mustHold-refuses, demanded}
+use borrow.Author.Tests.{eqb-true, eq-eqb, ltb-true, ltb-false}
+use Rattle.refusals.specs.Refusals.{Numbered, at, accepted, refused}
+use Rattle.refusals.proofs.Outcomes.{either, not-both}
 use Rattle.task_model.specs.declared.Entry.{Entry}
 use Rattle.task_model.specs.Limits.{noEntry, entryAt, Repeats, NumbersDiffer, FirstRepeat}
 use Rattle.task_model.specs.Checks.{hasNumber, numberCheck, numbersCheck}

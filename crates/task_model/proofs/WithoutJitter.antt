@@ -6,7 +6,7 @@ use mathlib.Core.List.{List, [], _∷_}
 use native.Mathlib.Omega.{arith}
 use lib.ListN.{length}
 use Rattle.task_model.specs.declared.Entry.{Entry}
-use Rattle.refusals.specs.Refusals.{at, Outcome, _andThen_, mustHold}
+use Rattle.refusals.specs.Refusals.{at, _andThen_, mustHold}
 use Rattle.task_model.specs.Limits.{Node, JitterHolds}
 use Rattle.task_model.specs.Checks.{kindTest, timesTest, jitterTest, entryCheck, entriesBy, numbersCheck, bodyBy, sizeTest, nodeCheckBy, nodeCheck}
 use Rattle.task_model.specs.WithoutJitter.{Punctual, punctualCheck}

@@ -1,12 +1,12 @@
 -- How the checks relate to those before entry numbers were checked.
 use Prim.Native.Nat.{ℕ}
-use mathlib.Core.Path.{_≡_, _∙_, refl, sym, ap}
+use mathlib.Core.Path.{_≡_, _∙_, sym, ap}
 use mathlib.Core.Logic.{_↔_}
 use mathlib.Core.List.{List}
 use lib.ListN.{length}
 use Rattle.task_model.specs.declared.Entry.{Entry}
-use Rattle.refusals.specs.Refusals.{at, Outcome, accepted, refused, _andThen_, mustHold}
-use Rattle.refusals.proofs.Outcomes.{then-assoc, then-nothing, both-accepted, then-accepted}
+use Rattle.refusals.specs.Refusals.{at, Outcome, accepted, _andThen_, mustHold}
+use Rattle.refusals.proofs.Outcomes.{then-assoc, then-nothing, both-accepted}
 use Rattle.task_model.specs.Limits.{Node, NumbersDiffer}
 use Rattle.task_model.specs.Checks.{entriesBy, numbersCheck, bodyBy, sizeTest, nodeCheckBy}
 use Rattle.task_model.specs.WithoutNumbers.{looseNodeBy}

@@ -5,13 +5,9 @@ use lib.ListN.{length}
 use Rattle.task_model.specs.declared.Entry.{Entry}
 use Rattle.refusals.specs.Refusals.{at, Outcome, _andThen_, mustHold}
 use Rattle.task_model.specs.Limits.{Node}
-use Rattle.task_model.specs.Checks.{entryCheck, entriesBy, sizeTest}
+use Rattle.task_model.specs.Checks.{entriesBy, sizeTest}
 
 -- A node: first its counts of levels and entries (4), then its entries, each by a check of one entry.
 unfoldable pub looseNodeBy : (ℕ → ℕ → Entry → Outcome) → ℕ → Node → Outcome
 looseNodeBy check row n =
     mustHold (sizeTest (n .levels) (length (n .entries))) (at 4 row 0) andThen entriesBy (check row) 0 (n .entries)
-
--- The same, each entry by the check of an entry.
-abbrev pub looseNodeCheck : ℕ → Node → Outcome
-looseNodeCheck row n = looseNodeBy entryCheck row n
