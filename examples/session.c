@@ -68,6 +68,18 @@ static void try_jitter(maiplur_session *session) {
     show_change("replace", maiplur_session_replace(session, 1, too_late, values), values);
 }
 
+/* A copied row keeps its number, so the copy is refused until it gets one of its own. */
+static void try_copy(maiplur_session *session) {
+    static const uint32_t copied[6] = {TASK + 1, 1, 500, 500, 0, 0};
+    static const uint32_t renumbered[6] = {TASK + 4, 1, 500, 500, 0, 0};
+    size_t values[3];
+    show_change("insert", maiplur_session_insert(session, 2, copied, values), values);
+    show_change("insert", maiplur_session_insert(session, 2, renumbered, values), values);
+    show_change("replace", maiplur_session_replace(session, 2, renumbered, values), values);
+    show_change("replace", maiplur_session_replace(session, 2, copied, values), values);
+    show_change("remove", maiplur_session_remove(session, 2, values), values);
+}
+
 /* Refused changes leave the session as it is. */
 static void try_refused(maiplur_session *session) {
     static const uint32_t long_run[6] = {TASK + 4, 6, 10, 5, 0, 0};
@@ -99,6 +111,7 @@ int main(void) {
     show_time(&session);
     try_changes(&session);
     try_jitter(&session);
+    try_copy(&session);
     try_refused(&session);
     return 0;
 }

@@ -99,7 +99,7 @@ fn change_line(name: &str, answer: Result<(), Refusal>) -> String {
 }
 
 /// Case P, then case R, then R without its second task and with one level, then
-/// with jitter, then refused changes.
+/// with jitter, then with a copied row, then refused changes.
 #[test]
 fn c_session() {
     let program = compiled_c("examples/session.c", "session_c");
@@ -116,6 +116,12 @@ fn c_session() {
     due += &change_line("replace", session.replace(1, late(49)));
     due += &map_line(&session);
     due += &change_line("replace", session.replace(1, late(70)));
+    let tail = |number| Entry::task(number, 1, 500, 500);
+    due += &change_line("insert", session.insert(2, tail(1)));
+    due += &change_line("insert", session.insert(2, tail(4)));
+    due += &change_line("replace", session.replace(2, tail(4)));
+    due += &change_line("replace", session.replace(2, tail(1)));
+    due += &change_line("remove", session.remove(2));
     due += &change_line("insert", session.insert(1, Entry::task(4, 6, 10, 5)));
     due += &change_line("remove", session.remove(2));
     due += &change_line("set levels", session.set_levels(0));
