@@ -9,10 +9,11 @@ use lib.ListN.{length}
 use lib.Dec.{leb}
 use borrow.Author.Tests.{lt-ltb, le-ltb, le-leb, lt-leb, eq-eqb, ne-eqb}
 use Rattle.task_model.specs.declared.Entry.{Entry}
-use Rattle.task_model.specs.Limits.{entryAt}
+use Rattle.task_model.specs.Limits.{entryAt, AllHold}
 use Rattle.completion.specs.Demand.{sumTo, only, moreUrgent, sharesLevel, higherLevelInterference, sameLevelInterference, demandWith, initialTimeWith}
 use Rattle.completion.specs.Group.{IsGroup, groupLevel}
-use Rattle.completion.proofs.Sums.{sumTo-none, sumTo-between, sumTo-flat, sumTo-up}
+use Rattle.completion.proofs.Sums.{sumTo-none, sumTo-more, sumTo-between, sumTo-flat, sumTo-up, part-le}
+use Rattle.completion.proofs.Releases.{same-level-some, same-level-once}
 
 -- A named group is the group of each entry in it.
 module _ (first last : ℕ) where
@@ -52,6 +53,10 @@ demandIn b es first last i t =
     entryAt es i .wcet + b + sumTo (higherLevelIn es t) first
     + (sumTo (sameLevelIn es i t) i - sumTo (sameLevelIn es i t) first)
     + (sumTo (sameLevelIn es i t) (last + 1) - sumTo (sameLevelIn es i t) (i + 1))
+
+-- The demand of an entry of the group, with the blocking b, if each entry of the group runs once.
+abbrev pub demandOnce : ℕ → List Entry → ℕ → ℕ → ℕ → ℕ
+demandOnce b es first last t = b + sumTo (higherLevelIn es t) first + (sumTo (wcetIn es) (last + 1) - sumTo (wcetIn es) first)
 
 module _ (es : List Entry) (first last i : ℕ) (lv : ℕ → ℕ) (g : IsGroup (length es) first last i lv)
     (hf : first ≤ i) (hi : i ≤ last) (hl : last < length es) where
@@ -102,3 +107,25 @@ module _ (es : List Entry) (first last i : ℕ) (lv : ℕ → ℕ) (g : IsGroup 
       let low = sumTo-between f (wcetIn es) 0 (last + 1) zero-le (λ j l u. rw (le-leb (lv j) (lv i) (not-above j (omega arith)))) in
       let high = sumTo-flat f (last + 1) (length es) (omega arith) (λ j l u. rw (lt-leb (lv j) (lv i) (g .after j (omega arith) u))) in
       omega (arith, sumTo-none f, sumTo-none (wcetIn es))
+
+  -- The demand is never less than with one run of each entry of the group, and no more for an entry with no calls.
+  module _ (all : AllHold es) (b t : ℕ) where
+    own-once : sumTo (wcetIn es) i + entryAt es i .wcet ≡ sumTo (wcetIn es) (i + 1)
+        × (sumTo (wcetIn es) first ≤ sumTo (wcetIn es) i) × (sumTo (wcetIn es) (i + 1) ≤ sumTo (wcetIn es) (last + 1))
+    own-once = (sym (sumTo-more (wcetIn es) i), sumTo-up (wcetIn es) first i hf, sumTo-up (wcetIn es) (i + 1) (last + 1) (omega arith))
+
+    pub demand-once : 1 ≤ t → demandOnce b es first last t ≤ demandWith b es lv i t
+    demand-once p =
+        let some : (j : ℕ) → j < last + 1 → wcetIn es j ≤ sameLevelIn es i t j =
+        λ j l. same-level-some (entryAt es j) (all j (omega arith)) (entryAt es i .calls) t p in
+        let left = part-le (wcetIn es) (sameLevelIn es i t) first i hf (λ j l. some j (omega arith)) in
+        let right = part-le (wcetIn es) (sameLevelIn es i t) (i + 1) (last + 1) (omega arith) some in
+        omega (arith, demand-in b t, own-once)
+
+    pub demand-no-calls : entryAt es i .calls ≡ 0 → demandWith b es lv i t ≤ demandOnce b es first last t
+    demand-no-calls z =
+        let once : (j : ℕ) → j < last + 1 → sameLevelIn es i t j ≤ wcetIn es j =
+        λ j l. same-level-once (entryAt es j) (all j (omega arith)) (entryAt es i .calls) t z in
+        let left = part-le (sameLevelIn es i t) (wcetIn es) first i hf (λ j l. once j (omega arith)) in
+        let right = part-le (sameLevelIn es i t) (wcetIn es) (i + 1) (last + 1) (omega arith) once in
+        omega (arith, demand-in b t, own-once)

@@ -62,6 +62,16 @@ module _ (e : Entry) (h : EntryHolds e) where
       let m : min (releases e 1) (calls + 1) ≡ 1 = omega (arith, releases-one e periodic 1 (omega arith) in-first) in
       rw m (mul-one (e .wcet))
 
+  -- from the first tick on at least one run, and no more for an entry with no calls
+  pub same-level-some : (calls t : ℕ) → 1 ≤ t → e .wcet ≤ sameLevelInterference e calls t
+  same-level-some calls t p = omega (arith, same-level-first calls, same-level-up calls 1 t p)
+
+  pub same-level-once : (calls t : ℕ) → calls ≡ 0 → sameLevelInterference e calls t ≤ e .wcet
+  unfolding sameLevelInterference
+  same-level-once calls t z =
+      let m : min (releases e t) (calls + 1) ≤ 1 = omega arith in
+      rw mul-one at (mul-le-mul-left (e .wcet) m)
+
   -- at most t + J + T, since C is at most T
   pub higher-level-most : (t : ℕ) → t ≤ mostTicks → higherLevelInterference e t ≤ mostInterference
   unfolding higherLevelInterference releases ceilDiv

@@ -1,11 +1,11 @@
 -- The theorems of the completion time test. They hold for any levels of the entries and any blocking of the timed entry.
 -- Theorems about a group hold for any group bounds.
-use Prim.Native.Nat.{ℕ, _+_, _-_, _≤_, _<_}
+use Prim.Native.Nat.{ℕ, _+_, _-_, _≤_, _<_, zero-le}
 use mathlib.Core.Path.{_≡_, _∙_, refl, ap, sym}
 use mathlib.Core.Bool.{true, false, false≢true}
 use mathlib.Core.Logic.{_↔_, by-cases}
 use mathlib.Core.List.{List}
-use native.Mathlib.Nat.{le-refl, le-trans}
+use native.Mathlib.Nat.{le-refl, le-trans, le-antisymm}
 use native.Mathlib.Decide.{decLt}
 use native.Mathlib.Omega.{arith}
 use lib.ListN.{length}
@@ -14,7 +14,7 @@ use Rattle.task_model.specs.declared.Entry.{Entry}
 use Rattle.task_model.specs.Limits.{entryAt, AllHold}
 use Rattle.completion.specs.Demand.{sumTo, demandWith, initialTimeWith}
 use Rattle.completion.specs.Group.{IsGroup, groupLevel}
-use Rattle.completion.specs.Test.{Completion, on-time, late, limit, overrun, testWith, isOnTime, roundsIn, roundsBound}
+use Rattle.completion.specs.Test.{Completion, on-time, late, limit, overrun, testWith, isOnTime, roundsIn, timeIn, roundsBound}
 use Rattle.completion.specs.Rounds.{iterates, FixedIn, LateIn}
 use Rattle.completion.specs.Right.{LeastTime, NoTime, LateBy, RightWith}
 use Rattle.completion.proofs.Bounds.{limit-due}
@@ -24,7 +24,7 @@ use Rattle.completion.proofs.Iteration.{Least, test-least}
 use Rattle.completion.proofs.Rounds.{iterates-ahead, fixed-in, late-in, rounds-due, rounds-bounded}
 use Rattle.completion.proofs.Interference.{demand-up, demand-some, initial-first, later, later-up, later-strict}
 use Rattle.completion.proofs.Alike.{test-alike, initial-alike, demand-alike, demandIn-same}
-use Rattle.completion.proofs.Groups.{higherLevelIn, sameLevelIn, wcetIn, named-group, demand-in, initial-in}
+use Rattle.completion.proofs.Groups.{higherLevelIn, sameLevelIn, wcetIn, named-group, demand-in, initial-in, demand-once, demand-no-calls}
 
 -- an answer is on time or late
 module _ {A : Type 0} where
@@ -106,6 +106,30 @@ module _ (b : ℕ) (es : List Entry) (all : AllHold es) (level : ℕ → ℕ) (i
         (λ time rounds e. let l = completion-least time rounds e in absurd (h time (l .due) (omega (arith, l .equal))))
         (λ rounds over e. ap isOnTime e),
   )
+
+  -- The completion time is the first time whose demand is at most that time, if it is up to the limit,
+  pub time-at : (t : ℕ) → t ≤ limit (entryAt es i) → demandWith b es level i t ≤ t
+      → ((u : ℕ) → demandWith b es level i u ≤ u → t ≤ u) → timeIn (testWith b es level i) ≡ t
+  time-at t due h first =
+      by-answer (testWith b es level i)
+      (λ time rounds e.
+      let l = completion-least time rounds e in
+      ap timeIn e ∙ le-antisymm (l .first t h) (first time (omega (arith, l .equal))))
+      (λ rounds over e. absurd (late-none .0 (ap isOnTime e) t due h))
+
+  -- and 0 if there is none up to the limit.
+  pub time-late : NoTime b es level i → timeIn (testWith b es level i) ≡ 0
+  time-late h =
+      by-answer (testWith b es level i)
+      (λ time rounds e. absurd (false≢true (sym (late-none .1 h) ∙ ap isOnTime e)))
+      (λ rounds over e. ap timeIn e)
+
+  -- So no time whose demand is at most that time is before it.
+  pub time-least : (t : ℕ) → demandWith b es level i t ≤ t → timeIn (testWith b es level i) ≤ t
+  time-least t h =
+      by-answer (testWith b es level i)
+      (λ time rounds e. rw e (completion-least time rounds e .first t h))
+      (λ rounds over e. rw e zero-le)
 
   -- A demand at the limit of at most the limit means on time. The converse fails (`overrunCases` of level_map).
   pub on-time-limit : demandWith b es level i (limit (entryAt es i)) ≤ limit (entryAt es i) → isOnTime (testWith b es level i) ≡ true
@@ -234,3 +258,22 @@ widen b es all first first′ last i le hf hi known =
       sumTo-up (higherLevelIn es t) first′ first le,
       sumTo-up (sameLevelIn es i t) first i hf,
     ))
+
+-- In one group, an entry j with no remote calls has the least demand for its blocking. So it ends no later than another entry
+-- i with no less blocking: its completion time is one before which the other does not end.
+module _ (es : List Entry) (all : AllHold es) (first last i j : ℕ) (fi : first ≤ i) (il : i ≤ last) (fj : first ≤ j) (jl : j ≤ last)
+    (known : last < length es) (none : entryAt es j .calls ≡ 0) (b b′ : ℕ) (less : b′ ≤ b) where
+  pub less-demand : (t : ℕ) → 1 ≤ t → demandWith b′ es (groupLevel first last) j t ≤ demandWith b es (groupLevel first last) i t
+  less-demand t p =
+      let n = length es in
+      let lv = groupLevel first last in
+      omega (
+        arith,
+        demand-no-calls es first last j lv (named-group first last n j fj jl) fj jl known all b′ t none,
+        demand-once es first last i lv (named-group first last n i fi il) fi il known all b t p,
+      )
+
+  pub later-ends : (t : ℕ) → demandWith b es (groupLevel first last) i t ≤ t → timeIn (testWith b′ es (groupLevel first last) j) ≤ t
+  later-ends t h =
+      let some = demand-some es all (groupLevel first last) i (omega arith) b t in
+      time-least b′ es all (groupLevel first last) j (omega arith) t (le-trans (less-demand t (le-trans some h)) h)

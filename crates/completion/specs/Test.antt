@@ -71,6 +71,11 @@ abbrev pub overrunIn : Completion → ℕ
 overrunIn (on-time time rounds) = 0
 overrunIn (late rounds overrun) = overrun
 
+-- The completion time of an entry that is on time; 0 if the entry is late. No completion time is 0.
+abbrev pub timeIn : Completion → ℕ
+timeIn (on-time time rounds) = time
+timeIn (late rounds overrun) = 0
+
 -- The bound on rounds: 1 plus the sum of ⌈ (D of i + J) / T ⌉ - 1 over all entries but i on its own and more urgent levels.
 unfoldable pub roundsBound : List Entry → (ℕ → ℕ) → ℕ → ℕ
 roundsBound es level i =

@@ -13,10 +13,10 @@ use Rattle.task_model.specs.Limits.{entryAt, EntryHolds, AllHold}
 use Rattle.completion.specs.Demand.{releases, sumTo, higherLevelInterference, demandWith, initialTimeWith}
 use Rattle.completion.specs.Group.{groupLevel}
 use Rattle.on_time.specs.Utilisation.{fullUtilisation, utilisation, recurringUtilisation, recurringWcet, recurringJitter}
-use Rattle.completion.proofs.Releases.{releases-more, higher-level-first, higher-level-up, same-level-first, same-level-up}
-use Rattle.completion.proofs.Sums.{sumTo-none, sumTo-suc, sumTo-more, sumTo-up, sumTo-le, part-le}
+use Rattle.completion.proofs.Releases.{releases-more, higher-level-first, higher-level-up}
+use Rattle.completion.proofs.Sums.{sumTo-none, sumTo-suc, sumTo-up, sumTo-le}
 use Rattle.completion.proofs.Interference.{demand-some}
-use Rattle.completion.proofs.Groups.{higherLevelIn, sameLevelIn, wcetIn, named-group, demand-in, initial-in}
+use Rattle.completion.proofs.Groups.{higherLevelIn, wcetIn, named-group, initial-in, demand-once}
 
 -- t + J ticks are covered by the periods that begin in them
 covered : (e : Entry) → 1 ≤ e .period → (t : ℕ) → t + e .jitter ≤ e .period * releases e t
@@ -109,15 +109,6 @@ recurring-sum d es t (suc n) p h =
     ))
 
 module _ (es : List Entry) (all : AllHold es) (first last i : ℕ) (hf : first ≤ i) (hi : i ≤ last) (hl : last < length es) where
-  once : (t a b : ℕ) → 1 ≤ t → a ≤ b → b ≤ last + 1
-      → sumTo (wcetIn es) b - sumTo (wcetIn es) a ≤ sumTo (sameLevelIn es i t) b - sumTo (sameLevelIn es i t) a
-  once t a b p ab l =
-      part-le (wcetIn es) (sameLevelIn es i t) a b ab
-      (λ j k.
-      let e = entryAt es j in
-      let ok = all j (omega arith) in
-      omega (arith, same-level-first e ok (entryAt es i .calls), same-level-up e ok (entryAt es i .calls) 1 t p))
-
   -- The jobs that the utilisation stands for are among those of the initial time.
   pub runs-within : (d : ℕ) → sumTo (runIn d es) first ≤ sumTo (wcetIn es) first
   runs-within d = sumTo-le (runIn d es) (wcetIn es) first (λ j k. run-most d (entryAt es j))
@@ -129,15 +120,11 @@ module _ (es : List Entry) (all : AllHold es) (first last i : ℕ) (hf : first �
       ≤ fullUtilisation * demandWith b es (groupLevel first last) i t
   demand-utilisation b d t p =
       let g = named-group first last (length es) i hf hi in
-      let named = demand-in es first last i (groupLevel first last) g hf hi hl b t in
+      let least = demand-once es first last i (groupLevel first last) g hf hi hl all b t p in
       let begin = initial-in es first last i (groupLevel first last) g hf hi hl b in
       omega (
         arith,
-        once t first i p hf (omega arith),
-        once t (i + 1) (last + 1) p (omega arith) (omega arith),
-        sumTo-more (wcetIn es) i,
-        sumTo-up (wcetIn es) first i hf,
-        sumTo-up (wcetIn es) (i + 1) (last + 1) (omega arith),
+        sumTo-up (wcetIn es) first (last + 1) (omega arith),
         runs-within d,
         recurring-sum d es t first p (λ j k. all j (omega arith)),
       )
