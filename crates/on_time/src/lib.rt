@@ -1,19 +1,19 @@
-// Does an entry meet its deadline? The answer without its completion time takes far fewer rounds than the test: a small
-// plan can have entries of 10^9 rounds, and a search asks about many of them. An entry is on time exactly if its demand is
-// at most t at some time t up to its limit ('met at t' below).
+// Does an entry meet its deadline, and when does it end? The answer without its rounds takes far fewer evaluations than the
+// test: a small plan can have entries of 10^9 rounds, and a search asks about many of them. An entry is on time exactly if
+// its demand is at most t at some time t up to its limit ('met at t' below), and the first such time is its completion time.
 use completion::demand_at;
 use completion::limit_of;
 use node_words::NodeWords;
 use node_words::entry_at;
 use task_model::Entry;
 ghost use mathlib.Core.Path.{_≡_};
-ghost use Prim.Native.Nat.{ℕ, _+_, _-_, _*_, _≤_, _<_, min};
+ghost use Prim.Native.Nat.{ℕ, _+_, _-_, _*_, _≤_, _<_, min, max};
 ghost use Rattle.task_model.specs.Limits.{mostTicks, mostEntries, entryAt, AllHold, EntryHolds};
 ghost use Rattle.node_words.specs.Words.{entryOf, entriesOf};
 ghost use Rattle.completion.specs.Demand.{sumTo, demandWith, initialTimeWith};
 ghost use Rattle.completion.specs.Group.{groupLevel, InGroup};
-ghost use Rattle.completion.specs.Test.{limit, testWith, isOnTime};
-ghost use Rattle.on_time.specs.Deciding.{isMet};
+ghost use Rattle.completion.specs.Test.{limit, testWith, isOnTime, timeIn};
+ghost use Rattle.on_time.specs.Deciding.{isMet, hasTime, endingTime};
 ghost use Rattle.on_time.specs.Utilisation.{fullUtilisation, recurringUtilisation, recurringWcet, recurringJitter, WorkFits};
 ghost use Rattle.on_time.specs.StartBound.{startBound};
 
@@ -21,6 +21,12 @@ ghost use Rattle.on_time.specs.StartBound.{startBound};
 pub enum Deadline {
     Met,
     Missed,
+}
+
+// When an entry ends, if it does by its limit.
+enum Ending {
+    At(u32),
+    Late,
 }
 
 // A utilisation of 1, in units of 2^-34. With a finer unit the numbers of `completion_bound` would not fit in 64 bits.
@@ -129,9 +135,10 @@ fn completion_bound(words: &NodeWords, first: usize, limit: u32, initial: u64) -
     by_utilisation
 }
 
-// Follows the rounds of the entry at `i` from `begin` on. Before `begin` its demand is not met. `begin` is as late as the
-// utilisation allows (`WorkFits`): from an earlier time the answer would be the same, after many more rounds.
-fn met_from(
+// Follows the rounds of the entry at `i` from `begin` on, up to the time at which it ends. Before `begin` its demand is not
+// met. `begin` is as late as the utilisation allows (`WorkFits`): from an earlier time the answer would be the same, after
+// many more rounds.
+fn end_from(
     words: &NodeWords,
     count: usize,
     first: usize,
@@ -139,26 +146,29 @@ fn met_from(
     i: usize,
     blocking: u32,
     begin: u64,
-) -> Deadline
+) -> Ending
     requires { ⌜ AllHold (entriesOf (now words) count) ⌝ ∗ ⌜ InGroup count first last i ⌝
         ∗ ⌜ 1 ≤ begin ⌝
         ∗ ⌜ (begin ≤ limit (entryAt (entriesOf (now words) count) i) →
         WorkFits (now words) first (limit (entryAt (entriesOf (now words) count) i))
         (initialTimeWith blocking (entriesOf (now words) count) (groupLevel first last) i) begin) ⌝
         ∗ ⌜ ((t : ℕ) → demandWith blocking (entriesOf (now words) count) (groupLevel first last) i t ≤ t → begin ≤ t) ⌝ }
-    ensures { λ a.
-        ⌜ isMet a ≡ isOnTime (testWith blocking (entriesOf (now (words .entry)) count) (groupLevel first last) i) ⌝ }
+    ensures timed { λ a.
+        ⌜ endingTime a ≡ timeIn (testWith blocking (entriesOf (now (words .entry)) count) (groupLevel first last) i) ⌝ }
+    ensures decided { λ a.
+        ⌜ hasTime a ≡ isOnTime (testWith blocking (entriesOf (now (words .entry)) count) (groupLevel first last) i) ⌝ }
 {
     let limit = limit_of(entry_at(words, i)) as u64;
     let mut t = begin;
     while t <= limit {
-        let next = demand_at(words, count, first, last, i, blocking, t as u32);
+        let time = t as u32;
+        let next = demand_at(words, count, first, last, i, blocking, time);
         if next <= t {
-            return Deadline::Met;
+            return Ending::At(time);
         }
         t = next;
     }
-    Deadline::Missed
+    Ending::Late
 }
 
 // Does the entry at `i` end by its limit, in the group from `first` to `last`, with a blocking of `blocking` ticks? The
@@ -187,7 +197,57 @@ pub fn ends_on_time(
         return Deadline::Met;
     }
     let begin = completion_bound(words, first, limit, initial);
-    met_from(words, count, first, last, i, blocking, begin)
+    let Ending::At(_) = end_from(words, count, first, last, i, blocking, begin) else {
+        return Deadline::Missed;
+    };
+    Deadline::Met
+}
+
+// The later of two times.
+fn larger(a: u64, b: u64) -> u64
+    ensures { λ x. ⌜ x ≡ max a b ⌝ }
+{
+    if a < b {
+        return b;
+    }
+    a
+}
+
+// When the entry at `i` ends, in the group from `first` to `last`, with a blocking of `blocking` ticks; 0 if it is late.
+// `runs` is the sum of C up to `last`. `known` is a time before which it does not end, or 0: by the law `later-ends`, the
+// completion time of an entry of the group with no remote calls and no more blocking. Many entries end at the first time that
+// is tried. The others do not end before the demand at that time, nor before the bound, which spares them most rounds.
+pub fn completion_time(
+    words: &NodeWords,
+    count: usize,
+    first: usize,
+    last: usize,
+    i: usize,
+    blocking: u32,
+    runs: u64,
+    known: u32,
+) -> u32
+    requires { ⌜ AllHold (entriesOf (now words) count) ⌝ ∗ ⌜ InGroup count first last i ⌝
+        ∗ ⌜ runs ≡ sumTo (λ j. entryOf (now words) j .wcet) (last + 1) ⌝
+        ∗ ⌜ ((t : ℕ) → demandWith blocking (entriesOf (now words) count) (groupLevel first last) i t ≤ t → known ≤ t) ⌝ }
+    ensures { λ t. ⌜ t ≡ timeIn (testWith blocking (entriesOf (now (words .entry)) count) (groupLevel first last) i) ⌝ }
+{
+    let limit = limit_of(entry_at(words, i));
+    let initial = blocking as u64 + runs;
+    let early = larger(initial, known as u64);
+    if (limit as u64) < early {
+        return 0;
+    }
+    let next = demand_at(words, count, first, last, i, blocking, early as u32);
+    if next <= early {
+        return early as u32;
+    }
+    let bound = completion_bound(words, first, limit, initial);
+    let begin = larger(next, bound);
+    let Ending::At(time) = end_from(words, count, first, last, i, blocking, begin) else {
+        return 0;
+    };
+    time
 }
 
 // One past the last entry i < end with D - J < B + runs, or 0, where `runs` is the sum of C before `end`. That entry is late

@@ -1,16 +1,12 @@
-use Prim.Native.Nat.{_+_, _≤_}
-use mathlib.Core.Path.{_≡_, sym}
+use Prim.Native.Nat.{_+_}
+use mathlib.Core.Path.{_∙_, sym, ap}
 use native.Mathlib.Nat.{le-refl}
 use native.Mathlib.Omega.{arith}
 use borrow.Author.Needs.{needs}
-use Rattle.task_model.specs.Limits.{mostTicks, entryAt}
-use Rattle.node_words.specs.Words.{entriesOf}
 use Rattle.node_words.proofs.Entries.{all-fewer}
-use Rattle.completion.specs.Demand.{initialTimeWith}
-use Rattle.completion.specs.Group.{groupLevel}
-use Rattle.completion.specs.Test.{limit}
-use Rattle.completion.proofs.Words.{words-hold, words-limit, words-due, words-begin, wcet-small}
-use Rattle.on_time.proofs.Early.{initial-runs, late-initial, on-time-at, not-earlier, runs-below}
+use Rattle.on_time.specs.Deciding.{hasTime}
+use Rattle.completion.proofs.Words.{words-hold, wcet-small}
+use Rattle.on_time.proofs.Early.{Opening, opens, late-initial, on-time-at, not-earlier, runs-below}
 use Rattle.on_time.proofs.ends_on_time.Statement.{statement}
 use Rattle.on_time.proofs.ends_on_time.Tie as tie
 
@@ -25,16 +21,11 @@ module _ (c : tie.After-limit-of) where
   abbrev at-start : tie.Start
   at-start = c .before .before
 
-  few : (1 ≤ c .limit-of .result) × (c .limit-of .result ≤ mostTicks)
-  few = words-limit _ _ (at-start .pre .0) _ (omega arith) _ (c .before .entry-at .ensures) _ (c .limit-of .ensures)
-
-  due : limit (entryAt (entriesOf (at-start .args .words .now) (at-start .args .count)) (at-start .args .i)) ≡ c .limit-of .result
-  due = words-due _ _ (at-start .pre .0) _ (omega arith) _ (c .before .entry-at .ensures) _ (c .limit-of .ensures)
-
-  begins : at-start .args .blocking + at-start .args .runs
-      ≡ initialTimeWith (at-start .args .blocking) (entriesOf (at-start .args .words .now) (at-start .args .count))
-      (groupLevel (at-start .args .first) (at-start .args .last)) (at-start .args .i)
-  begins = initial-runs _ _ (at-start .pre .0) _ _ _ (omega arith) (omega arith) (omega arith) _ _ due _ (at-start .pre .1 .1)
+  opened : Opening (at-start .args .words .now) (at-start .args .count) (at-start .args .first) (at-start .args .last) (at-start .args .i)
+      (at-start .args .blocking) (c .limit-of .result) (at-start .args .blocking + at-start .args .runs)
+  opened =
+      opens _ _ (at-start .pre .0) _ _ _ (omega arith) (omega arith) (omega arith) _ (c .before .entry-at .ensures) _ (c .limit-of .ensures) _ _
+      (at-start .pre .1 .1)
 
 add-initial : tie.Need-add-initial
 add-initial c =
@@ -48,12 +39,12 @@ cast-if1 c = search needs
 returns : tie.Need-returns
 returns c =
     let k = c .before in
-    sym (late-initial _ _ (at-start k .pre .0) _ _ _ (omega arith) (omega arith) (omega arith) _ _ (due k) _ (begins k) (c .if1 .taken))
+    sym (late-initial _ _ (at-start k .pre .0) _ _ _ (omega arith) (omega arith) (omega arith) _ _ (opened k .due) _ (opened k .begins) (c .if1 .taken))
 
 demand-at-requires : tie.Need-demand-at-requires
 demand-at-requires c κs =
     let p = at-start (c .before) .pre in
-    (p .0, ((omega arith, omega arith, omega arith, omega arith), few (c .before)))
+    (p .0, ((omega arith, omega arith, omega arith, omega arith), opened (c .before) .few))
 
 cast-if2 : tie.Need-cast-if2
 cast-if2 c = search needs
@@ -61,7 +52,7 @@ cast-if2 c = search needs
 returns-2 : tie.Need-returns-2
 returns-2 c =
     let k = c .before .before .before in
-    sym (on-time-at _ _ (at-start k .pre .0) _ _ _ (omega arith) (omega arith) (omega arith) _ _ (due k) _ _ (le-refl _)
+    sym (on-time-at _ _ (at-start k .pre .0) _ _ _ (omega arith) (omega arith) (omega arith) _ _ (opened k .due) _ _ (le-refl _)
     (c .before .demand-at .ensures) (c .if2 .taken))
 
 completion-bound-requires : tie.Need-completion-bound-requires
@@ -72,9 +63,9 @@ completion-bound-requires c κs =
       (
         omega arith,
         (
-          runs-below _ _ (p .0) _ _ _ (omega arith) (omega arith) (omega arith) _ _ (due k) _ _ (begins k) (omega arith),
+          runs-below _ _ (p .0) _ _ _ (omega arith) (omega arith) (omega arith) _ _ (opened k .due) _ _ (opened k .begins) (omega arith),
           omega (arith, c .before .before .if1 .left),
-          few k .1,
+          opened k .few .1,
         ),
       ),
     )
@@ -83,31 +74,34 @@ completion-bound-requires c κs =
 abbrev after-limit-of : tie.After-completion-bound → tie.After-limit-of
 after-limit-of c = c .before .before .before .before
 
-met-from-requires : tie.Need-met-from-requires
-met-from-requires c κs =
+end-from-requires : tie.Need-end-from-requires
+end-from-requires c κs =
     let k = after-limit-of c in
-    let p = at-start k .pre in
-    let a = at-start k .args in (
+    let p = at-start k .pre in (
       p .0,
       (
         (omega arith, omega arith, omega arith, omega arith),
         (
-          omega (
-            arith,
-            begins k,
-            c .completion-bound .ensures .0,
-            words-begin _ _ (p .0) (a .first) (a .last) (a .i) (omega arith) (omega arith) (a .blocking) .0,
-          ),
+          omega (arith, opened k .some, c .completion-bound .ensures .0),
           (
-            rw (due k, ← begins k) (c .completion-bound .ensures .2),
-            not-earlier _ _ (p .0) _ _ _ (omega arith) (omega arith) (omega arith) _ _ (due k) _ _ (begins k) (c .completion-bound .ensures .1),
+            rw (opened k .due, ← opened k .begins) (c .completion-bound .ensures .2),
+            not-earlier _ _ (p .0) _ _ _ (omega arith) (omega arith) (omega arith) _ _ (opened k .due) _ _ (opened k .begins) (c .completion-bound .ensures .1),
           ),
         ),
       ),
     )
 
+enum-told : tie.Need-enum-told
+enum-told c = search needs
+
+enum-told-2 : tie.Need-enum-told-2
+enum-told-2 c = search needs
+
 returns-3 : tie.Need-returns-3
-returns-3 c = search needs
+returns-3 c = sym (ap hasTime (c .enum-told2 .given .1)) ∙ c .before .before .end-from .ensures .1
+
+returns-4 : tie.Need-returns-4
+returns-4 c = sym (ap hasTime (c .enum-told .given .1)) ∙ c .before .before .end-from .ensures .1
 
 pub ends-on-time-spec : {M : Type 1} → statement M
 ends-on-time-spec =
@@ -122,5 +116,8 @@ ends-on-time-spec =
     cast-if2
     returns-2
     completion-bound-requires
-    met-from-requires
-    returns-3)
+    end-from-requires
+    enum-told
+    enum-told-2
+    returns-3
+    returns-4)

@@ -1,24 +1,19 @@
-use Prim.Native.Nat.{ℕ, _+_, _-_, _≤_}
-use mathlib.Core.Path.{_≡_, sym}
-use native.Mathlib.Nat.{le-trans}
+use Prim.Native.Nat.{_+_, _-_, _≤_}
+use mathlib.Core.Path.{_≡_}
 use native.Mathlib.Omega.{arith}
 use borrow.Author.Needs.{needs}
 use Rattle.task_model.specs.Limits.{mostTicks, entryAt}
 use Rattle.node_words.specs.Words.{entriesOf}
-use Rattle.completion.specs.Demand.{demandWith}
-use Rattle.completion.specs.Group.{groupLevel}
 use Rattle.completion.specs.Test.{limit}
-use Rattle.completion.proofs.Words.{words-hold, words-limit, words-due, words-up}
-use Rattle.on_time.proofs.Early.{late-after, on-time-at}
-use Rattle.on_time.proofs.met_from.Statement.{statement}
-use Rattle.on_time.proofs.met_from.Tie as tie
+use Rattle.completion.proofs.Words.{words-hold, words-limit, words-due}
+use Rattle.on_time.proofs.Early.{NotBefore, not-before-next, ends-at, ends-late}
+use Rattle.on_time.proofs.end_from.Statement.{statement}
+use Rattle.on_time.proofs.end_from.Tie as tie
 
 -- the demand is met at no time before t
 abbrev Inv-loop : tie.InvT-loop
 Inv-loop words count first last i blocking begin limit t₀ t =
-    ((u : ℕ) → demandWith blocking (entriesOf words count) (groupLevel first last) i u ≤ u → t ≤ u)
-    × (1 ≤ t)
-    × (limit ≤ mostTicks)
+    NotBefore blocking words count first last i t × (1 ≤ t) × (limit ≤ mostTicks)
 
 abbrev μ-loop : tie.MeasureT-loop
 μ-loop words count first last i blocking begin limit t₀ t = limit + 1 - t
@@ -42,8 +37,8 @@ loop-holds c =
     let p = c .before .before .pre in
     (p .1 .1 .1 .1, p .1 .1 .0, words-limit _ _ (p .0) _ (omega arith) _ (c .before .entry-at .ensures) _ (c .limit-of .ensures) .1)
 
-cast-demand-at : tie.Need-cast-demand-at Inv-loop μ-loop
-cast-demand-at c = omega arith
+cast-time : tie.Need-cast-time Inv-loop μ-loop
+cast-time c = omega arith
 
 -- places that the needs look back to
 abbrev at-start : tie.In-loop Inv-loop μ-loop → tie.Start Inv-loop μ-loop
@@ -60,19 +55,18 @@ demand-at-requires c κs =
 returns : tie.Need-returns Inv-loop μ-loop
 returns c =
     let l = after-limit-of c in
-    sym (on-time-at _ _ (l .before .before .pre .0) _ _ _ (omega arith) (omega arith) (omega arith) _ _ (due l) _ _
-    (c .before .before .loop-test .taken) (c .before .demand-at .ensures) (c .if1 .taken))
+    ends-at _ _ (l .before .before .pre .0) _ _ _ (omega arith) (omega arith) (omega arith) _ _ (due l) _ _
+    (c .before .before .loop-test .taken) (c .before .demand-at .ensures) (c .if1 .taken) (c .before .before .before .loop .inv .0)
 
 loop-less : tie.Need-loop-less Inv-loop μ-loop
 loop-less c = omega (arith, c .if1 .left)
 
 loop-again : tie.Need-loop-again Inv-loop μ-loop
 loop-again c =
-    let s = at-start (c .before .before) in
-    let l = c .before .before .before .loop in (
-      λ u w.
-          rw (c .before .demand-at .ensures)
-          (le-trans (words-up _ _ (s .pre .0) _ _ _ (omega arith) (omega arith) _ _ u (l .inv .0 u w)) w),
+    let l = c .before .before .before .loop in
+    let k = c .before .before .before .before in (
+      not-before-next _ _ (k .before .before .pre .0) _ _ _ (omega arith) (omega arith) (omega arith) _ _ (due k) _ _
+          (c .before .demand-at .ensures) (l .inv .0),
       omega (arith, c .if1 .left),
       l .inv .2,
     )
@@ -80,11 +74,11 @@ loop-again c =
 returns-2 : tie.Need-returns-2 Inv-loop μ-loop
 returns-2 c =
     let l = c .before .before in
-    sym (late-after _ _ (l .before .before .pre .0) _ _ _ (omega arith) (omega arith) (omega arith) _ _ (due l) _ (c .loop-test .left)
-    (c .before .loop .inv .0))
+    ends-late _ _ (l .before .before .pre .0) _ _ _ (omega arith) (omega arith) (omega arith) _ _ (due l) _ (c .loop-test .left)
+    (c .before .loop .inv .0)
 
-pub met-from-spec : {M : Type 1} → statement M
-met-from-spec =
+pub end-from-spec : {M : Type 1} → statement M
+end-from-spec =
     tie.close
     (tie.spec
     Inv-loop
@@ -93,7 +87,7 @@ met-from-spec =
     limit-of-requires
     cast-limit
     loop-holds
-    cast-demand-at
+    cast-time
     demand-at-requires
     returns
     loop-less
