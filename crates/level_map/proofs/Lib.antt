@@ -11,6 +11,7 @@ pub mod Search
 pub mod Optimal
 pub mod Exact
 pub mod Grouping
+pub mod InOrder
 pub mod Theorems
 pub mod Loop
 pub mod Answers

@@ -5,7 +5,6 @@ use mathlib.Core.List.{List, [], _∷_, _++_, append-assoc, append-nil}
 use native.Mathlib.Numerals.{add-one}
 use native.Mathlib.Omega.{arith}
 use lib.ListN.{length, getD, take}
-use lib.Seq.{length-take-le, getD-take}
 use Rattle.task_model.specs.declared.Entry.{Entry}
 use Rattle.task_model.specs.Limits.{entryAt}
 use Rattle.completion.specs.Group.{groupLevel}
@@ -13,8 +12,8 @@ use Rattle.completion.specs.Test.{completionTest}
 use Rattle.completion.proofs.Theorems.{by-answer}
 use Rattle.level_map.specs.Assignments.{levelOf}
 use Rattle.level_map.specs.Cuts.{Falling, levelsOfCuts}
-use Rattle.level_map.proofs.Levels.{before, before-suc, before-length}
-use Rattle.level_map.proofs.Cutting.{length-levels, before-top, cut-first, cut-end}
+use Rattle.level_map.proofs.Levels.{before}
+use Rattle.level_map.proofs.InOrder.{next-group}
 use Rattle.level_map.proofs.Grouping.{cut-level, cut-timed}
 use Rattle.listing.specs.Listing.{entryText, entriesText}
 use Rattle.listing.specs.Groups.{timedLine, groupText}
@@ -76,28 +75,13 @@ NextGroup es n levels level first end =
 -- the groups of n entries one after the other, from the most urgent on, with the cuts at the start of an array
 module _ (es : List Entry) (n : ℕ) (sized : length es ≡ n) (cuts : List ℕ) (groups : ℕ) (inside : groups ≤ length cuts)
     (f : Falling (take groups cuts) n) where
-  abbrev levels : List ℕ
-  levels = levelsOfCuts (take groups cuts) n
-
-  long : length (take groups cuts) ≡ groups
-  long = length-take-le groups cuts inside
-
-  pub first-group : 0 ≡ before 1 levels
-  first-group = sym (cut-first (take groups cuts) n)
-
-  pub next-group : (level first end : ℕ) → level < groups → first ≡ before (level + 1) levels → end ≡ getD (n ∷ cuts) (groups - 1 - level) 0
-      → NextGroup es n levels level first end
-  next-group level first end h p q =
-      let g = groups - 1 - level in
+  pub next-lines : (level first end : ℕ) → level < groups → first ≡ before (level + 1) (levelsOfCuts (take groups cuts) n)
+      → end ≡ getD (n ∷ cuts) (groups - 1 - level) 0 → NextGroup es n (levelsOfCuts (take groups cuts) n) level first end
+  next-lines level first end h p q =
       let l = level + 1 in
-      let ends : end ≡ before (suc l) levels =
-      q ∙ sym (getD-take (suc groups) (n ∷ cuts) g 0 (omega arith)) ∙ sym (cut-end (take groups cuts) n f l g (omega (arith, long))) in
-      let up : first ≤ end = omega (arith, before-suc l levels) in (
-        up,
-        omega (arith, before-length (suc l) levels, length-levels (take groups cuts) n f),
-        ends ∙ ap (λ k. before k levels) (sym (add-one l)),
-        (rw sized at (group-whole es (take groups cuts) (rw sized f) l first end (rw sized p) (rw sized ends) up)),
+      let g = next-group n cuts groups inside f level first end h p q in (
+        g .0,
+        g .1,
+        g .2 ∙ ap (λ k. before k (levelsOfCuts (take groups cuts) n)) (sym (add-one l)),
+        (rw sized at (group-whole es (take groups cuts) (rw sized f) l first end (rw sized p) (rw sized (g .2)) (g .0))),
       )
-
-  pub last-group : (level first : ℕ) → level ≡ groups → first ≡ before (level + 1) levels → first ≡ n
-  last-group level first h p = p ∙ before-top (take groups cuts) n (level + 1) f (omega (arith, long))

@@ -11,10 +11,11 @@ use Rattle.text.specs.Text.{Upto}
 use Rattle.level_map.specs.Cuts.{levelsOfCuts}
 use Rattle.level_map.proofs.Levels.{before}
 use Rattle.level_map.proofs.Cutting.{falling-few}
+use Rattle.level_map.proofs.InOrder.{first-group, last-group}
 use Rattle.listing.specs.Listing.{entriesText}
 use Rattle.listing.proofs.Lines.{upto-same, upto-none, upto-room, upto-append, upto-kept}
 use Rattle.listing.proofs.Texts.{entries-none}
-use Rattle.listing.proofs.Grouped.{NextGroup, first-group, next-group, last-group}
+use Rattle.listing.proofs.Grouped.{NextGroup, next-lines}
 use Rattle.listing.proofs.put_entries.Statement.{statement}
 use Rattle.listing.proofs.put_entries.Tie as tie
 
@@ -32,8 +33,7 @@ loop-holds c =
     let s = c .before in
     let a = s .args in (
       upto-same (sym (entries-none (entriesOf (a .words .now) (a .count)) _)) (upto-none (a .out .now) (a .at) 0),
-      first-group (entriesOf (a .words .now) (a .count)) (a .count) (length-entries (a .words .now) 0 (a .count)) (a .cuts .now) (a .groups)
-          (omega arith) (s .pre .1 .1 .0),
+      first-group (a .count) (a .cuts .now) (a .groups) (omega arith) (s .pre .1 .1 .0),
       omega arith,
       omega arith,
     )
@@ -77,7 +77,7 @@ module _ (c : tie.After-group-end Inv-loop μ-loop) where
   group =
       let a = at-start .args in
       let l = at-loop .loop in
-      next-group (entriesOf (a .words .now) (a .count)) (a .count) (length-entries (a .words .now) 0 (a .count)) (a .cuts .now) (a .groups)
+      next-lines (entriesOf (a .words .now) (a .count)) (a .count) (length-entries (a .words .now) 0 (a .count)) (a .cuts .now) (a .groups)
       (omega arith) (at-start .pre .1 .1 .0) (l .level) (l .first) _ (omega arith) (l .inv .1) (c .group-end .ensures)
 
 put-group-requires : tie.Need-put-group-requires Inv-loop μ-loop
@@ -115,8 +115,7 @@ returns c =
     let s = c .before .before .before in
     let a = s .args in
     let l = c .before .loop in
-    let e = last-group (entriesOf (a .words .now) (a .count)) (a .count) (length-entries (a .words .now) 0 (a .count)) (a .cuts .now) (a .groups)
-    (omega arith) (s .pre .1 .1 .0) (l .level) (l .first) (omega arith) (l .inv .1) in
+    let e = last-group (a .count) (a .cuts .now) (a .groups) (omega arith) (s .pre .1 .1 .0) (l .level) (l .first) (omega arith) (l .inv .1) in
     rw e at (l .inv .0)
 
 pub put-entries-spec : {M : Type 1} → statement M
