@@ -1,10 +1,10 @@
 -- The theorems of a store: what is asked of the store of a node is what is worked out afresh from the node.
-use Prim.Native.Nat.{ℕ, _+_, _%_, _≤_, _<_}
-use mathlib.Core.Path.{_≡_, _∙_, refl, sym, ap}
-use mathlib.Core.Bool.{Bool, true, false}
+use Prim.Native.Nat.{ℕ, _+_, _*_, _%_, _≤_, _<_}
+use mathlib.Core.Path.{_≡_, _∙_, refl, sym, ap, subst}
+use mathlib.Core.Bool.{Bool, true, false, false≢true}
 use mathlib.Core.Logic.{_⊎_, inl, inr, ⊎-elim, by-cases}
 use mathlib.Core.Option.{Option, none, some}
-use mathlib.Core.List.{List}
+use mathlib.Core.List.{List, [], _∷_}
 use native.Mathlib.Omega.{arith}
 use native.Mathlib.Nat.{mod-eq-of-lt}
 use native.Mathlib.Decide.{decLe, decLt}
@@ -14,22 +14,41 @@ use borrow.Author.Tests.{le-leb, lt-leb, lt-ltb, le-ltb}
 use Rattle.refusals.specs.Refusals.{Numbered, at, _andThen_, mustHold}
 use Rattle.refusals.specs.Answers.{gives, refuses, left}
 use Rattle.task_model.specs.declared.Entry.{Entry}
-use Rattle.task_model.specs.Limits.{mostLevels, Node, NodeHolds}
+use Rattle.task_model.specs.Limits.{mostLevels, mostEntries, Node, AllHold, NodeHolds}
+use Rattle.node_words.specs.Lists.{zeros}
 use Rattle.completion.specs.Test.{completionTest, timeIn}
 use Rattle.level_map.specs.Assignments.{levelOf, levelsUsed, Assignment}
 use Rattle.level_map.specs.Map.{theMap}
 use Rattle.level_map.specs.Answer.{isSome, levelsIn, mapOf, levelsUnder, heldCheck, heldCheckUnder, heldAnswer}
-use Rattle.level_map.proofs.Theorems.{mapping, map-fewer, map-too-few, none-fewer, held-short, held-map, held-none}
-use Rattle.map_store.specs.Store.{levelsAt, keeping, storeOf, hasMap, storedUsed, storedLevels, storedTime}
+use Rattle.level_map.proofs.Theorems.{mapping, map-fewer, map-too-few, none-fewer, held-short, held-map, held-none, map-empty}
+use Rattle.map_store.specs.Store.{storeSize, levelsAt, upTo, padded, timesUnder, keeping, storeOf, hasMap, storedUsed, storedLevels, storedTime}
 use Rattle.map_store.specs.Asking.{mapCheck, mapAsked, timeCheck, timeAsked, freshTimeCheck, freshTime}
 use Rattle.map_store.proofs.Lists.{upTo-list}
-use Rattle.map_store.proofs.Filling.{store-some, store-none, keeping-level, keeping-time, times-at}
+use Rattle.map_store.proofs.Filling.{store-some, store-none, keeping-size, keeping-level, keeping-time, times-at}
 use Rattle.map_store.proofs.Asking.{has-one, has-none, asked-short, asked-none, asked-given, timed-outside, timed-none, timed-given}
 
 -- there is a map or there is none
 by-map : (o : Option (List ℕ)) → ((m : List ℕ) × (o ≡ some m)) ⊎ (o ≡ none)
 by-map none = inr refl
 by-map (some m) = inl (m, refl)
+
+same-map : {m m′ : List ℕ} → some m ≡ some m′ → m ≡ m′
+same-map p = cc
+
+-- Every store of entries within the limits has all its words,
+pub store-size : (es : List Entry) → AllHold es → length es ≤ mostEntries → length (storeOf es) ≡ storeSize
+store-size es hold few =
+    ⊎-elim
+    (λ y.
+    ap length (store-some completionTest es (y .0) (y .1))
+    ∙ keeping-size completionTest es (length es) refl (y .0) (mapping es hold mostLevels (y .0) (y .1) .passing .assignment .each) few)
+    (λ p. ap length (store-none completionTest es p))
+    (by-map (theMap es mostLevels))
+
+-- and that of no entries has a map, of 0 levels.
+pub store-empty : storeOf [] ≡ 1 ∷ zeros (1 + 2 * mostEntries)
+unfolding keeping padded timesUnder upTo
+store-empty = store-some completionTest [] [] (map-empty mostLevels)
 
 -- The store of the entries of a node, and the map m of the node itself.
 pub record Kept (n : Node) (m : List ℕ) : Type 0 where
@@ -129,6 +148,13 @@ module _ (n : Node) (holds : NodeHolds n) where
       (λ z. inr (too-few (y .0) (y .1) (omega arith))))
       (λ p. inr (without p))
       (by-map (theMap es mostLevels))
+
+  pub store-kept : (m : List ℕ) → theMap (n .entries) (n .levels) ≡ some m → Kept n m
+  store-kept m p =
+      ⊎-elim
+      (λ y. let e : y .0 ≡ m = same-map (sym (y .1 .found) ∙ p) in subst (Kept n) e (y .1))
+      (λ z. absurd (false≢true (ap isSome (sym (z .none) ∙ p))))
+      store-right
 
   -- So asking is refused, and answered, exactly as mapping the node is, and leaves the same in the buffer.
   pub store-has : hasMap (storeOf (n .entries)) (n .levels) ≡ isSome (theMap (n .entries) (n .levels))

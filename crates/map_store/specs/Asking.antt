@@ -34,9 +34,9 @@ unfoldable pub timeAsked : List ℕ → ℕ → ℕ → ℕ → Answer ℕ
 timeAsked store levels count i = giving (timeCheck store levels count i) (storedTime store i)
 
 -- What the code's answer says.
-abbrev pub timeGives : StoredTime → Answer ℕ
-timeGives (At time) = gives time
-timeGives (Refused r) = refuses (numbered r)
+abbrev pub storedGives : StoredTime → Answer ℕ
+storedGives (At time) = gives time
+storedGives (Refused r) = refuses (numbered r)
 
 -- What the store of a node is to answer, worked out afresh from the node under a test. For the map this is `heldAnswerUnder` of
 -- level_map. For the completion time of the entry at i under that map: 12 if there is no such entry, 11 if no map passes,

@@ -16,7 +16,7 @@ ghost use Rattle.level_map.specs.Answer.{answer};
 ghost use Rattle.level_map.specs.Assignments.{levelsUsed};
 ghost use Rattle.level_map.specs.Cuts.{Falling, levelsOfCuts};
 ghost use Rattle.map_store.specs.Store.{storeSize, levelsAt, timesAt, storeOf, keeping, hasMap, storedLevels};
-ghost use Rattle.map_store.specs.Asking.{mapAsked, timeAsked, timeGives};
+ghost use Rattle.map_store.specs.Asking.{mapAsked, timeAsked, storedGives};
 ghost use Rattle.map_store.specs.Putting.{Put};
 use completion::wcet_sum;
 use level_map::Cut;
@@ -40,6 +40,8 @@ const TIMES_AT: usize = LEVELS_AT + MOST_ENTRIES;
 
 // How many words a store has.
 pub const STORE_WORDS: usize = TIMES_AT + MOST_ENTRIES;
+
+pub type StoreWords = [u32; STORE_WORDS];
 
 // The completion time of an entry under the stored map, or why there is none.
 pub enum StoredTime {
@@ -194,7 +196,7 @@ pub fn stored_map(store: &[u32], levels: u8, count: usize, out: &mut [u8]) -> Ma
 // map on `levels` levels (11).
 pub fn stored_time(store: &[u32], levels: u8, count: usize, i: usize) -> StoredTime
     requires { ⌜ (length (now store) ≡ storeSize) × (count ≤ mostEntries) ⌝ }
-    ensures { λ a. ⌜ timeGives a ≡ timeAsked (now (store .entry)) levels count i ⌝ }
+    ensures { λ a. ⌜ storedGives a ≡ timeAsked (now (store .entry)) levels count i ⌝ }
 {
     if count <= i {
         return StoredTime::Refused(Refusal::OutsideList);

@@ -4,7 +4,7 @@
 --                  callee, operation and further arguments. The borrow is opened, and the session that the callee returns
 --                  is stored back. Functions differ in how their further arguments are stored, read and freed:
 --                  `meets-number` shows this for one number, `meets-entry` for a position and an entry.
---     time-meets   `time`, which is lent a `&Session`: the borrow is opened and closed again.
+--     time-meets, map-time-meets   `time` and `map_time`, which are lent a `&Session`: the borrow is opened and closed again.
 use mathlib.Core.Path.{_≡_, refl, sym, ap, subst}
 use Prim.Native.Nat.{ℕ, suc, _+_}
 use mathlib.Core.List.{[], _∷_, _++_, List}
@@ -58,6 +58,14 @@ use Rattle.session.specs.Timing.{timeGives, timeAnswer}
 use Rattle.session.specs.declared.TimeAnswer.{TimeAnswer}
 use Rattle.session.proofs.TimeAnswer as TT
 use Rattle.session.proofs.TimeAnswer.Laws as TT′
+use Rattle.map_store.specs.declared.StoredTime.{StoredTime}
+use Rattle.map_store.specs.Asking.{storedGives}
+use Rattle.map_store.proofs.StoredTime as TM
+use Rattle.map_store.proofs.StoredTime.Laws as TM′
+use Rattle.session.specs.Asking.{mapTimeGiven}
+use Rattle.session.proofs.map_time as map-time
+use Rattle.session.proofs.map_timed as map-timed
+use Rattle.session.proofs.map_timed.Symbol.{name as #map_timed}
 use Rattle.session.proofs.time as time
 use Rattle.session.proofs.timed as timed
 use Rattle.session.proofs.timed.Symbol.{name as #timed}
@@ -361,3 +369,82 @@ module _ {M : Type 1} (𝓤 : URA M) (H : Heap 𝓤) (A : Atoms 𝓤) (W : Given
       returns ! (look ! 13 refl) $ forget ! 3 refl $ forget ! 5 refl $ forget ! 7 refl $ forget ! 9 refl $ forget ! 11 refl $ forget ! 13 refl $
       move ! (13 ∷ 14 ∷ []) $ free1 ! $ move ! (11 ∷ 12 ∷ []) $ free1 ! $ move ! (9 ∷ 10 ∷ []) $ free1 ! $ move ! (7 ∷ 8 ∷ []) $ free1 ! $ move ! (5 ∷ 6 ∷ []) $ free1 ! $ move ! (3 ∷ 4 ∷ []) $ free1 ! $ free0 ! $
       keep ! (0 ∷ 3 ∷ 1 ∷ 2 ∷ []) $ by ! (time-exits (κs .0) (qs .0) b o (a .0 .name) h (a .1) r v e))))))))))))))))
+
+-- `fn map_time(s: &Session, i) -> StoredTime { map_timed(*s, i) }`
+abbrev map-time-function : Fn
+map-time-function = record {
+  lifetimes = 1;
+  outlives = [];
+  params = 2;
+  locals = local TM′.mir valueLocal ∷ local (tyRef (named 0) imm (pointee (T.the-row .written))) valueLocal ∷ local (tyInt w64) valueLocal ∷ local T′.mir valueLocal ∷ [];
+  body = seq (assign (place 3 []) (rvOpd (copy (place 1 (deref T′.mir ∷ []))))) (seq (call #map_timed (copy (place 3 []) ∷ copy (place 2 []) ∷ []) (place 0 [])) return);
+}
+
+module _ {M : Type 1} (𝓤 : URA M) (H : Heap 𝓤) (A : Atoms 𝓤) (W : Given 𝓤 H A) (at-mem : Memory → SProp 𝓤) (run : Routine → Fun 𝓤) where
+  abbrev position : Stays (map-time.ended .signature .params) (map-time.ended .kept)
+  position = (stay-none-ref (0 ∷ []) tt (plain (λ _. T.the-row)) yes, (stay-dropped (plain (λ _. usize)) yes, tt))
+
+  -- the contract that the proof cites
+  abbrev MapTimed : Contract 𝓤
+  MapTimed = tripleOf 𝓤 H A map-timed.signature (map-timed.spec 𝓤 H A at-mem run)
+
+  module _ (κ : Lft) (q : Share) (b o : ℕ) (γ : GName) (h : Session) (a : ℕ × Unit {0}) where
+    abbrev vs : List Val × Unit {0}
+    vs = (vint w64 (a .0) ∷ [], tt)
+
+    abbrev map-time-bound : walkOf 𝓤 H A map-time.ended position (map-time.clauses 𝓤 H A at-mem run) .Ghost
+    map-time-bound = (((κ, tt), (q, tt), tt, (record { ptr = (b, o); name = γ; now = h }, a), (vptr b o ∷ [], vs)), tt)
+
+    abbrev MapSays : StoredTime → Type 0
+    MapSays r = storedGives r ≡ mapTimeGiven h (a .0)
+
+    map-time-exits : (r : StoredTime) (v : Val) → MapSays r
+        → ent 𝓤 (sep 𝓤 (A .lft κ q) (sep 𝓤 (A .res γ (T.the-row .coded .code h)) (sep 𝓤 (A .shr-bor κ (λ s. partAt T.the-row s h b o)) (sem 𝓤 H A (TM.the-row .own r (v ∷ [])))))) (walkOf 𝓤 H A map-time.ended position (map-time.clauses 𝓤 H A at-mem run) .post map-time-bound v)
+    map-time-exits r v e =
+        qed W (‵ (flft κ q) ∷ ‵ (fres γ (T.the-row .coded .code h)) ∷ ‵ (fshr-bor κ (λ s. partAt T.the-row s h b o)) ∷ ‵ (TM.the-row .own r (v ∷ [])) ∷ []) ∵
+        suffices ! _ (ends-at 𝓤 H A map-time.ended position (map-time.clauses 𝓤 H A at-mem run) W map-time-bound v r (tt, (tt, tt)) (tt, (tt, tt))) $ says ! e $
+        nothing ! $ move ! (1 ∷ 0 ∷ []) $ join ! $ frame ! $ feqI ! (List Val) (vptr b o ∷ []) (vptr b o ∷ []) refl $ fjoin3 ! $
+        use0 W (‵ (fsep ftrue ftrue)) (emp∗ 𝓤 (emp 𝓤)) $ move ! (1 ∷ 0 ∷ []) $ fjoin ! $ done !
+
+    abbrev to-map-timed : MapTimed .Ghost
+    to-map-timed = ((tt, tt, tt, (h, a), (vals h, vs)), tt)
+
+    goes-map-timed : ent 𝓤 (sep 𝓤 (sem 𝓤 H A (T.the-row .own h (vals h))) (sem 𝓤 H A (owns (usize ∷ []) a vs))) (MapTimed .pre to-map-timed)
+    goes-map-timed = qed W (‵ (T.the-row .own h (vals h)) ∷ ‵ (owns (usize ∷ []) a vs) ∷ []) ∵ fjoin ! $ nothing ! $ join ! $ nothing ! $ move ! (1 ∷ 0 ∷ []) $ done !
+
+    map-answer-of : (r : StoredTime) → ent 𝓤 (ensured 𝓤 H A map-timed.ended (map-timed.clauses 𝓤 H A at-mem run) tt (h, a) tt r) (fact 𝓤 (MapSays r))
+    map-answer-of r = exE 𝓤 _ (λ ws. snd∗ 𝓤 (sem 𝓤 H A (lasts map-timed.ended tt (h, a) ws)) (fact 𝓤 (MapSays r)))
+
+  pub map-time-meets : (𝓣 : Tables 𝓤 H) → Triple 𝓤 (𝓣 .C #map_timed) MapTimed → Meets 𝓤 H A map-time.signature (WpFn 𝓤 H (𝓣 .C) (𝓣 .Λ) map-time-function) (map-time.spec 𝓤 H A at-mem run)
+  map-time-meets 𝓣 known =
+      walk-meets 𝓤 H A map-time.ended position W
+      (goes-none-ref 𝓤 H A W 1 (0 ∷ []) tt (plain (λ _. T.the-row)) yes, (goes-dropped 𝓤 H A W 1 (plain (λ _. usize)) yes (λ κs x f. refl), tt))
+      (map-time.clauses 𝓤 H A at-mem run) (WpFn 𝓤 H (𝓣 .C) (𝓣 .Λ) map-time-function) (WpFn-mono 𝓤 H (W .laws) 𝓣 map-time-function)
+      (walked 𝓤 H A map-time.ended position (map-time.clauses 𝓤 H A at-mem run) (WpFn 𝓤 H (𝓣 .C) (𝓣 .Λ) map-time-function) (λ κs. (ptr-vals, (uint-vals w64, tt))) (λ κs. (shr-tells (named 0) (κs .0) T.the-row, (uint-tells w64, tt)))
+      (λ κs qs bounds a _ are. via 𝓤 _ (fst∗ 𝓤 _ (emp 𝓤)) (
+      let b = a .0 .ptr .0 in
+      let o = a .0 .ptr .1 in
+      let h = a .0 .now in
+      let n = uint-lawful 𝓤 H A W w64 .typed in
+      qed W ((‵ (flft (κs .0) (qs .0)) ⊛ ‵ ftrue) ∷ ‵ (owns (ShrRef (named 0) (κs .0) T.the-row ∷ usize ∷ []) a (vptr b o ∷ [], vs (κs .0) (qs .0) b o (a .0 .name) h (a .1))) ∷ []) ∵ split ! $ move ! (2 ∷ []) $ fsplit ! $ fsplit3 ! $ drop ! $ keep ! (1 ∷ 3 ∷ 0 ∷ 2 ∷ []) $
+      -- [the session's borrow; its token; res; what the number owns]
+      enter ! (𝓣 .C) (𝓣 .Λ) map-time-function _ _ $
+      alloc1 ! (λ l₀. alloc1 ! (λ l₁. alloc1 ! (λ l₂. alloc1 ! (λ l₃. alloc0 ! $ params1 ! $ pass1 ! (init ! 4 refl (tt, tt)) $
+      pass1 ! (init ! 2 refl (n (a .1 .0) _ (are .1 .0) .0)) $ pass0 ! $
+      move ! (8 ∷ 9 ∷ []) $ looks ! tt T.the-row (Is T.the-row) (shows 𝓤 H A T.the-row) vals (LL.tells T.the-type T′.the-laws) (LL.copy T.the-type T′.the-copy 𝓤 H A W) h b o (λ share vs.
+      spelt ! T.the-row (Is T.the-row) (shows 𝓤 H A T.the-row) vals (LL.tells T.the-type T′.the-laws) share h vs b o $ move ! (1 ∷ []) $
+      peeks ! T.the-row (Is T.the-row) (shows 𝓤 H A T.the-row) h (vals h) (λ was. move ! (1 ∷ 0 ∷ []) $
+      -- [a share of the session's cell; what it owns; what shuts it; the borrow; _3; …; _2; …; _1; …; room for _0; …; res; what the number owns]
+      assigns ! (of-opd ! (load ! (from ! (hop ! (look ! 8 refl) (stop !))) (look-raw ! 0 refl))) (from ! (stop !)) (init ! 4 refl (LL.lawful T.the-type T′.the-laws 𝓤 H A W .typed h _ was .0)) $
+      move ! (1 ∷ 13 ∷ []) $ use2 W (raw (MapTimed .pre (to-map-timed (κs .0) (qs .0) b o (a .0 .name) h (a .1)))) (goes-map-timed (κs .0) (qs .0) b o (a .0 .name) h (a .1)) $
+      calls-at ! (fmOf 𝓤 H (W .laws) 𝓣) MapTimed known (to-map-timed (κs .0) (qs .0) b o (a .0 .name) h (a .1)) (and-then ! (load ! (from ! (stop !)) (look ! 4 refl)) (and-then ! (load ! (from ! (stop !)) (look ! 6 refl)) (no-more !))) (λ v.
+      use1 W (later (some (λ (r : StoredTime). (‵ ftrue ⊛ ‵ (TM.the-row .own r (v ∷ []))) ⊛ raw (ensured 𝓤 H A map-timed.ended (map-timed.clauses 𝓤 H A at-mem run) tt (h, a .1) tt r)))) (id⊢ 𝓤 _) $ await ! tt $ pick ! (λ r.
+      split ! $ move ! (1 ∷ []) $ use1 W (raw (fact 𝓤 (MapSays (κs .0) (qs .0) b o (a .0 .name) h (a .1) r))) (map-answer-of (κs .0) (qs .0) b o (a .0 .name) h (a .1) r) $ heard ! _ (λ e. split ! $ drop ! $
+      peeks ! TM.the-row (Is TM.the-row) (shows 𝓤 H A TM.the-row) r (v ∷ []) (λ is.
+      -- [what r owns; a share of the session's cell; what shuts it; the borrow; _3; …; _0; …; res]
+      land ! (from ! (stop !)) (init ! 10 refl (EL.lawful TM.the-type TM′.the-laws 𝓤 H A W tt .typed r _ is .0)) $
+      owned ! T.the-row (Is T.the-row) (LL.makes T.the-type T′.the-plain 𝓤 H A) h _ was $ move ! (2 ∷ 0 ∷ 3 ∷ 4 ∷ []) $ shuts ! tt T.the-row share h (vals h) b o $
+      -- [the token; the borrow; what r owns; _3; …; _2; …; _1; …; _0; …; res]
+      returns ! (look ! 9 refl) $ forget ! 3 refl $ forget ! 5 refl $ forget ! 7 refl $ forget ! 9 refl $
+      move ! (9 ∷ 10 ∷ []) $ free1 ! $ move ! (7 ∷ 8 ∷ []) $ free1 ! $ move ! (5 ∷ 6 ∷ []) $ free1 ! $ move ! (3 ∷ 4 ∷ []) $ free1 ! $ free0 ! $
+      keep ! (0 ∷ 3 ∷ 1 ∷ 2 ∷ []) $ by ! (map-time-exits (κs .0) (qs .0) b o (a .0 .name) h (a .1) r v e))))))))))))))

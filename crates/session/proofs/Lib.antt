@@ -1,11 +1,11 @@
 -- Laws for the proofs of functions, and the theorems of the session.
-pub mod Held
 pub mod Numbers
 pub mod Changing
 pub mod Checking
 pub mod Reading
 pub mod Sequences
 pub mod InWords
+pub mod Held
 pub mod Theorems
 pub mod Repeats
 pub mod Lent

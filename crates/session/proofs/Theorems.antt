@@ -1,6 +1,6 @@
 -- The theorems of the session.
 use Prim.Native.Nat.{ℕ, _≤_, _<_}
-use mathlib.Core.Path.{_≡_, _∙_, refl, sym, ap, subst}
+use mathlib.Core.Path.{_≡_, _∙_, refl, sym, ap, ap₂, subst}
 use mathlib.Core.Logic.{⊎-elim, _↔_}
 use mathlib.Core.List.{List, _∷_}
 use native.Mathlib.Omega.{arith}
@@ -19,7 +19,8 @@ use Rattle.completion.specs.Right.{LateBy, RightTiming}
 use Rattle.completion.proofs.Theorems.{timing-right}
 use Rattle.level_map.specs.Answer.{mapOf, heldAnswer, NodeBestMapOrNone}
 use Rattle.session.specs.declared.Session.{Session}
-use Rattle.session.specs.State.{nodeIn, sessionOf, Sound, blankSession}
+use Rattle.node_words.specs.Words.{nodeSize}
+use Rattle.session.specs.State.{nodeIn, sessionWith, sessionOf, Sound, blankSession}
 use Rattle.node_words.specs.Lists.{zeros}
 use Rattle.session.specs.Operations.{
   Query,
@@ -30,6 +31,7 @@ use Rattle.session.specs.Operations.{
   inserting,
   mapping,
   timing,
+  mapTiming,
   AllCallable,
   operationCheck,
   operationCheckBy,
@@ -43,7 +45,10 @@ use Rattle.session.specs.Operations.{
 }
 use Rattle.refusals.specs.Answers.{gives, refuses, left}
 use Rattle.session.specs.Timing.{timeAnswer}
-use Rattle.session.specs.Mapping.{mapAnswer, mapAnswerBy}
+use Rattle.map_store.specs.Store.{storeSize, storeOf, hasMap, storedUsed, storedLevels, storedTime}
+use Rattle.map_store.proofs.Theorems.{store-has, store-kept}
+use Rattle.session.specs.Asking.{callCheck, mapGiven, mapTimeGiven}
+use Rattle.session.specs.Mapping.{mapAnswer, mapTimeAnswer, Remembers}
 use Rattle.session.specs.Steps.{sessionAfter, sessionAfterAll, answersOf}
 use Rattle.session.specs.InWords.{sessionSize, sessionIn, wordsIn, wordsAfter, wordsAfterAll}
 use Rattle.session.proofs.Reading.{Kept, read-back}
@@ -60,8 +65,8 @@ use Rattle.session.proofs.Checking.{
   after-refused,
   after-accepted,
 }
-use Rattle.session.proofs.Mapping.{own-answer, own-best}
-use Rattle.session.proofs.InWords.{words-back, words-refused, words-accepted, rows-words}
+use Rattle.session.proofs.Mapping.{own-answer, own-time, sound-map, sound-left, sound-time, sound-best}
+use Rattle.session.proofs.InWords.{words-back, session-back, words-refused, words-accepted, rows-words}
 use Rattle.session.proofs.Sequences.{kept-empty, own-checks, rows-session, rows-answers, rows-kept}
 
 -- From the opening, by any row of operations, refused ones included, and whatever the memory held before. `levels` is
@@ -70,6 +75,10 @@ module _ (levels : ℕ) (some : 1 ≤ levels) (few : levels ≤ mostLevels) (os 
   opened-accepted : stepCheck (opening levels) (nodeIn s) ≡ accepted
   unfolding stepCheckBy lentCheckBy operationCheckBy
   opened-accepted = levels-within levels some few
+
+  called-open : callCheck (opening levels) s ≡ stepCheck (opening levels) (nodeIn s)
+  unfolding callCheck
+  called-open = refl
 
   opened-session : sessionAfter (opening levels) s ≡ sessionOf (emptyNode levels)
   opened-session = after-accepted (opening levels) s opened-accepted
@@ -92,7 +101,7 @@ module _ (levels : ℕ) (some : 1 ≤ levels) (few : levels ≤ mostLevels) (os 
   pub answers-follow : answersOf (opening levels ∷ os) s ≡ accepted ∷ answersAll os (emptyNode levels)
   unfolding answersOf
   answers-follow =
-      ap (λ a. a ∷ answersOf os (sessionAfter (opening levels) s)) opened-accepted
+      ap (λ a. a ∷ answersOf os (sessionAfter (opening levels) s)) (called-open ∙ opened-accepted)
       ∙ ap (λ xs. accepted ∷ xs) (ap (answersOf os) opened-session ∙ rows-answers os (emptyNode levels) opened-kept call)
 
   -- Sessions made by opening and operations are sound.
@@ -177,37 +186,69 @@ pub time-late : (s : Session) (first last i rounds over : ℕ)
     → LateBy (entryAt (nodeIn s .entries) i .blocking) (nodeIn s .entries) (groupLevel first last) i over
 time-late s first last i rounds over p = time-right s first last i (late rounds over) p .lateBy rounds over refl
 
--- Mapping, as an operation of a row, is refused exactly as its answer says; on any session.
+-- Mapping, as an operation of a row, is refused exactly as its answer says, and so is asking for a time under the map; on any
+-- session.
 pub map-refusal : (s : Session) (room : ℕ) (r : Numbered)
-    → stepCheck (asking (mapping room)) (nodeIn s) ≡ refused r ↔ mapAnswer (nodeIn s) room ≡ refuses r
-unfolding mapAnswerBy
-map-refusal s room r = ((λ p. rw p), λ p. giving-refuses (stepCheck (asking (mapping room)) (nodeIn s)) _ r (sym p))
+    → callCheck (asking (mapping room)) s ≡ refused r ↔ mapGiven s room ≡ refuses r
+unfolding mapGiven
+map-refusal s room r = ((λ p. rw p), λ p. giving-refuses (callCheck (asking (mapping room)) s) _ r (sym p))
 
--- Mapping a sound session checks 10, then 11, and answers and writes as mapping a node at hand does.
+pub map-time-refusal : (s : Session) (i : ℕ) (r : Numbered)
+    → callCheck (asking (mapTiming i)) s ≡ refused r ↔ mapTimeGiven s i ≡ refuses r
+unfolding mapTimeGiven
+map-time-refusal s i r = ((λ p. rw p), λ p. giving-refuses (callCheck (asking (mapTiming i)) s) _ r (sym p))
+
+-- A sound session remembers: its store holds what is worked out afresh from its entries and its level count.
 module _ (s : Session) (h : Sound s) where
-  within-checks : nodeCheck 0 (nodeIn s) ≡ accepted
-  within-checks = node-accepted 0 (nodeIn s) .1 (h .valid)
+  store-is : s .store ≡ storeOf (nodeIn s .entries)
+  unfolding sessionWith
+  store-is = ap (λ (t : Session). t .store) (h .determined)
 
-  pub map-answers : (room : ℕ) → mapAnswer (nodeIn s) room ≡ heldAnswer (nodeIn s) room
-  map-answers = own-answer (nodeIn s) within-checks
+  count-is : s .count ≡ length (nodeIn s .entries)
+  unfolding sessionWith
+  count-is = ap (λ (t : Session). t .count) (h .determined)
+
+  pub sound-remembers : Remembers s
+  sound-remembers =
+      let n = nodeIn s in
+      let within = h .valid .within in
+      record {
+        has = ap (λ st. hasMap st (s .levels)) store-is ∙ store-has n within;
+        used = λ m p. ap storedUsed store-is ∙ store-kept n within m p .used;
+        levels = λ m p. ap₂ storedLevels store-is count-is ∙ store-kept n within m p .levels;
+        times = λ m p i l. ap (λ st. storedTime st i) store-is ∙ store-kept n within m p .times i l;
+      }
+
+  -- Mapping it checks 10, then 11, and answers and writes as mapping its node afresh does,
+  pub map-answers : (room : ℕ) → mapGiven s room ≡ heldAnswer (nodeIn s) room
+  map-answers = sound-map s h
 
   pub map-writes : (buffer : List ℕ)
-      → left (mapAnswer (nodeIn s) (length buffer)) (mapOf (nodeIn s)) buffer
+      → left (mapGiven s (length buffer)) (storedLevels (s .store) (s .count)) buffer
       ≡ left (heldAnswer (nodeIn s) (length buffer)) (mapOf (nodeIn s)) buffer
-  map-writes buffer = ap (λ a. left a (mapOf (nodeIn s)) buffer) (map-answers (length buffer))
+  map-writes buffer =
+      ap (λ a. left a (storedLevels (s .store) (s .count)) buffer) (map-answers (length buffer)) ∙ sound-left s h (length buffer) buffer
 
-  -- Promise 3 of docs/SPEC.md, into a buffer of a byte an entry or more.
+  -- as it did before there was a store,
+  pub map-afresh : (room : ℕ) → mapGiven s room ≡ mapAnswer (nodeIn s) room
+  map-afresh room = map-answers room ∙ sym (own-answer (nodeIn s) (node-accepted 0 (nodeIn s) .1 (h .valid)) room)
+
+  -- with promise 3 of docs/SPEC.md, into a buffer of a byte an entry or more.
   pub map-best-or-none : (buffer : List ℕ)
-      → NodeBestMapOrNone (nodeIn s) buffer (mapAnswer (nodeIn s) (length buffer))
-      (left (mapAnswer (nodeIn s) (length buffer)) (mapOf (nodeIn s)) buffer)
-  map-best-or-none buffer = own-best (nodeIn s) within-checks buffer
+      → NodeBestMapOrNone (nodeIn s) buffer (mapGiven s (length buffer))
+      (left (mapGiven s (length buffer)) (storedLevels (s .store) (s .count)) buffer)
+  map-best-or-none buffer = sound-best s h buffer _ _ refl refl
 
--- A session as 386 words: each form is the inverse of the other.
+  -- Asking for a time under the map checks 12, then 11, and gives the time that the test gives afresh.
+  pub map-time-afresh : (i : ℕ) → mapTimeGiven s i ≡ mapTimeAnswer (nodeIn s) i
+  map-time-afresh i = sound-time s h i ∙ sym (own-time (nodeIn s) (node-accepted 0 (nodeIn s) .1 (h .valid)) i)
+
+-- A session as 516 words: each form is the inverse of the other. (The arrays of a session have as many words as that asks.)
 pub words-inverse : (w : List ℕ) → length w ≡ sessionSize → wordsIn (sessionIn w) ≡ w
 words-inverse w h = words-back w h
 
-pub session-inverse : (s : Session) → sessionIn (wordsIn s) ≡ s
-session-inverse s = refl
+pub session-inverse : (s : Session) → length (s .words) ≡ nodeSize → length (s .store) ≡ storeSize → sessionIn (wordsIn s) ≡ s
+session-inverse s node store = session-back s (record { node = node; store = store })
 
 -- Zero in every word is the session that is not open.
 pub zero-words : sessionIn (zeros sessionSize) ≡ blankSession
@@ -222,17 +263,33 @@ words-unchanged o w r p = words-refused o w r p
 pub words-asked : (q : Query) (w : List ℕ) → length w ≡ sessionSize → wordsAfter (asking q) w ≡ w
 words-asked q w h =
     ⊎-elim
-    (λ p. words-accepted (asking q) w p ∙ ap wordsIn (after-accepted (asking q) (sessionIn w) p) ∙ words-back w h)
+    (λ p. words-accepted (asking q) w p ∙ words-back w h)
     (λ p. words-refused (asking q) w (p .0) (p .1))
     (either (stepCheck (asking q) (nodeIn (sessionIn w))))
 
 -- After any row of operations the words hold the session after that row, so what is said of sessions above holds of them.
-pub words-follow : (os : List Operation) (w : List ℕ) → sessionIn (wordsAfterAll os w) ≡ sessionAfterAll os (sessionIn w)
-words-follow os w = rows-words os w
+pub words-follow : (os : List Operation) (w : List ℕ) → length w ≡ sessionSize
+    → sessionIn (wordsAfterAll os w) ≡ sessionAfterAll os (sessionIn w)
+words-follow os w h = rows-words os w h
 
--- So do the words that a caller in C lends: after the opening and any row of operations they hold no entry number twice.
-pub words-numbers : (levels : ℕ) → 1 ≤ levels → levels ≤ mostLevels → (os : List Operation) → AllCallable os → (w : List ℕ)
-    → NumbersDiffer (nodeIn (sessionIn (wordsAfterAll (opening levels ∷ os) w)) .entries)
-words-numbers levels some few os call w =
-    subst (λ t. NumbersDiffer (nodeIn t .entries)) (sym (words-follow (opening levels ∷ os) w))
-    (session-numbers levels some few os call (sessionIn w))
+-- So it is with the words that a caller in C lends, whatever they held before: after the opening and any row of operations,
+-- refused ones included,
+module _ (levels : ℕ) (some : 1 ≤ levels) (few : levels ≤ mostLevels) (os : List Operation) (call : AllCallable os) (w : List ℕ)
+    (size : length w ≡ sessionSize) where
+  -- they are those of a sound session,
+  pub words-sound : Sound (sessionIn (wordsAfterAll (opening levels ∷ os) w))
+  words-sound = subst Sound (sym (words-follow (opening levels ∷ os) w size)) (made-sound levels some few os call (sessionIn w))
+
+  -- which holds no entry number twice,
+  pub words-numbers : NumbersDiffer (nodeIn (sessionIn (wordsAfterAll (opening levels ∷ os) w)) .entries)
+  words-numbers = words-sound .valid .numbers
+
+  -- and the store among these words holds what is worked out afresh from the entries and the level count that they hold: the
+  -- map, or that there is none, how many levels it uses, and the completion time of every entry under it.
+  pub words-remember : Remembers (sessionIn (wordsAfterAll (opening levels ∷ os) w))
+  words-remember = sound-remembers _ words-sound
+
+-- The same of a session that is lent by reference.
+pub session-remembers : (levels : ℕ) → 1 ≤ levels → levels ≤ mostLevels → (os : List Operation) → AllCallable os → (s : Session)
+    → Remembers (sessionAfterAll (opening levels ∷ os) s)
+session-remembers levels some few os call s = sound-remembers _ (made-sound levels some few os call s)

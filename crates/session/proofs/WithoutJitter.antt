@@ -17,7 +17,7 @@ use Rattle.node_words.specs.Lists.{insertAt, removeAt, replaceAt}
 use Rattle.node_words.proofs.Lists.{Each, each-of, of-each, each-inserted, each-removed, each-replaced}
 use Rattle.completion.specs.Group.{groupLevel}
 use Rattle.completion.proofs.WithoutJitter.{test-punctual}
-use Rattle.level_map.specs.Assignments.{levelsUsed}
+use Rattle.level_map.specs.Assignments.{levelOf, levelsUsed}
 use Rattle.level_map.proofs.WithoutJitter.{levels-punctual, held-check-punctual}
 use Rattle.session.specs.Operations.{
   rules,
@@ -28,6 +28,7 @@ use Rattle.session.specs.Operations.{
   settingLevels,
   mapping,
   timing,
+  mapTiming,
   Operation,
   opening,
   changing,
@@ -37,6 +38,7 @@ use Rattle.session.specs.Operations.{
   queryCheckBy,
   operationCheck,
   operationCheckBy,
+  emptyNode,
   changed,
   made,
   nodeAfter,
@@ -51,11 +53,14 @@ use Rattle.session.specs.Operations.{
   stepCheckBy,
 }
 use Rattle.session.proofs.Sequences.{node-changed, node-kept}
-use Rattle.session.specs.Mapping.{mapAnswer, mapAnswerBy}
+use Rattle.session.specs.Mapping.{mapAnswer, mapAnswerBy, mapTimeAnswer, mapTimeAnswerBy}
 use Rattle.session.specs.Timing.{timeAnswer, timeAnswerBy}
 use Rattle.session.specs.declared.Session.{Session}
-use Rattle.session.specs.State.{nodeIn}
-use Rattle.session.specs.Steps.{sessionMade, sessionAfter, sessionAfterBy}
+use Rattle.completion.specs.Test.{timeIn}
+use Rattle.completion.specs.WithoutJitter.{punctualTest}
+use Rattle.map_store.proofs.WithoutJitter.{store-punctual, fresh-check-punctual}
+use Rattle.session.specs.State.{nodeIn, sessionWith}
+use Rattle.session.specs.Steps.{storeAfterBy, sessionMade, sessionMadeBy, sessionAfter, sessionAfterBy}
 use Rattle.session.specs.InWords.{sessionIn, wordsLeft, wordsAfter, wordsAfterBy}
 use Rattle.session.specs.WithoutJitter.{punctualRules, PunctualChange, PunctualOperation, AllPunctual}
 
@@ -90,6 +95,7 @@ module _ (n : Node) where
     operation-punctual (changing c) z = change-punctual c z
     operation-punctual (asking (mapping room)) z = held-check-punctual n punctual room
     operation-punctual (asking (timing first last i)) z = refl
+    operation-punctual (asking (mapTiming i)) z = fresh-check-punctual n punctual i
 
     lent-punctual : (o : Operation) → lentCheck o n ≡ lentCheckBy punctualRules o n
     unfolding lentCheckBy
@@ -113,6 +119,14 @@ module _ (n : Node) where
     unfolding mapAnswerBy
     map-answer-punctual room =
         ap₂ giving (step-punctual (asking (mapping room)) tt) (ap levelsUsed (levels-punctual n punctual))
+
+    -- And so does timing under the map.
+    pub map-time-punctual : (i : ℕ) → mapTimeAnswer n i ≡ mapTimeAnswerBy punctualRules n i
+    unfolding mapTimeAnswerBy
+    map-time-punctual i =
+        ap₂ giving (step-punctual (asking (mapTiming i)) tt)
+        (ap timeIn (test-punctual (n .entries) punctual _ i)
+        ∙ ap (λ m. timeIn (punctualTest (n .entries) (levelOf m) i)) (levels-punctual n punctual))
 
     -- An operation leaves the same node,
     pub after-punctual : (o : Operation) → PunctualOperation o → nodeAfter o n ≡ nodeAfterBy punctualRules o n
@@ -154,11 +168,26 @@ sequence-punctual (o ∷ os) z n h =
       ap₂ _∷_ (operation-punctual n h o (z .0)) (later .1 ∙ ap (answersAllBy punctualRules os) same),
     )
 
--- An operation on a lent session, whatever made it, leaves the session that it left before entries had a jitter.
+-- what an accepted operation makes
+module _ (s : Session) (h : Punctual (nodeIn s .entries)) where
+  store-after : (c : Change) → PunctualChange c → storeAfterBy rules c s ≡ storeAfterBy punctualRules c s
+  store-after (inserting position e) z = store-punctual _ (changed-punctual (nodeIn s) h (inserting position e) z)
+  store-after (removing position) z = store-punctual _ (changed-punctual (nodeIn s) h (removing position) z)
+  store-after (replacing position e) z = store-punctual _ (changed-punctual (nodeIn s) h (replacing position e) z)
+  store-after (settingLevels levels) z = refl
+
+  made-same : (o : Operation) → PunctualOperation o → sessionMade o s ≡ sessionMadeBy punctualRules o s
+  made-same (opening levels) z = ap (λ l. sessionWith l (emptyNode levels)) (store-punctual [] (λ j l. absurd (omega arith)))
+  made-same (changing c) z = ap (λ l. sessionWith l (changed c (nodeIn s))) (store-after c z)
+  made-same (asking q) z = refl
+
+-- An operation on a lent session, whatever made it, leaves the session that it left before entries had a jitter, with the
+-- store under the test without J.
 pub session-punctual : (o : Operation) → PunctualOperation o → (s : Session) → Punctual (nodeIn s .entries)
     → sessionAfter o s ≡ sessionAfterBy punctualRules o s
 unfolding sessionAfterBy
-session-punctual o z s h = ap (λ x. elim x [ accepted ↦ sessionMade o s | refused r ↦ s ]) (step-punctual (nodeIn s) h o z)
+session-punctual o z s h =
+    ap₂ (λ x made. elim x [ accepted ↦ made | refused r ↦ s ]) (step-punctual (nodeIn s) h o z) (made-same s h o z)
 
 -- And so do the words that hold one.
 pub words-punctual : (o : Operation) → PunctualOperation o → (w : List ℕ) → Punctual (nodeIn (sessionIn w) .entries)

@@ -32,8 +32,9 @@ use Rattle.session.specs.Operations.{
 }
 use Rattle.session.specs.declared.Session.{Session}
 use Rattle.session.specs.State.{nodeIn}
-use Rattle.session.specs.Steps.{sessionMade, sessionAfterBy, sessionAfterAll, answersOf}
-use Rattle.session.specs.WithoutNumbers.{looseChangeBy, looseOperationBy, looseLentBy, looseStepBy, looseAfterBy, NewNumber, NumbersOnce, looseAfterAll, looseAnswersOf, AllOnce}
+use Rattle.session.specs.Asking.{askCheck, callCheck}
+use Rattle.session.specs.Steps.{sessionMadeBy, sessionAfterBy, sessionAfterAll, answersOf}
+use Rattle.session.specs.WithoutNumbers.{looseChangeBy, looseOperationBy, looseLentBy, looseStepBy, looseAfterBy, looseCall, NewNumber, NumbersOnce, looseAfterAll, looseAnswersOf, AllOnce}
 use Rattle.session.proofs.Numbers.{other-exactly}
 use Rattle.session.proofs.Checking.{others-free, others-new}
 
@@ -109,9 +110,16 @@ module _ (by : Rules) (n : Node) where
 -- So an operation on a lent session leaves what it left before, where no number occurs twice.
 pub session-differ : (by : Rules) (o : Operation) (s : Session) → NumbersOnce o (nodeIn s) → sessionAfterBy by o s ≡ looseAfterBy by o s
 unfolding sessionAfterBy looseAfterBy
-session-differ by o s once = ap (λ x. elim x [ accepted ↦ sessionMade o s | refused r ↦ s ]) (step-differ by (nodeIn s) o once)
+session-differ by o s once = ap (λ x. elim x [ accepted ↦ sessionMadeBy by o s | refused r ↦ s ]) (step-differ by (nodeIn s) o once)
 
--- And so do the answers and the contents of any sequence of operations.
+-- It answers as it did too,
+call-differ : (o : Operation) (s : Session) → NumbersOnce o (nodeIn s) → callCheck o s ≡ looseCall o s
+unfolding callCheck looseCall
+call-differ (opening levels) s once = step-differ rules (nodeIn s) (opening levels) once
+call-differ (changing c) s once = step-differ rules (nodeIn s) (changing c) once
+call-differ (asking q) s once = ap (λ a. a andThen askCheck q s) (node-differ (rules .check) 0 (nodeIn s) once)
+
+-- and so do the answers and the contents of any sequence of operations.
 pub sequence-differ : (os : List Operation) (s : Session) → AllOnce os s
     → (answersOf os s ≡ looseAnswersOf os s) × (sessionAfterAll os s ≡ looseAfterAll os s)
 unfolding answersOf looseAnswersOf sessionAfterAll looseAfterAll
@@ -119,6 +127,6 @@ sequence-differ [] s once = (refl, refl)
 sequence-differ (o ∷ os) s once =
     let e = session-differ rules o s (once .0) in
     let t = sequence-differ os (looseAfterBy rules o s) (once .1) in (
-      ap₂ (λ a rest. a ∷ rest) (step-differ rules (nodeIn s) o (once .0)) (ap (answersOf os) e ∙ t .0),
+      ap₂ (λ a rest. a ∷ rest) (call-differ o s (once .0)) (ap (answersOf os) e ∙ t .0),
       ap (sessionAfterAll os) e ∙ t .1,
     )

@@ -1,27 +1,35 @@
--- A session that is lent as an array of words: the level count, the entry count, and the words of a node.
+-- A session that is lent as an array of words: the level count, the entry count, the words of a node, and the store.
 use Prim.Native.Nat.{ℕ, _+_}
-use mathlib.Core.List.{List, [], _∷_}
+use mathlib.Core.List.{List, [], _∷_, _++_}
 use mathlib.Core.Path.{_≡_}
-use lib.ListN.{getD, drop}
+use lib.ListN.{getD, take, drop}
 use Rattle.refusals.specs.declared.Checked.{Checked}
 use Rattle.refusals.specs.Refusals.{Outcome, accepted, refused, outcome}
 use Rattle.node_words.specs.Words.{nodeSize}
+use Rattle.map_store.specs.Store.{storeSize}
 use Rattle.session.specs.declared.Session.{Session}
 use Rattle.session.specs.State.{nodeIn}
 use Rattle.session.specs.Operations.{Rules, rules, Operation, stepCheck, stepCheckBy}
 use Rattle.session.specs.Steps.{sessionAfterBy}
 
+-- Where the words of the node begin, and where the store does.
+abbrev pub nodeAt : ℕ
+nodeAt = 2
+
+abbrev pub storeAt : ℕ
+storeAt = 2 + nodeSize
+
 -- How many words a session has.
 abbrev pub sessionSize : ℕ
-sessionSize = 2 + nodeSize
+sessionSize = 2 + nodeSize + storeSize
 
 -- The session that words hold.
 abbrev pub sessionIn : List ℕ → Session
-sessionIn w = record { levels = getD w 0 0; count = getD w 1 0; words = drop 2 w }
+sessionIn w = record { levels = getD w 0 0; count = getD w 1 0; words = take nodeSize (drop nodeAt w); store = drop storeAt w }
 
 -- The words of a session.
 abbrev pub wordsIn : Session → List ℕ
-wordsIn s = s .levels ∷ s .count ∷ s .words
+wordsIn s = s .levels ∷ s .count ∷ (s .words ++ s .store)
 
 -- The words after a change: those of the changed session if it is accepted, and the old words if it is refused.
 abbrev pub wordsLeft : Outcome → Session → List ℕ → List ℕ

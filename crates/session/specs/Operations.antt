@@ -13,6 +13,7 @@ use Rattle.task_model.specs.Checks.{entryCheck, hasNumber, nodeCheckBy}
 use Rattle.completion.specs.Test.{completionTest}
 use Rattle.level_map.specs.Assignments.{EntryTest}
 use Rattle.level_map.specs.Answer.{heldCheckUnder}
+use Rattle.map_store.specs.Asking.{freshTimeCheck}
 
 -- The changes of an open session.
 pub data Change : Type 0 where
@@ -28,6 +29,8 @@ pub data Query : Type 0 where
   mapping : (room : ℕ) → Query
   -- time the entry at i in the group from `first` to `last`
   timing : (first last i : ℕ) → Query
+  -- the completion time of the entry at i under the map
+  mapTiming : (i : ℕ) → Query
 
 -- The operations of a session.
 pub data Operation : Type 0 where
@@ -87,11 +90,12 @@ changeCheckBy by (replacing position e) n =
     andThen othersCheck position e (removeAt position (n .entries))
 changeCheckBy by (settingLevels levels) n = levelsCheck levels
 
--- The checks of a query. Mapping: 10, 11. Timing: 12.
+-- The checks of a query, worked out from the node. Mapping: 10, 11. Timing: 12. Timing under the map: 12, 11.
 unfoldable pub queryCheckBy : Rules → Query → Node → Outcome
 queryCheckBy by (mapping room) n = heldCheckUnder (by .test) n room
 queryCheckBy by (timing first last i) n =
     mustHold (leb first i && leb i last && ltb last (length (n .entries))) (at 12 0 0)
+queryCheckBy by (mapTiming i) n = freshTimeCheck (by .test) n i
 
 -- The checks of an operation. Opening: 4.
 unfoldable pub operationCheckBy : Rules → Operation → Node → Outcome

@@ -26,7 +26,8 @@ use Rattle.session.specs.Operations.{
 }
 use Rattle.session.specs.declared.Session.{Session}
 use Rattle.session.specs.State.{nodeIn}
-use Rattle.session.specs.Steps.{sessionMade}
+use Rattle.session.specs.Asking.{askCheck}
+use Rattle.session.specs.Steps.{sessionMadeBy}
 
 -- The checks of a change. Insert: 12, 13, then the entry's fields. Remove: 12. Replace: 12, then the entry's fields. Setting
 -- levels: 4.
@@ -60,7 +61,7 @@ looseStepBy by o n = looseLentBy by o n andThen looseOperationBy by o n
 unfoldable pub looseAfterBy : Rules → Operation → Session → Session
 looseAfterBy by o s =
     elim (looseStepBy by o (nodeIn s)) [
-      | accepted ↦ sessionMade o s
+      | accepted ↦ sessionMadeBy by o s
       | refused r ↦ s
     ]
 
@@ -77,6 +78,12 @@ NumbersOnce (opening levels) n = Unit
 NumbersOnce (changing c) n = NumbersDiffer (n .entries) × NewNumber c (n .entries)
 NumbersOnce (asking q) n = NumbersDiffer (n .entries)
 
+-- All checks of a call on a session. A query is answered from the store, as it is now.
+unfoldable pub looseCall : Operation → Session → Outcome
+looseCall (opening levels) s = looseStepBy rules (opening levels) (nodeIn s)
+looseCall (changing c) s = looseStepBy rules (changing c) (nodeIn s)
+looseCall (asking q) s = looseNodeBy (rules .check) 0 (nodeIn s) andThen askCheck q s
+
 -- The session after a sequence of operations, and their answers.
 unfoldable pub looseAfterAll : List Operation → Session → Session
 looseAfterAll [] s = s
@@ -84,7 +91,7 @@ looseAfterAll (o ∷ os) s = looseAfterAll os (looseAfterBy rules o s)
 
 unfoldable pub looseAnswersOf : List Operation → Session → List Outcome
 looseAnswersOf [] s = []
-looseAnswersOf (o ∷ os) s = looseStepBy rules o (nodeIn s) ∷ looseAnswersOf os (looseAfterBy rules o s)
+looseAnswersOf (o ∷ os) s = looseCall o s ∷ looseAnswersOf os (looseAfterBy rules o s)
 
 -- In a sequence of operations no number ever occurs twice.
 abbrev pub AllOnce : List Operation → Session → Type 0

@@ -7,7 +7,11 @@ use checks::check_time;
 use completion::Timing;
 use completion::completion_test;
 use level_map::MappedNode;
-use level_map::map_held;
+use map_store::STORE_WORDS;
+use map_store::StoreWords;
+use map_store::StoredTime;
+use map_store::stored_map;
+use map_store::stored_time;
 use node_words::NODE_WORDS;
 use node_words::NodeWords;
 use node_words::check_words;
@@ -15,24 +19,28 @@ use refusals::Checked;
 use refusals::Refusal;
 use task_model::Entry;
 ghost use mathlib.Core.Path.{_≡_};
+ghost use Rattle.map_store.specs.Asking.{storedGives};
 ghost use Rattle.session.specs.State.{nodeIn, blankSession};
 ghost use Rattle.session.specs.Operations.{changing, opening, inserting, removing, replacing, settingLevels};
 ghost use Rattle.session.specs.Steps.{Follows};
+ghost use Rattle.session.specs.Asking.{mapTimeGiven};
 ghost use Rattle.session.specs.Mapping.{Maps};
 ghost use Rattle.session.specs.Timing.{timeGives, timeAnswer};
 ghost use Rattle.session.specs.InWords.{sessionIn, wordsIn};
 
-// How many words of 32 bits a session has: its level count, its entry count, and the words of a node.
-pub const SESSION_WORDS: usize = 2 + NODE_WORDS;
+// How many words of 32 bits a session has: its level count, its entry count, the words of a node, and the store of its map.
+pub const SESSION_WORDS: usize = in_words::STORE_AT + STORE_WORDS;
 
 pub type SessionWords = [u32; SESSION_WORDS];
 
-// One node, with room for the most entries that it may have, in words of 32 bits without padding.
+// One node, with room for the most entries that it may have, and the store of its map and its times, in words of 32 bits
+// without padding.
 #[repr(C)]
 pub struct Session {
     levels: u32,
     count: u32,
     words: NodeWords,
+    store: StoreWords,
 }
 
 // What an operation answers, and the session that it leaves.
@@ -55,6 +63,7 @@ pub fn blank() -> Session
         levels: 0,
         count: 0,
         words: [0u32; NODE_WORDS],
+        store: [0u32; STORE_WORDS],
     }
 }
 
@@ -98,7 +107,7 @@ pub fn replaced(s: Session, position: usize, e: Entry) -> Changed
     Changed { answer, session }
 }
 
-// Sets the level count.
+// Sets the level count. The store stays as it is.
 pub fn with_levels(s: Session, levels: u8) -> Changed
     ensures { λ c. ⌜ Follows (changing (settingLevels levels)) s (c .answer) (c .session) ⌝ }
 {
@@ -120,16 +129,28 @@ pub fn timed(s: Session, first: usize, last: usize, i: usize) -> TimeAnswer
     TimeAnswer::Answered(completion_test(&s.words, count, first, last, i))
 }
 
-// Maps the node: writes one byte per entry from the start of `out`. A refusal leaves `out` untouched.
+// Maps the node: gives the stored map, one byte per entry from the start of `out`. A refusal leaves `out` untouched.
 pub fn mapped(s: Session, out: &mut [u8]) -> MappedNode
-    ensures { λ a. ⌜ Maps (nodeIn s) (now (out .entry)) a (now (out .exit)) ⌝ }
+    ensures { λ a. ⌜ Maps s (now (out .entry)) a (now (out .exit)) ⌝ }
 {
     let count = s.count as usize;
     let found = check_words(0, &s.words, count, s.levels);
     if let Checked::Refused(r) = found {
         return MappedNode::Refused(r);
     }
-    map_held(&s.words, count, s.levels as u8, out)
+    stored_map(&s.store, s.levels as u8, count, out)
+}
+
+// The completion time of the entry at `i` under the stored map.
+pub fn map_timed(s: Session, i: usize) -> StoredTime
+    ensures { λ a. ⌜ storedGives a ≡ mapTimeGiven s i ⌝ }
+{
+    let count = s.count as usize;
+    let found = check_words(0, &s.words, count, s.levels);
+    if let Checked::Refused(r) = found {
+        return StoredTime::Refused(r);
+    }
+    stored_time(&s.store, s.levels as u8, count, i)
 }
 
 // Opens the lent session, whatever it held: an empty node with the given level count (4).
@@ -184,25 +205,31 @@ pub fn time(s: &Session, first: usize, last: usize, i: usize) -> TimeAnswer
     timed(*s, first, last, i)
 }
 
-// Maps the node into `out`, one byte per entry (10, 11). The session is only read.
+// Maps the node into `out`, one byte per entry (10, 11): the stored map. The session is only read.
 pub fn map(s: &Session, out: &mut [u8]) -> MappedNode
-    ensures { λ a. ⌜ Maps (nodeIn (now (s .entry))) (now (out .entry)) a (now (out .exit)) ⌝ }
+    ensures { λ a. ⌜ Maps (now (s .entry)) (now (out .entry)) a (now (out .exit)) ⌝ }
 {
     mapped(*s, out)
+}
+
+// The completion time of the entry at `i` under the stored map (12, 11). The session is only read.
+pub fn map_time(s: &Session, i: usize) -> StoredTime
+    ensures { λ a. ⌜ storedGives a ≡ mapTimeGiven (now (s .entry)) i ⌝ }
+{
+    map_timed(*s, i)
 }
 
 // The session that words hold.
 pub fn from_words(w: SessionWords) -> Session
     ensures { λ s. ⌜ s ≡ sessionIn w ⌝ }
 {
-    let mut words = [0u32; NODE_WORDS];
-    for j in 0..NODE_WORDS {
-        words[j] = w[2 + j];
-    }
+    let words = in_words::node_part(&w);
+    let store = in_words::store_part(&w);
     Session {
         levels: w[0],
         count: w[1],
         words,
+        store,
     }
 }
 
@@ -211,11 +238,11 @@ pub fn to_words(s: Session) -> SessionWords
     ensures { λ w. ⌜ w ≡ wordsIn s ⌝ }
 {
     let words = s.words;
+    let store = s.store;
     let mut w = [0u32; SESSION_WORDS];
     w[0] = s.levels;
     w[1] = s.count;
-    for j in 0..NODE_WORDS {
-        w[2 + j] = words[j];
-    }
+    in_words::copy_into(&mut w, in_words::NODE_AT, &words);
+    in_words::copy_into(&mut w, in_words::STORE_AT, &store);
     w
 }

@@ -1,4 +1,5 @@
 use Rattle.session.proofs.InWords.{by-value}
+use Rattle.session.proofs.Held.{held-sized}
 use borrow.Author.Needs.{needs}
 use Rattle.session.proofs.inserted.Statement.{statement}
 use Rattle.session.proofs.inserted.Tie as tie
@@ -9,7 +10,8 @@ after-to-words c = c .before .before .before .before
 
 returns : tie.Need-returns
 returns c =
-    by-value _ _ (after-to-words c .to-words .ensures) (c .before .before .insert .ensures) (c .from-words .ensures)
+    let s = after-to-words c .before in
+    by-value _ _ (held-sized _ (s .good .0)) (after-to-words c .to-words .ensures) (c .before .before .insert .ensures) (c .from-words .ensures)
 
 pub inserted-spec : {M : Type 1} → statement M
 inserted-spec = tie.close (tie.spec (λ c κs. search needs) (λ c. search needs) (λ c κs. search needs) (λ c κs. search needs) returns)

@@ -39,7 +39,6 @@ use denote.Triple.Table.{entered, cited}
 use denote.Triple.Walked.{says, Stays, stay-none-ref, gave-slice, walkOf, goes-none-ref, goes-gave-slice, ends-at, walked, walk-meets}
 use denote.Triple.Clauses.{ensured, lasts}
 use denote.Exit.{yes}
-use Rattle.session.specs.State.{nodeIn}
 use Rattle.session.specs.Mapping.{Maps}
 use Rattle.session.specs.declared.Session.{Session}
 use Rattle.level_map.specs.declared.MappedNode.{MappedNode}
@@ -78,7 +77,7 @@ module _ {M : Type 1} (𝓤 : URA M) (H : Heap 𝓤) (A : Atoms 𝓤) (W : Given
   abbrev Post : Val → SProp 𝓤
   Post = walkOf 𝓤 H A f.ended stayed (f.clauses 𝓤 H A at-mem run) .post bound
 
-  exits : (r : MappedNode) (v : Val) (zs : List ℕ) → Maps (nodeIn h) ys r zs → length zs ≡ length ys
+  exits : (r : MappedNode) (v : Val) (zs : List ℕ) → Maps h ys r zs → length zs ≡ length ys
       → ent 𝓤 (sep 𝓤 (A .lft κ q) (sep 𝓤 (sep 𝓤 (A .lft κ′ q′) (sem 𝓤 H A ftrue)) (sep 𝓤 (A .res γ (T.the-row .coded .code h)) (sep 𝓤 (A .shr-bor κ (λ s. partAt T.the-row s h b o))
       (sep 𝓤 (sem 𝓤 H A (finally u8 γ′ zs)) (sem 𝓤 H A (TA.the-row .own r (v ∷ [])))))))) (Post v)
   exits r v zs e l =
@@ -113,8 +112,8 @@ module _ {M : Type 1} (𝓤 : URA M) (H : Heap 𝓤) (A : Atoms 𝓤) (W : Given
         calls-at ! fm (With 𝓤 H A at-mem run) known to-with (and-then ! (load ! (from ! (stop !)) (look ! 8 refl)) (and-then ! (load ! (from ! (stop !)) (look ! 4 refl)) (no-more !))) (λ v.
         use1 W (later (some (λ (r : MappedNode). ((‵ (flft κ′ q′) ⊛ ‵ ftrue) ⊛ ‵ (TA.the-row .own r (v ∷ []))) ⊛ raw (ensured 𝓤 H A g.ended (g.clauses 𝓤 H A at-mem run) (κ′, tt) (h, (out, tt)) tt r)))) (id⊢ 𝓤 _) $ await ! tt $ pick ! (λ r.
         -- what `mapped` ensures, at some last list
-        split ! $ move ! (1 ∷ []) $ use1 W (some (λ (zs : Unit {0} × (List ℕ × Unit {0})). ‵ (lasts g.ended (κ′, tt) (h, (out, tt)) zs) ⊛ raw (fact 𝓤 (Maps (nodeIn h) ys r (zs .1 .0))))) (id⊢ 𝓤 _) $ pick ! (λ zs.
-        split ! $ move ! (1 ∷ []) $ heard ! (Maps (nodeIn h) ys r (zs .1 .0)) (λ e. fsplit ! $ move ! (1 ∷ []) $ fsplit ! $ fsplit ! $ move ! (1 ∷ []) $ feqL ! (λ l.
+        split ! $ move ! (1 ∷ []) $ use1 W (some (λ (zs : Unit {0} × (List ℕ × Unit {0})). ‵ (lasts g.ended (κ′, tt) (h, (out, tt)) zs) ⊛ raw (fact 𝓤 (Maps h ys r (zs .1 .0))))) (id⊢ 𝓤 _) $ pick ! (λ zs.
+        split ! $ move ! (1 ∷ []) $ heard ! (Maps h ys r (zs .1 .0)) (λ e. fsplit ! $ move ! (1 ∷ []) $ fsplit ! $ fsplit ! $ move ! (1 ∷ []) $ feqL ! (λ l.
         -- [the last list; …; the token and the result; the cell; what shuts it; the borrow; _5; …]
         move ! (3 ∷ []) $ split ! $ move ! (1 ∷ []) $ peeks ! TA.the-row (Is TA.the-row) (shows 𝓤 H A TA.the-row) r (v ∷ []) (λ is.
         land ! (from ! (stop !)) (init ! 18 refl (EL.lawful TA.the-type TA′.the-laws 𝓤 H A W tt .typed r _ is .0)) $

@@ -1,51 +1,38 @@
-use Prim.Native.Nat.{ℕ, _+_, _-_, _≤_}
-use mathlib.Core.Path.{_≡_, _∙_, refl, ap}
-use mathlib.Core.List.{List, _∷_}
+use mathlib.Core.Path.{_∙_, sym}
 use native.Mathlib.Omega.{arith}
-use lib.ListN.{length}
-use lib.Seq.{paste, paste-zero}
 use borrow.Author.Needs.{needs}
-use Rattle.node_words.specs.Words.{nodeSize}
-use Rattle.session.specs.declared.Session.{Session}
-use Rattle.node_words.specs.Lists.{zeros}
-use Rattle.session.proofs.Held.{held-size}
-use Rattle.node_words.proofs.Copying.{copy-next, copy-all}
+use Rattle.session.proofs.InWords.{Sized, half-size, both-copied}
+use Rattle.session.proofs.Held.{held-sized}
 use Rattle.session.proofs.to_words.Statement.{statement}
 use Rattle.session.proofs.to_words.Tie as tie
 
-abbrev Inv-loop : tie.InvT-loop
-Inv-loop words w₀ j₀ w j = (j ≤ nodeSize) × (length words ≡ nodeSize) × (w ≡ paste w₀ 2 words j)
+-- the session has all its words: its type says so
+sized : (c : tie.Start) → Sized (c .args .s)
+sized c = held-sized (c .args .s) (c .good .0)
 
-abbrev μ-loop : tie.MeasureT-loop
-μ-loop words w₀ j₀ w j = nodeSize - j
+copy-into-requires : tie.Need-copy-into-requires
+copy-into-requires c κs = omega (arith, sized (c .before .before .before .before) .node)
 
--- the array before the loop
-abbrev start : Session → List ℕ
-start s = s .levels ∷ s .count ∷ zeros nodeSize
+again : tie.Need-slice-aggregate-copy-into-3
+again c =
+    let k = c .before .before in
+    let s = k .before .before .before .before .before in
+    sym (half-size (s .args .s) (sized s) _ (k .copy-into .ensures))
 
-loop-holds : tie.Need-loop-holds Inv-loop μ-loop
-loop-holds c = (omega arith, held-size (c .before .args .s) (c .before .good .0), paste-zero _ 2 (c .before .args .s .words))
+copy-into-requires-2 : tie.Need-copy-into-requires-2
+copy-into-requires-2 c κs =
+    let k = c .before .before .before in
+    let s = k .before .before .before .before .before in
+    omega (arith, sized s .store, half-size (s .args .s) (sized s) _ (k .copy-into .ensures))
 
-loop-again : tie.Need-loop-again Inv-loop μ-loop
-loop-again c =
-    let s = c .before .before .before .args .s in
-    let j = c .before .loop .j in
-    let i = c .before .loop .inv in (
-      omega arith,
-      i .1,
-      copy-next (start s) 2 (s .words) j (2 + j) _ refl (omega arith) (omega arith) (i .2),
-    )
-
-returns : tie.Need-returns Inv-loop μ-loop
+returns : tie.Need-returns
 returns c =
-    let s = c .before .before .before .args .s in
-    let i = c .before .loop .inv in
-    let e : c .before .loop .j ≡ nodeSize = omega arith in
-    i .2 ∙ ap (paste (start s) 2 (s .words)) e ∙ copy-all (start s) 2 (s .words) nodeSize (omega arith) refl
+    let k = c .before .before .before .before .before in
+    let s = k .before .before .before .before .before in
+    c .before .copy-into2 .ensures ∙ both-copied (s .args .s) (sized s) _ (k .copy-into .ensures)
 
 pub to-words-spec : {M : Type 1} → statement M
 to-words-spec =
     tie.close (tie.spec
-    Inv-loop μ-loop (λ c. search needs) (λ c. search needs) loop-holds (λ c. search needs) (λ c. search needs)
-    (λ c. search needs) (λ c. search needs) (λ c. search needs) (λ c. search needs) (λ c. search needs) loop-again
-    returns)
+    (λ c. search needs) (λ c. search needs) (λ c. search needs) (λ c. search needs) copy-into-requires again
+    (λ c. search needs) copy-into-requires-2 returns)

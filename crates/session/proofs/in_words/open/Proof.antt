@@ -1,4 +1,10 @@
-use mathlib.Core.Path.{refl, ap}
+use Prim.Native.Nat.{ℕ, _-_}
+use mathlib.Core.Path.{_≡_, _∙_, refl, ap}
+use native.Mathlib.Omega.{arith}
+use lib.ListN.{length, take, set, length-set, length-append, length-replicate}
+use lib.Seq.{length-take-le}
+use Rattle.node_words.specs.Lists.{zeros}
+use Rattle.session.specs.InWords.{storeAt, sessionSize}
 use Rattle.refusals.specs.Refusals.{outcome}
 use Rattle.session.specs.Operations.{opening, lentCheck, lentCheckBy, operationCheck, operationCheckBy, stepCheck, stepCheckBy}
 use Rattle.session.proofs.InWords.{in-refused, in-accepted, opened-words}
@@ -20,6 +26,18 @@ after-check-levels c = c .before .before .before .before .before .before
 abbrev after-enum-told : tie.After-slice-known2 → tie.After-enum-told
 after-enum-told c = c .before .before .before .before
 
+-- clearing keeps the length
+size : (c : tie.After-slice-known2) → length (c .before .before .clear-from .last .0) ≡ sessionSize
+size c =
+    let w = at-start c .args .words .now in
+    ap length (c .before .before .clear-from .ensures)
+    ∙ omega (arith, length-append (take 1 w) (zeros (length w - 1)), length-take-le 1 w (omega arith), length-replicate {A = ℕ} (length w - 1) 0)
+
+same-length : tie.Need-same-length
+same-length c =
+    let l = c .before .before .clear-from .last .0 in
+    omega (arith, length-set (set l 0 (at-start c .args .levels)) storeAt 1, length-set l 0 (at-start c .args .levels), size c)
+
 returns-2 : tie.Need-returns-2
 unfolding stepCheckBy lentCheckBy operationCheckBy
 returns-2 c =
@@ -31,4 +49,4 @@ pub open-spec : {M : Type 1} → statement M
 open-spec =
     tie.close (tie.spec
     (λ c κs. search needs) (λ c. search needs) (λ c. search needs) returns (λ c κs. search needs) (λ c. search needs)
-    (λ c. search needs) returns-2)
+    (λ c. omega (arith, length-set (c .before .before .clear-from .last .0) 0 (at-start c .args .levels), size c)) same-length returns-2)

@@ -1,6 +1,7 @@
+use mathlib.Core.Path.{refl}
 use native.Mathlib.Omega.{arith}
 use Rattle.session.specs.Operations.{settingLevels, changed}
-use Rattle.session.proofs.InWords.{PartReady, part-ready, part-refused, part-accepted}
+use Rattle.session.proofs.InWords.{PartReady, part-ready, part-refused, part-kept}
 use borrow.Author.Needs.{needs}
 use Rattle.session.proofs.in_words.set_levels.Statement.{statement}
 use Rattle.session.proofs.in_words.set_levels.Tie as tie
@@ -29,7 +30,7 @@ returns-2 : tie.Need-returns-2
 unfolding changed
 returns-2 c =
     let s = at-start-2 c in
-    part-accepted (s .args .words .now) (s .pre) (settingLevels (s .args .levels)) _ (after-check-set-levels c .check-set-levels .ensures) (after-enum-told c .enum-told .given .1) (c .before .before .keep-list .ensures)
+    part-kept (s .args .words .now) (s .pre) (settingLevels (s .args .levels)) _ (after-check-set-levels c .check-set-levels .ensures) (after-enum-told c .enum-told .given .1) (c .before .before .keep-list .ensures) refl
 
 pub set-levels-spec : {M : Type 1} → statement M
 set-levels-spec =
