@@ -1,17 +1,14 @@
 -- The map of a session equals the map of its node in a plan file: laws, and then the theorems.
 use Prim.Native.Nat.{ℕ, zero, suc, _<_}
-use mathlib.Core.Path.{_≡_, _∙_, refl, ap, sym}
+use mathlib.Core.Path.{_≡_, _∙_, refl, ap, ap₂, sym}
 use mathlib.Core.List.{List}
 use native.Mathlib.Omega.{arith}
 use lib.ListN.{length}
 use lib.Seq.{take-length}
 use Rattle.refusals.specs.Refusals.{accepted}
 use Rattle.task_model.specs.Limits.{Node, NodeValid}
-use Rattle.node_words.specs.Words.{entryFrom}
 use Rattle.refusals.specs.Answers.{left}
-use Rattle.task_model.specs.Checks.{nodeCheck}
-use Rattle.node_words.proofs.Entries.{length-entries, entry-of}
-use Rattle.task_model.proofs.Theorems.{node-accepted}
+use Rattle.node_words.proofs.Entries.{length-entries}
 use Rattle.plan_file.specs.Plan.{Plan, entryCount, PlanFits}
 use Rattle.task_model.specs.WithoutJitter.{Punctual}
 use Rattle.plan_file.specs.declared.Edition.{Edition}
@@ -28,9 +25,10 @@ use Rattle.planner.specs.Mapping.{fileAnswer}
 use Rattle.planner.proofs.Answers.{file-found}
 use Rattle.session.specs.declared.Session.{Session}
 use Rattle.session.specs.State.{nodeIn, Sound}
-use Rattle.session.specs.Mapping.{mapAnswer}
-use Rattle.session.proofs.Reading.{Kept, kept-fit}
-use Rattle.session.proofs.Mapping.{own-answer}
+use Rattle.map_store.specs.Store.{storedLevels}
+use Rattle.session.specs.Asking.{mapGiven}
+use Rattle.session.proofs.Reading.{Kept, kept-fit, number-short}
+use Rattle.session.proofs.Theorems.{map-answers, map-writes}
 use Rattle.planner_c.specs.OneRow.{oneRow}
 
 -- the node of any row of an accepted file, mapped under the number of that row
@@ -108,34 +106,25 @@ module _ (ed : Edition) (n : Node) (k : Kept n) (number : ℕ) (short : number <
 
 -- what words hold has numbers of 16 bits
 kept-in : (s : Session) → NodeValid (nodeIn s) → Kept (nodeIn s)
-unfolding entryFrom
 kept-in s h =
-    record {
-      valid = h;
-      short =
-          λ j l.
-          let i : j < s .count = omega (arith, length-entries (s .words) 0 (s .count)) in
-          rw (entry-of (s .words) (s .count) j i) (omega arith);
-    }
+    record { valid = h; short = λ j l. number-short (s .words) (s .count) j (omega (arith, length-entries (s .words) 0 (s .count))) }
 
--- The map of a session is that of the same node in a file: in any accepted file, at any row that holds this node, mapped
--- under that row's number. Answer, count and bytes are the same.
-module _ (s : Session) (f : List ℕ) (a : fileCheck f ≡ accepted) (i number : ℕ) (has : i < length (planIn f .rows))
+-- The map of a session that opening and operations made is that of the same node in a file: in any accepted file, at any row
+-- that holds this node, mapped under that row's number. Answer, count and bytes are the same.
+module _ (s : Session) (h : Sound s) (f : List ℕ) (a : fileCheck f ≡ accepted) (i number : ℕ) (has : i < length (planIn f .rows))
     (named : rowIn (planIn f .rows) i .number ≡ number) (same : nodeOfRow (planIn f) i ≡ nodeIn s) where
-  row-checks : nodeCheck 0 (nodeIn s) ≡ accepted
-  row-checks = node-accepted 0 (nodeIn s) .1 (rw (← same) (row-valid f a i number has named))
-
   -- Mapping the file answers as mapping the session does.
-  pub file-answers : (room : ℕ) → fileAnswer f number room ≡ mapAnswer (nodeIn s) room
-  file-answers room =
-      row-answer f a i number has named room ∙ ap (λ n. heldAnswer n room) same ∙ sym (own-answer (nodeIn s) row-checks room)
+  pub file-answers : (room : ℕ) → fileAnswer f number room ≡ mapGiven s room
+  file-answers room = row-answer f a i number has named room ∙ ap (λ n. heldAnswer n room) same ∙ sym (map-answers s h room)
 
   -- And it leaves any buffer as mapping the session does.
   pub file-writes : (buffer : List ℕ)
       → left (fileAnswer f number (length buffer)) (mapOf (nodeFound f number)) buffer
-      ≡ left (mapAnswer (nodeIn s) (length buffer)) (mapOf (nodeIn s)) buffer
+      ≡ left (mapGiven s (length buffer)) (storedLevels (s .store) (s .count)) buffer
   file-writes buffer =
-      rw (file-answers (length buffer), found f a i number has named .1, same)
+      ap₂ (λ x n. left x (mapOf n) buffer) (row-answer f a i number has named (length buffer)) (found f a i number has named .1)
+      ∙ ap (λ n. left (heldAnswer n (length buffer)) (mapOf n) buffer) same
+      ∙ sym (map-writes s h buffer)
 
 -- There is such a file, under any number: that of the node as a plan of one row, which the writer accepts in the second
 -- edition, and in the first if every J is 0.
@@ -161,17 +150,17 @@ module _ (ed : Edition) (s : Session) (h : Sound s) (number : ℕ) (short : numb
   )
 
   -- Mapping that file answers as mapping the session does.
-  pub one-row-answers : (room : ℕ) → fileAnswer (encoding ed (oneRow number (nodeIn s))) number room ≡ mapAnswer (nodeIn s) room
+  pub one-row-answers : (room : ℕ) → fileAnswer (encoding ed (oneRow number (nodeIn s))) number room ≡ mapGiven s room
   one-row-answers =
-      let r = one-row-read in file-answers s (encoding ed (oneRow number (nodeIn s))) (r .0) 0 number (r .1) (r .2) (r .3)
+      let r = one-row-read in file-answers s h (encoding ed (oneRow number (nodeIn s))) (r .0) 0 number (r .1) (r .2) (r .3)
 
   -- And it leaves any buffer as mapping the session does.
   pub one-row-writes : (buffer : List ℕ)
       → left (fileAnswer (encoding ed (oneRow number (nodeIn s))) number (length buffer))
       (mapOf (nodeFound (encoding ed (oneRow number (nodeIn s))) number)) buffer
-      ≡ left (mapAnswer (nodeIn s) (length buffer)) (mapOf (nodeIn s)) buffer
+      ≡ left (mapGiven s (length buffer)) (storedLevels (s .store) (s .count)) buffer
   one-row-writes =
-      let r = one-row-read in file-writes s (encoding ed (oneRow number (nodeIn s))) (r .0) 0 number (r .1) (r .2) (r .3)
+      let r = one-row-read in file-writes s h (encoding ed (oneRow number (nodeIn s))) (r .0) 0 number (r .1) (r .2) (r .3)
 
 -- The second edition has a place for every node, and the first for a node without jitter.
 pub second-placed : (number : ℕ) (n : Node) → EditionHolds Second (oneRow number n)
@@ -182,10 +171,10 @@ first-placed number n h = h
 
 -- So the map of a session, in any buffer, is that of the same node in a file of the second edition,
 pub second-maps : (s : Session) → Sound s → (number : ℕ) → number < 65536 → (buffer : List ℕ)
-    → (fileAnswer (encoding Second (oneRow number (nodeIn s))) number (length buffer) ≡ mapAnswer (nodeIn s) (length buffer))
+    → (fileAnswer (encoding Second (oneRow number (nodeIn s))) number (length buffer) ≡ mapGiven s (length buffer))
     × (left (fileAnswer (encoding Second (oneRow number (nodeIn s))) number (length buffer))
     (mapOf (nodeFound (encoding Second (oneRow number (nodeIn s))) number)) buffer
-    ≡ left (mapAnswer (nodeIn s) (length buffer)) (mapOf (nodeIn s)) buffer)
+    ≡ left (mapGiven s (length buffer)) (storedLevels (s .store) (s .count)) buffer)
 second-maps s h number short buffer =
     let placed = second-placed number (nodeIn s) in (
       one-row-answers Second s h number short placed (length buffer),
@@ -194,10 +183,10 @@ second-maps s h number short buffer =
 
 -- and that in a file of the first edition if every J is 0.
 pub first-maps : (s : Session) → Sound s → (number : ℕ) → number < 65536 → Punctual (nodeIn s .entries) → (buffer : List ℕ)
-    → (fileAnswer (encoding First (oneRow number (nodeIn s))) number (length buffer) ≡ mapAnswer (nodeIn s) (length buffer))
+    → (fileAnswer (encoding First (oneRow number (nodeIn s))) number (length buffer) ≡ mapGiven s (length buffer))
     × (left (fileAnswer (encoding First (oneRow number (nodeIn s))) number (length buffer))
     (mapOf (nodeFound (encoding First (oneRow number (nodeIn s))) number)) buffer
-    ≡ left (mapAnswer (nodeIn s) (length buffer)) (mapOf (nodeIn s)) buffer)
+    ≡ left (mapGiven s (length buffer)) (storedLevels (s .store) (s .count)) buffer)
 first-maps s h number short punctual buffer =
     let placed = first-placed number (nodeIn s) punctual in (
       one-row-answers First s h number short placed (length buffer),

@@ -41,7 +41,8 @@ abbrev pub sizedPlan : Answer Filled → Returned
 sizedPlan (gives s) = given (s .rows) (s .entries) (editionNumber (s .edition))
 sizedPlan (refuses r) = back r
 
--- The writer and the listing give a length. The mapper gives how many levels the map uses.
+-- The writer and the listing give a length. The mapper gives how many levels the map uses, and a session the completion time
+-- of an entry under its map.
 abbrev pub sized : Answer ℕ → Returned
 sized (gives n) = given n 0 0
 sized (refuses r) = back r

@@ -1,26 +1,25 @@
-// The session for C. It is lent as words: its level count, its entry count and the words of a node.
+// The session for C. It is lent as words: its level count, its entry count, the words of a node, and the store of its map.
 use super::returned::give;
 use super::returned::give_checked;
 use super::returned::refuse;
 use completion::Timing;
 use level_map::MappedNode;
+use map_store::StoredTime;
 use node_words::EntryWords;
 use session::SessionWords;
 use session::TimeAnswer;
-use session::from_words;
 use session::in_words;
 ghost use mathlib.Core.Path.{_≡_};
 ghost use lib.ListN.{length};
 ghost use Rattle.refusals.specs.Answers.{left};
-ghost use Rattle.refusals.specs.Refusals.{accepted};
-ghost use Rattle.task_model.specs.Checks.{nodeCheck};
 ghost use Rattle.node_words.specs.Words.{entryFrom};
 ghost use Rattle.completion.specs.Test.{completion};
-ghost use Rattle.level_map.specs.Answer.{mapOf, NodeBestMapOrNone};
-ghost use Rattle.session.specs.State.{nodeIn};
+ghost use Rattle.level_map.specs.Answer.{NodeBestMapOrNone};
+ghost use Rattle.map_store.specs.Store.{storedLevels};
+ghost use Rattle.session.specs.State.{nodeIn, Sound};
 ghost use Rattle.session.specs.Operations.{changing, opening, inserting, removing, replacing, settingLevels};
 ghost use Rattle.session.specs.Timing.{timeAnswer};
-ghost use Rattle.session.specs.Mapping.{mapAnswer};
+ghost use Rattle.session.specs.Asking.{mapGiven, mapTimeGiven};
 ghost use Rattle.session.specs.InWords.{sessionIn};
 ghost use Rattle.planner_c.specs.Returned.{returned, sized, givenTime, timed};
 ghost use Rattle.planner_c.specs.Changes.{Changes};
@@ -127,15 +126,14 @@ pub extern "C" fn maiplur_session_time(
         ⌜ returned a (now (values .exit)) ≡
         timed (timeAnswer (nodeIn (sessionIn (now (words .entry)))) first last i) ⌝ }
 {
-    let s = from_words(*words);
-    let answer = session::timed(s, first, last, i);
+    let answer = in_words::time(words, first, last, i);
     match answer {
         TimeAnswer::Answered(t) => give_time(t, values),
         TimeAnswer::Refused(r) => refuse(r, values),
     }
 }
 
-// Maps the node: one byte per entry from the buffer's start. Gives the count of levels used.
+// Maps the node: one byte per entry from the buffer's start. Gives the count of levels used. The map is the stored one.
 #[no_mangle]
 pub extern "C" fn maiplur_session_map(
     words: &SessionWords,
@@ -144,20 +142,36 @@ pub extern "C" fn maiplur_session_map(
 ) -> u32
     ensures { λ a.
         ⌜ returned a (now (values .exit)) ≡
-        sized (mapAnswer (nodeIn (sessionIn (now (words .entry)))) (length (now (levels .entry)))) ⌝ }
+        sized (mapGiven (sessionIn (now (words .entry))) (length (now (levels .entry)))) ⌝ }
     ensures { λ a.
         ⌜ now (levels .exit) ≡
-        left (mapAnswer (nodeIn (sessionIn (now (words .entry)))) (length (now (levels .entry))))
-        (mapOf (nodeIn (sessionIn (now (words .entry))))) (now (levels .entry)) ⌝ }
+        left (mapGiven (sessionIn (now (words .entry))) (length (now (levels .entry))))
+        (storedLevels (sessionIn (now (words .entry)) .store) (sessionIn (now (words .entry)) .count)) (now (levels .entry)) ⌝ }
     ensures { λ a.
-        ⌜ (nodeCheck 0 (nodeIn (sessionIn (now (words .entry)))) ≡ accepted →
+        ⌜ (Sound (sessionIn (now (words .entry))) →
         NodeBestMapOrNone (nodeIn (sessionIn (now (words .entry)))) (now (levels .entry))
-        (mapAnswer (nodeIn (sessionIn (now (words .entry)))) (length (now (levels .entry)))) (now (levels .exit))) ⌝ }
+        (mapGiven (sessionIn (now (words .entry))) (length (now (levels .entry)))) (now (levels .exit))) ⌝ }
 {
-    let s = from_words(*words);
-    let mapped = session::mapped(s, levels);
+    let mapped = in_words::map(words, levels);
     match mapped {
         MappedNode::Levels(used) => give(used as usize, 0, 0, values),
         MappedNode::Refused(r) => refuse(r, values),
+    }
+}
+
+// Gives the completion time of the entry at `i` under the stored map.
+#[no_mangle]
+pub extern "C" fn maiplur_session_map_time(
+    words: &SessionWords,
+    i: usize,
+    values: &mut [usize; 3],
+) -> u32
+    ensures { λ a.
+        ⌜ returned a (now (values .exit)) ≡ sized (mapTimeGiven (sessionIn (now (words .entry))) i) ⌝ }
+{
+    let answer = in_words::map_time(words, i);
+    match answer {
+        StoredTime::At(time) => give(time as usize, 0, 0, values),
+        StoredTime::Refused(r) => refuse(r, values),
     }
 }

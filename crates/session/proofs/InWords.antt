@@ -107,11 +107,11 @@ pub store-back : (w st : List ℕ) → length w ≡ sessionSize
     → putMid storeAt (length w - storeAt) w st ≡ getD w 0 0 ∷ getD w 1 0 ∷ (take nodeSize (drop nodeAt w) ++ st)
 store-back w st h =
     rw (drop-of-length-le (drop storeAt w) {i = length w - storeAt} (omega (arith, length-drop storeAt w)), append-nil st) (front w st h)
-    where
-      front : (l m : List ℕ) → length l ≡ sessionSize → take storeAt l ++ m ≡ getD l 0 0 ∷ getD l 1 0 ∷ (take nodeSize (drop nodeAt l) ++ m)
-      front [] m h = absurd (omega arith)
-      front (levels ∷ []) m h = absurd (omega arith)
-      front (levels ∷ count ∷ rest) m h = refl
+  where
+    front : (l m : List ℕ) → length l ≡ sessionSize → take storeAt l ++ m ≡ getD l 0 0 ∷ getD l 1 0 ∷ (take nodeSize (drop nodeAt l) ++ m)
+    front [] m h = absurd (omega arith)
+    front (levels ∷ []) m h = absurd (omega arith)
+    front (levels ∷ count ∷ rest) m h = refl
 
 -- the session of a node within the limits
 pub with-sized : (store : List ℕ) (n : Node) → length (n .entries) ≤ mostEntries → length store ≡ storeSize → Sized (sessionWith store n)

@@ -1,11 +1,14 @@
 // The operations of a session that is lent as words: its level count, its entry count, the words of a node, and the store.
 // Changes are made in place; a refused change writes nothing. Numbers in parentheses are the refusals, in the order of the
 // checks.
+use super::TimeAnswer;
 use super::checks::check_insert;
 use super::checks::check_levels;
 use super::checks::check_remove;
 use super::checks::check_replace;
 use super::checks::check_set_levels;
+use super::checks::check_time;
+use completion::completion_test;
 use level_map::MappedNode;
 use map_store::STORE_WORDS;
 use map_store::StoreWords;
@@ -33,10 +36,12 @@ ghost use Rattle.session.specs.State.{nodeIn, remembered};
 ghost use Rattle.session.specs.Operations.{changing, opening, inserting, removing, replacing, settingLevels};
 ghost use Rattle.session.specs.Asking.{mapTimeGiven};
 ghost use Rattle.session.specs.Mapping.{Maps};
+ghost use Rattle.session.specs.Timing.{timeGives, timeAnswer};
 ghost use Rattle.session.specs.InWords.{sessionSize, sessionIn, wordsIn, FollowsIn};
 
 // Where the words of the node begin, and where the store does.
 pub const NODE_AT: usize = 2;
+
 pub const STORE_AT: usize = NODE_AT + NODE_WORDS;
 
 // Copies words to word `at` and those after it.
@@ -117,7 +122,13 @@ pub fn insert(words: &mut [u32], position: usize, e: Entry) -> Checked
     ensures { λ a. ⌜ FollowsIn (changing (inserting position e)) (now (words .entry)) a (now (words .exit)) ⌝ }
 {
     let count = words[1];
-    let answer = check_insert(words[0], count as usize, &words[NODE_AT..STORE_AT], position, e);
+    let answer = check_insert(
+        words[0],
+        count as usize,
+        &words[NODE_AT..STORE_AT],
+        position,
+        e,
+    );
     let Checked::Accepted = answer else {
         return answer;
     };
@@ -133,7 +144,12 @@ pub fn remove(words: &mut [u32], position: usize) -> Checked
     ensures { λ a. ⌜ FollowsIn (changing (removing position)) (now (words .entry)) a (now (words .exit)) ⌝ }
 {
     let count = words[1];
-    let answer = check_remove(words[0], count as usize, &words[NODE_AT..STORE_AT], position);
+    let answer = check_remove(
+        words[0],
+        count as usize,
+        &words[NODE_AT..STORE_AT],
+        position,
+    );
     let Checked::Accepted = answer else {
         return answer;
     };
@@ -149,13 +165,33 @@ pub fn replace(words: &mut [u32], position: usize, e: Entry) -> Checked
     ensures { λ a. ⌜ FollowsIn (changing (replacing position e)) (now (words .entry)) a (now (words .exit)) ⌝ }
 {
     let count = words[1];
-    let answer = check_replace(words[0], count as usize, &words[NODE_AT..STORE_AT], position, e);
+    let answer = check_replace(
+        words[0],
+        count as usize,
+        &words[NODE_AT..STORE_AT],
+        position,
+        e,
+    );
     let Checked::Accepted = answer else {
         return answer;
     };
     replace_at(&mut words[NODE_AT..STORE_AT], count as usize, position, e);
     remember(words);
     answer
+}
+
+// Times the entry at `i` in the group from `first` to `last` (12). The entries before the group are on higher levels.
+pub fn time(words: &[u32], first: usize, last: usize, i: usize) -> TimeAnswer
+    requires { ⌜ length (now words) ≡ sessionSize ⌝ }
+    ensures { λ a. ⌜ timeGives a ≡ timeAnswer (nodeIn (sessionIn (now (words .entry)))) first last i ⌝ }
+{
+    let count = words[1] as usize;
+    let found = check_time(words[0], count, &words[NODE_AT..STORE_AT], first, last, i);
+    if let Checked::Refused(r) = found {
+        return TimeAnswer::Refused(r);
+    }
+    let node = node_part(words);
+    TimeAnswer::Answered(completion_test(&node, count, first, last, i))
 }
 
 // Maps the node: gives the stored map, one byte per entry from the start of `out` (10, 11). A refusal leaves `out` untouched.

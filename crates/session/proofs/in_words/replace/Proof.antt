@@ -20,7 +20,7 @@ at-start-2 c = c .before .before .before .before .before .before .before .before
 
 -- what the checks let the change go by
 ready : (c : tie.After-enum-told) → let a = at-start c .args in PartReady (replacing (a .position) (a .e)) (a .words .now)
-ready c = let s = at-start c in part-ready (s .args .words .now) (s .pre) (replacing _ _ ) _ (c .before .before .check-replace .ensures) (c .enum-told .given .1)
+ready c = let s = at-start c in part-ready (s .args .words .now) (s .pre) (replacing _ _) _ (c .before .before .check-replace .ensures) (c .enum-told .given .1)
 
 remember-requires : tie.Need-remember-requires
 unfolding changed
