@@ -1,5 +1,5 @@
 /* Tries changes to one controller. Does it still have a map if its third task must end a little earlier? And if its
- * second task then moves elsewhere?
+ * second task then moves elsewhere? The session stores its map and the times under it, so that asking again costs little.
  *
  * gcc -Iinclude examples/session.c target/staticlib/libplanner_c.a -o session && ./session
  */
@@ -22,6 +22,26 @@ static void show_map(const maiplur_session *session) {
         printf(" %u", (unsigned)levels[i]);
     }
     printf("\n");
+}
+
+/* When the entry at `i` ends under the map; the first time and again, the answer comes from the session's store. */
+static void show_map_time(const maiplur_session *session, size_t i) {
+    size_t values[3], again[3];
+    uint32_t refused = maiplur_session_map_time(session, i, values);
+    if (maiplur_session_map_time(session, i, again) != refused || again[0] != values[0]) {
+        printf("another answer\n");
+    } else if (refused) {
+        printf("entry %zu: refused %u\n", i, (unsigned)refused);
+    } else {
+        printf("entry %zu: time %zu\n", i, values[0]);
+    }
+}
+
+static void show_map_times(const maiplur_session *session) {
+    show_map(session);
+    for (size_t i = 0; i < session->count; i++) {
+        show_map_time(session, i);
+    }
 }
 
 /* Times the third entry, on one level with the second and after the first. */
@@ -50,11 +70,11 @@ static void try_changes(maiplur_session *session) {
     static const uint32_t earlier[6] = {TASK + 3, 68, 150, 137, 0, 0};
     size_t values[3];
     show_change("replace", maiplur_session_replace(session, 2, earlier, values), values);
-    show_map(session);
+    show_map_times(session);
     show_time(session);
     show_change("remove", maiplur_session_remove(session, 1, values), values);
     show_change("set levels", maiplur_session_set_levels(session, 1, values), values);
-    show_map(session);
+    show_map_times(session);
     show_time(session);
 }
 
@@ -87,7 +107,8 @@ static void try_refused(maiplur_session *session) {
     show_change("insert", maiplur_session_insert(session, 1, long_run, values), values);
     show_change("remove", maiplur_session_remove(session, 2, values), values);
     show_change("set levels", maiplur_session_set_levels(session, 0, values), values);
-    show_map(session);
+    show_map_times(session);
+    show_map_time(session, session->count);
 }
 
 int main(void) {
@@ -107,7 +128,7 @@ int main(void) {
             return 1;
         }
     }
-    show_map(&session);
+    show_map_times(&session);
     show_time(&session);
     try_changes(&session);
     try_jitter(&session);

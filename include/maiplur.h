@@ -21,8 +21,8 @@
  * rounds. A station's plan is listed in less than a millisecond. But one node of 64 levels with the tasks (C/T/D, with r, B
  * and J 0) 1/2/2, 1/3/3, 1/7/7, 1/43/43, 1/1807/1807 and 59 of 1/1000000000/1000000000 took half a minute, so a plan of 32
  * such nodes would take a quarter of an hour. The search for a map skips most rounds, but a node whose entries miss their
- * deadlines by little can take a second or two (docs/BENCHMARKS.md). A running call cannot be stopped: a caller that takes
- * plans from others should make it in a process of its own.
+ * deadlines by little can take a second or two (docs/BENCHMARKS.md); so can a change of a session, which searches for its
+ * map. A running call cannot be stopped: a caller that takes plans from others should make it in a process of its own.
  */
 #ifndef MAIPLUR_H
 #define MAIPLUR_H
@@ -140,24 +140,44 @@ uint32_t maiplur_map(const uint8_t *file, size_t file_length, uint16_t number, u
  */
 uint32_t maiplur_list(const uint8_t *file, size_t file_length, uint8_t *text, size_t text_length, size_t values[3]);
 
-/* A session: one node that is changed entry by entry. The caller owns the struct and lends it to each call. A zeroed
- * struct is a session that is not open: every function except maiplur_session_open refuses it (4).
+/* A session: one node that is changed entry by entry, with its map and the completion times under it. The caller owns the
+ * struct and lends it to each call. A zeroed struct is a session that is not open: every function except
+ * maiplur_session_open refuses it (4).
  *
  * Each function except maiplur_session_open first checks the session as a node of a file: 4 if its level count or its entry
  * count is outside the limits, then 7, 8 and 14 entry by entry, then 16, with row 0 and the entry's position. A session that
  * was opened and changed by these functions always passes. Then come the function's own checks, in the order of its comment.
+ *
+ * The last four fields are the store: the map of the entries on 64 levels, or that there is none, and each entry's completion
+ * time under it. With fewer levels the map is the same if it uses few enough, and there is none otherwise. So the session has
+ * a map exactly if `mapped` is 1 and `used` is at most `levels`. If there is no map even on 64 levels, the store is all
+ * zeros; that of an empty node has `mapped` 1 and `used` 0.
+ *
+ * Only the functions should write the struct. Opening, inserting, removing and replacing leave the store that belongs to the
+ * entries, whatever it held before; setting the level count keeps it, and no check looks at it. maiplur_session_map and
+ * maiplur_session_map_time answer from it. So if a caller writes entries into the struct by hand, they answer for whatever the
+ * store holds, which is wrong until the next insert, remove or replace that is not refused. A struct may be copied whole.
+ *
+ * A change that inserts, removes or replaces an entry searches for the map and finds the times: some microseconds for the
+ * nodes of a station. It makes no round that the load rules out, so that the node named at the top, whose listing takes half
+ * a minute, takes milliseconds; but a node whose entries miss their deadlines by little can take a second or two. Setting the
+ * level count and asking search nothing.
  */
 typedef struct {
     uint32_t levels;      /* 1 to 64 */
     uint32_t count;       /* entries, 0 to 64 */
     uint32_t words[384];  /* six to an entry, as above; zero beyond the entries */
+    uint32_t mapped;      /* 1 if the entries have a map on 64 levels, else 0 */
+    uint32_t used;        /* how many levels that map uses */
+    uint32_t map[64];     /* the level of each entry under it; 0 beyond the entries */
+    uint32_t times[64];   /* the completion time of each entry under it; 0 beyond the entries */
 } maiplur_session;
 
 /* Opens a session, whatever the struct holds: an empty node with `levels` levels. Refuses levels that are not 1 to 64 (4).
  */
 uint32_t maiplur_session_open(maiplur_session *session, uint8_t levels, size_t values[3]);
 
-/* Sets the level count. Refuses levels that are not 1 to 64 (4). */
+/* Sets the level count, and keeps the store. Refuses levels that are not 1 to 64 (4). */
 uint32_t maiplur_session_set_levels(maiplur_session *session, uint8_t levels, size_t values[3]);
 
 /* Inserts an entry, given by its six words, before a position; the position just after the last entry appends. Refuses a
@@ -183,10 +203,17 @@ uint32_t maiplur_session_replace(maiplur_session *session, size_t position, cons
  */
 uint32_t maiplur_session_time(const maiplur_session *session, size_t first, size_t last, size_t i, size_t values[3]);
 
-/* Maps the node as maiplur_map does. Values: how many levels the map uses. Refuses a buffer with less than one byte per
- * entry (10), and a node that has no map (11).
+/* Gives the stored map, which is that of maiplur_map for the same node: fills `levels` from its start with the level of each
+ * entry, one byte per entry, and keeps what lies beyond. Values: how many levels the map uses. Refuses a buffer with less than
+ * one byte per entry (10), and a node that has no map (11).
  */
 uint32_t maiplur_session_map(const maiplur_session *session, uint8_t *levels, size_t level_count, size_t values[3]);
+
+/* Gives the stored completion time of the entry at `i` under the map, without the entry's own J: the time that
+ * maiplur_session_time gives for it in the group of its level. Values: that time. Refuses a position that has no entry (12),
+ * and a node that has no map (11).
+ */
+uint32_t maiplur_session_map_time(const maiplur_session *session, size_t i, size_t values[3]);
 
 #ifdef __cplusplus
 }

@@ -66,7 +66,8 @@ pub fn by_groupings(entries: &[Entry], levels: u8) -> Option<Map> {
     best.map(|grouping| map_of(&grouping))
 }
 
-/// The map by testing every group of neighbours once.
+/// The map by trying every group of neighbours once. A group is tested only if
+/// the grouping that ends with it would be preferred to the one found so far.
 ///
 /// The best grouping of the entries before `end` consists of a last group and
 /// the best grouping of the entries before that group: with a given last group,
@@ -77,10 +78,16 @@ pub fn by_groups(entries: &[Entry], levels: u8) -> Option<Map> {
     for end in 1..=entries.len() {
         let mut best_here = None;
         for (start, before) in best.iter().enumerate() {
+            let Some(before) = before else {
+                continue;
+            };
+            let grouping = [before.as_slice(), &[end - start]].concat();
+            if !is_preferred(&best_here, &grouping) {
+                continue;
+            }
             let passing = group_passes(entries, start, end);
-            if let (true, Some(before)) = (passing, before) {
-                let grouping = [before.as_slice(), &[end - start]].concat();
-                keep_preferred(&mut best_here, grouping);
+            if passing {
+                best_here = Some(grouping);
             }
         }
         best.push(best_here);
@@ -119,12 +126,15 @@ fn all_groupings(count: usize) -> impl Iterator<Item = Grouping> {
 }
 
 fn keep_preferred(best: &mut Option<Grouping>, grouping: Grouping) {
-    let better = match best {
-        None => true,
-        Some(kept) => preference(&grouping, kept) == Ordering::Less,
-    };
-    if better {
+    if is_preferred(best, &grouping) {
         *best = Some(grouping);
+    }
+}
+
+fn is_preferred(best: &Option<Grouping>, grouping: &[usize]) -> bool {
+    match best {
+        None => true,
+        Some(kept) => preference(grouping, kept) == Ordering::Less,
     }
 }
 

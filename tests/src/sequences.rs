@@ -8,7 +8,7 @@ use std::fmt::Write;
 /// The memory lent to the first operation, and the operations.
 #[derive(Clone, Debug, PartialEq, Eq)]
 pub struct Sequence {
-    /// All 386 words.
+    /// All 516 words.
     pub start: Words,
     /// The operations.
     pub ops: Vec<Op>,
@@ -63,6 +63,7 @@ fn op_line(op: &Op) -> String {
         Op::Remove(position) => line("remove", [*position]),
         Op::Map => line("map", []),
         Op::Time(first, last, i) => line("time", [*first, *last, *i]),
+        Op::MapTime(position) => line("maptime", [*position]),
     }
 }
 
@@ -73,6 +74,7 @@ fn op_of(name: &str, numbers: &[usize]) -> Op {
         ("remove", &[position]) => Op::Remove(position),
         ("map", &[]) => Op::Map,
         ("time", &[first, last, i]) => Op::Time(first, last, i),
+        ("maptime", &[position]) => Op::MapTime(position),
         ("insert" | "replace", &[position, head, c, t, d, b, j]) => {
             let entry = entry_of(&[head, c, t, d, b, j].map(word));
             match name {
@@ -110,5 +112,14 @@ mod tests {
             let sequence = sequence(&mut rng, &mut Tally::default());
             assert_eq!(Sequence::from_text(&sequence.to_text()), sequence);
         }
+    }
+
+    #[test]
+    fn missing_words_are_zeros() {
+        let text = "words 2 1 65537 1 5 5\nmaptime 0\n";
+        let Sequence { start, ops } = Sequence::from_text(text);
+        assert_eq!(start[..6], [2, 1, 65_537, 1, 5, 5]);
+        assert_eq!(start[6..], [0; SESSION_WORDS - 6]);
+        assert_eq!(ops, [Op::MapTime(0)]);
     }
 }

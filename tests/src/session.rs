@@ -1,10 +1,10 @@
 //! The session: one node, changed step by step.
 
 use crate::limits::{check_entry, check_levels, check_number, check_numbers};
-use crate::map::map_into;
+use crate::map::{map_entries, map_into, Map};
 use crate::model::{Entry, MAX_ENTRIES};
-use crate::refusal::{Refusal, FULL, POSITION, ROW};
-use crate::timing::{completion_in_group, Timing};
+use crate::refusal::{Refusal, FULL, NO_MAP, POSITION, ROW};
+use crate::timing::{completion, completion_in_group, Timing};
 
 /// The open session.
 #[derive(Clone, Debug, PartialEq, Eq)]
@@ -30,6 +30,8 @@ pub enum Op {
     Map,
     /// Time an entry in a group: first, last and entry position.
     Time(usize, usize, usize),
+    /// The completion time of an entry under the map.
+    MapTime(usize),
 }
 
 /// The answer of an operation that wasn't refused.
@@ -41,6 +43,8 @@ pub enum Reply {
     Mapped(u8),
     /// The entry was timed.
     Timed(Timing),
+    /// The completion time of the entry under the map.
+    MapTime(u64),
 }
 
 impl Session {
@@ -133,6 +137,27 @@ impl Session {
         }
     }
 
+    /// The completion time of the entry at `position` under the map. Checks 12,
+    /// 11.
+    pub fn map_time(&self, position: usize) -> Result<u64, Refusal> {
+        self.check_position(position)?;
+        let (_, times) = self.map_and_times().ok_or(Refusal::plain(NO_MAP))?;
+        Ok(times[position])
+    }
+
+    /// The map, and every entry's completion time under it, worked out from the
+    /// entries and the level count.
+    pub fn map_and_times(&self) -> Option<(Map, Vec<u64>)> {
+        let map = map_entries(&self.entries, self.levels)?;
+        let times = (0..self.entries.len())
+            .map(|i| match completion(&self.entries, &map.levels, i) {
+                Timing::OnTime { time, .. } => time,
+                Timing::Late { .. } => unreachable!("no entry of a passing map is late"),
+            })
+            .collect();
+        Some((map, times))
+    }
+
     /// Any operation; only `Op::Map` looks at the buffer.
     pub fn apply(&mut self, op: &Op, buffer: &mut [u8]) -> Result<Reply, Refusal> {
         match *op {
@@ -145,6 +170,7 @@ impl Session {
             Op::Time(first, last, entry) => {
                 return self.time(first, last, entry).map(Reply::Timed);
             }
+            Op::MapTime(position) => return self.map_time(position).map(Reply::MapTime),
         }
         Ok(Reply::Changed)
     }

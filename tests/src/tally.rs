@@ -1,7 +1,7 @@
 //! Counts of a run: how often each refusal number came, how many maps and
 //! timings, and how many nodes were left out for their cost.
 
-use crate::refusal::{Refusal, NO_MAP, NUMBERS};
+use crate::refusal::{Refusal, NO_MAP, NUMBERS, POSITION};
 use crate::timing::Timing;
 use std::fmt;
 
@@ -15,8 +15,20 @@ pub struct Tally {
     late: u64,
     /// Late by more than 32 bits hold.
     far: u64,
+    map_times: MapTimes,
     nodes: u64,
     left_out: u64,
+}
+
+/// Counts of times asked for under the map.
+#[derive(Clone, Debug, Default, PartialEq, Eq)]
+struct MapTimes {
+    asked: u64,
+    answered: u64,
+    /// Refused as 11.
+    none: u64,
+    /// Refused as 12.
+    outside: u64,
 }
 
 impl Tally {
@@ -43,6 +55,18 @@ impl Tally {
                 self.late += 1;
                 self.far += u64::from(overrun > u64::from(u32::MAX));
             }
+        }
+    }
+
+    /// Counts the answer to a question for an entry's time under the map.
+    pub fn map_time<T>(&mut self, answer: &Result<T, Refusal>) {
+        let counts = &mut self.map_times;
+        counts.asked += 1;
+        match answer.as_ref().map_err(|refusal| refusal.number) {
+            Ok(_) => counts.answered += 1,
+            Err(NO_MAP) => counts.none += 1,
+            Err(POSITION) => counts.outside += 1,
+            Err(_) => {}
         }
     }
 
@@ -78,6 +102,16 @@ impl Tally {
         );
     }
 
+    /// Asserts that at least so many questions for an entry's time under the map
+    /// were answered, refused as 11, and refused as 12.
+    pub fn assert_map_times(&self, answered: u64, none: u64, outside: u64) {
+        let met = &self.map_times;
+        assert!(
+            met.answered >= answered && met.none >= none && met.outside >= outside,
+            "{self}"
+        );
+    }
+
     /// Asserts that at most one node in `whole` was left out for its cost.
     pub fn assert_few_left_out(&self, whole: u64) {
         assert!(
@@ -109,6 +143,19 @@ impl fmt::Display for Tally {
             if *far > 0 {
                 write!(f, ", {far} of them by more than {}", u32::MAX)?;
             }
+        }
+        if self.map_times.asked > 0 {
+            let MapTimes {
+                asked,
+                answered,
+                none,
+                outside,
+            } = self.map_times;
+            write!(
+                f,
+                "; {asked} times under the map asked for: {answered} given, "
+            )?;
+            write!(f, "{none} refused as 11, {outside} as 12")?;
         }
         if self.nodes > 0 {
             let (left_out, nodes) = (self.left_out, self.nodes);

@@ -1,7 +1,7 @@
 //! The session's C functions.
 
 use super::{answer, one, Values, UNSET};
-use crate::lent::{Words, SESSION_WORDS};
+use crate::lent::{Store, Words, SESSION_WORDS, STORE_AT};
 use crate::model::MAX_ENTRIES;
 use crate::refusal::Refusal;
 use crate::timing::Timing;
@@ -17,6 +17,14 @@ pub struct Session {
     pub count: u32,
     /// Six words per entry.
     pub words: [u32; MAX_ENTRIES * ENTRY_WORDS],
+    /// 1 if the entries have a map on 64 levels.
+    pub mapped: u32,
+    /// The levels that it uses.
+    pub used: u32,
+    /// The level of each entry.
+    pub map: [u32; MAX_ENTRIES],
+    /// The completion time of each entry.
+    pub times: [u32; MAX_ENTRIES],
 }
 
 extern "C" {
@@ -48,26 +56,42 @@ extern "C" {
         level_count: usize,
         values: *mut Values,
     ) -> u32;
+    fn maiplur_session_map_time(session: *const Session, i: usize, values: *mut Values) -> u32;
 }
 
 impl Session {
     /// The session in any memory.
     pub fn of(words: &Words) -> Session {
-        let [levels, count, words @ ..] = *words;
+        let store = Store::within(words);
         Session {
-            levels,
-            count,
-            words,
+            levels: words[0],
+            count: words[1],
+            words: words[2..STORE_AT].try_into().expect("six words per entry"),
+            mapped: store.mapped,
+            used: store.used,
+            map: store.map,
+            times: store.times,
         }
     }
 
-    /// Its memory, all 386 words.
+    /// Its memory, all 516 words.
     pub fn memory(&self) -> Words {
         let mut words = [0; SESSION_WORDS];
         words[0] = self.levels;
         words[1] = self.count;
-        words[2..].copy_from_slice(&self.words);
+        words[2..STORE_AT].copy_from_slice(&self.words);
+        self.store().put(&mut words);
         words
+    }
+
+    /// Its store.
+    pub fn store(&self) -> Store {
+        Store {
+            mapped: self.mapped,
+            used: self.used,
+            map: self.map,
+            times: self.times,
+        }
     }
 
     /// Opens the session, whatever it held.
@@ -129,13 +153,26 @@ impl Session {
         unsafe { maiplur_session_time(self, first, last, i, values) }
     }
 
-    /// Maps the node, and returns the levels used.
+    /// Copies the stored map, and returns the levels used.
     pub fn map(&self, levels: &mut [u8]) -> Result<usize, Refusal> {
         let mut values = [UNSET; 3];
         // SAFETY: as above; what is written is borrowed mutably, so nothing overlaps.
         let number =
             unsafe { maiplur_session_map(self, levels.as_mut_ptr(), levels.len(), &mut values) };
         one(answer(number, values)?)
+    }
+
+    /// The stored completion time of the entry at `i` under the map.
+    pub fn map_time(&self, i: usize) -> Result<u64, Refusal> {
+        let mut values = [UNSET; 3];
+        let number = self.map_time_into(i, &mut values);
+        Ok(one(answer(number, values)?)? as u64)
+    }
+
+    /// The same into lent values; returns the number of the refusal, or 0.
+    pub fn map_time_into(&self, i: usize, values: &mut Values) -> u32 {
+        // SAFETY: as above; the session is only read.
+        unsafe { maiplur_session_map_time(self, i, values) }
     }
 }
 

@@ -32,7 +32,7 @@ pub fn next_op(rng: &mut Rng, session: &Session, course: Course) -> Op {
     let maps = if len <= 12 || rng.chance(1, 40) { 4 } else { 0 };
     let removes = if course == Course::Growing { 1 } else { 3 };
     let opens = u64::from(course == Course::Short && rng.chance(1, 3));
-    let weights = [inserts, removes, 3, 1, 4, maps, opens];
+    let weights = [inserts, removes, 3, 1, 4, maps, maps / 2, opens];
     match weighted(rng, &weights) {
         0 => {
             let (at, entry) = (position(rng, len + 1), entry(rng, course));
@@ -49,6 +49,7 @@ pub fn next_op(rng: &mut Rng, session: &Session, course: Course) -> Op {
         3 => Op::SetLevels(levels(rng)),
         4 => group(rng, len),
         5 => Op::Map,
+        6 => Op::MapTime(position(rng, len)),
         _ => Op::Open(levels(rng)),
     }
 }
@@ -91,7 +92,7 @@ pub fn levels(rng: &mut Rng) -> usize {
 }
 
 /// Mostly a position below `end`, else one just outside or far outside.
-fn position(rng: &mut Rng, end: usize) -> usize {
+pub fn position(rng: &mut Rng, end: usize) -> usize {
     if end > 0 && !rng.chance(1, 10) {
         rng.index(end)
     } else {

@@ -6,7 +6,7 @@ use super::entries;
 use super::jitter::{any as any_jitter, most, Jitter};
 use super::numbers::from_one;
 use super::odd::near_one;
-use crate::lent::{words_of, Words};
+use crate::lent::{words_with, Words, NO_STORE};
 use crate::model::{Entry, MAX_ENTRIES, MAX_R, MAX_TICKS};
 use crate::rng::Rng;
 use crate::sequences::Sequence;
@@ -65,9 +65,11 @@ impl Timed {
         Op::Time(self.first, self.last, self.i)
     }
 
-    /// The memory of a session that holds the entries.
+    /// The memory of a session that holds the entries, written by hand: its
+    /// store, which timing in a group does not use, says that there is no map.
     pub fn words(&self) -> Words {
-        words_of(&Session::holding(64, &self.entries).expect("generators give good entries"))
+        let held = Session::holding(64, &self.entries).expect("generators give good entries");
+        words_with(&held, &NO_STORE)
     }
 
     /// The same with this limit D - J of the timed entry, which must be at least

@@ -4,7 +4,7 @@
 use super::budget::{rounds_ceiling, ROUNDS};
 use super::jitter::any;
 use super::numbers::free;
-use super::ops::group;
+use super::ops::{group, position};
 use super::plans;
 use crate::lent::words_of;
 use crate::model::{Entry, Node, Plan, MAX_ENTRIES, MAX_R, MAX_TICKS, TASK};
@@ -87,7 +87,8 @@ impl Family {
                 held = changed;
                 ops.push(op);
             }
-            ops.push(group(rng, held.entries().len()));
+            let len = held.entries().len();
+            ops.extend([group(rng, len), Op::MapTime(position(rng, len))]);
         }
         ops.push(Op::Map);
         Sequence { start, ops }

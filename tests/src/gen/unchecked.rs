@@ -31,7 +31,8 @@ pub fn file(plan: &Plan) -> Vec<u8> {
     file
 }
 
-/// The memory of a session with these entries, whatever they are; at most 64.
+/// The memory of a session with these entries, whatever they are; at most 64. It
+/// is written by hand, so that its store is that of other entries.
 pub fn session(levels: usize, entries: &[Entry]) -> Words {
     let held = Session::holding(levels, &good(entries)).expect("at most 64 entries");
     let mut words = words_of(&held);

@@ -1,5 +1,7 @@
 //! The session in plain Rust: the lent memory is checked as the proved
-//! functions check it, and changed in place.
+//! functions check it, and changed in place. After a change the node is mapped
+//! and every entry timed under the map; who asks for the map or a time has it
+//! worked out again, as one would without a store.
 
 use super::{completion, demand, entry_holds, map_entries, Entry, Marks, MOST};
 use crate::ffi::session::Session;
@@ -54,6 +56,7 @@ pub fn insert(session: &mut Session, position: usize, words: &[u32; ENTRY_WORDS]
     entries[position] = *words;
     entries[count + 1..].fill([0; ENTRY_WORDS]);
     session.count += 1;
+    store(session);
     true
 }
 
@@ -70,7 +73,70 @@ pub fn remove(session: &mut Session, position: usize) -> bool {
     entries.copy_within(position + 1..count, position);
     entries[count - 1..].fill([0; ENTRY_WORDS]);
     session.count -= 1;
+    store(session);
     true
+}
+
+/// Replaces an entry, and returns whether it did.
+#[inline(never)]
+pub fn replace(session: &mut Session, position: usize, words: &[u32; ENTRY_WORDS]) -> bool {
+    let Some(count) = count_of(session) else {
+        return false;
+    };
+    if position >= count || !entry_holds(&entry(words)) {
+        return false;
+    }
+    let entries = session.words.as_chunks_mut().0;
+    let mut others = (0..count).filter(|&at| at != position);
+    if others.any(|at| number(&entries[at]) == number(words)) {
+        return false;
+    }
+    entries[position] = *words;
+    entries[count..].fill([0; ENTRY_WORDS]);
+    store(session);
+    true
+}
+
+/// Sets the level count, and returns whether it did. The store is that of the
+/// entries alone, so it stays.
+#[inline(never)]
+pub fn set_levels(session: &mut Session, levels: u8) -> bool {
+    let Some(count) = count_of(session) else {
+        return false;
+    };
+    if !(1..=64).contains(&levels) {
+        return false;
+    }
+    session.levels = u32::from(levels);
+    session.words[count * ENTRY_WORDS..].fill(0);
+    true
+}
+
+/// Stores the map of the entries on 64 levels, and the times under it.
+fn store(session: &mut Session) {
+    let count = session.count as usize;
+    let entries = &load(session, count)[..count];
+    (session.mapped, session.used) = (0, 0);
+    session.map.fill(0);
+    session.times.fill(0);
+    if let Some((map, used)) = map_entries(entries, MOST as u8) {
+        (session.mapped, session.used) = (1, u32::from(used));
+        for i in 0..count {
+            session.map[i] = u32::from(map[i]);
+            session.times[i] = time_under(entries, &map[..count], i);
+        }
+    }
+}
+
+/// The completion time of an entry under a map that passes.
+fn time_under(entries: &[Entry], map: &[u8], i: usize) -> u32 {
+    let same = |level: &u8| *level == map[i];
+    let first = map.iter().position(same).expect("its own level");
+    let last = map.iter().rposition(same).expect("its own level");
+    match completion(entries, first, last, i) {
+        Ok((time, _)) => time,
+        Err(_) => unreachable!("no entry of a map is late"),
+    }
 }
 
 /// Times an entry in a group. Only for a late one is the overrun computed.
@@ -105,6 +171,18 @@ pub fn map(session: &Session, levels: &mut [u8]) -> Option<usize> {
     let (map, used) = map_entries(&entries[..count], session.levels as u8)?;
     target.copy_from_slice(&map[..count]);
     Some(usize::from(used))
+}
+
+/// The time of an entry under the map, which is worked out for it.
+#[inline(never)]
+pub fn map_time(session: &Session, i: usize) -> Option<u64> {
+    let count = count_of(session)?;
+    if i >= count {
+        return None;
+    }
+    let entries = &load(session, count)[..count];
+    let (map, _) = map_entries(entries, session.levels as u8)?;
+    Some(u64::from(time_under(entries, &map[..count], i)))
 }
 
 /// The first `count` entries of a session.

@@ -1,9 +1,9 @@
 //! Sessions: the lent memory is checked, read and changed in place.
 
 use super::entry::{has_number, refusal_in, Entry, WordMarks, Words, MOST};
-use super::map::map_entries;
+use super::map::Groups;
 use super::timing::{runs_of, Test};
-use crate::refusal::{Refusal, FULL, POSITION, REPEAT, ROW};
+use crate::refusal::{Refusal, BUFFER, FULL, NO_MAP, POSITION, REPEAT, ROW};
 use crate::timing::Timing;
 
 /// The lent memory.
@@ -36,6 +36,47 @@ fn clear_rest(session: &mut Session, count: usize) {
     session.words[count * 6..].fill(0);
 }
 
+/// Stores the map of the entries on 64 levels, and the times under it.
+fn store(session: &mut Session) {
+    let entries: &[Words] = &session.words.as_chunks().0[..session.count as usize];
+    session.map = [0; MOST];
+    session.times = [0; MOST];
+    let Some(groups) = Groups::of(entries, MOST as u8) else {
+        (session.mapped, session.used) = (0, 0);
+        return;
+    };
+    (session.mapped, session.used) = (1, groups.count as u32);
+    let ends = groups.starts().skip(1).chain([entries.len()]);
+    for ((first, end), level) in groups.starts().zip(ends).zip(1..) {
+        session.map[first..end].fill(level);
+        put_times(&mut session.times, &entries[..end], first);
+    }
+}
+
+/// The times of the entries from `first` on, which are a group. An entry of the
+/// group without calls ends no later than one with as much blocking or more.
+fn put_times(times: &mut [u32; MOST], entries: &[Words], first: usize) {
+    let runs = runs_of(entries);
+    let (mut blocking, mut time) = (0, 0);
+    for (i, entry) in entries.iter().enumerate().skip(first) {
+        let known = if blocking <= entry.blocking() {
+            time
+        } else {
+            0
+        };
+        let found = Test::new(entries, first, i, runs).time_from(known);
+        times[i] = found as u32;
+        if entry.calls() == 0 {
+            (blocking, time) = (entry.blocking(), found);
+        }
+    }
+}
+
+/// Whether the store has a map with at most the session's levels.
+fn has_map(session: &Session) -> bool {
+    session.mapped == 1 && session.used <= session.levels
+}
+
 fn check_levels(levels: u8) -> Result<(), Refusal> {
     if (1..=64).contains(&levels) {
         Ok(())
@@ -61,10 +102,11 @@ pub fn open(session: &mut Session, levels: u8) -> Result<(), Refusal> {
     check_levels(levels)?;
     session.levels = u32::from(levels);
     clear_rest(session, 0);
+    store(session);
     Ok(())
 }
 
-/// Sets the level count.
+/// Sets the level count; the store stays.
 #[inline(never)]
 pub fn set_levels(session: &mut Session, levels: u8) -> Result<(), Refusal> {
     let count = held(session)?.len();
@@ -92,6 +134,7 @@ pub fn insert(session: &mut Session, position: usize, entry: &Words) -> Result<(
     slots.copy_within(position..count, position + 1);
     slots[position] = *entry;
     clear_rest(session, count + 1);
+    store(session);
     Ok(())
 }
 
@@ -104,6 +147,7 @@ pub fn remove(session: &mut Session, position: usize) -> Result<(), Refusal> {
     }
     slots(session).copy_within(position + 1..count, position);
     clear_rest(session, count - 1);
+    store(session);
     Ok(())
 }
 
@@ -122,6 +166,7 @@ pub fn replace(session: &mut Session, position: usize, entry: &Words) -> Result<
     }
     slots[position] = *entry;
     clear_rest(session, count);
+    store(session);
     Ok(())
 }
 
@@ -136,9 +181,28 @@ pub fn time(session: &Session, first: usize, last: usize, i: usize) -> Result<Ti
     Ok(Test::new(entries, first, i, runs_of(entries)).completion())
 }
 
-/// Maps the node, and returns the levels used.
+/// Copies the stored map, and returns the levels used.
 #[inline(never)]
 pub fn map(session: &Session, levels: &mut [u8]) -> Result<usize, Refusal> {
-    let entries = held(session)?;
-    map_entries(entries, session.levels as u8, levels)
+    let count = held(session)?.len();
+    let levels = levels.get_mut(..count).ok_or(Refusal::plain(BUFFER))?;
+    if !has_map(session) {
+        return Err(Refusal::plain(NO_MAP));
+    }
+    for (level, stored) in levels.iter_mut().zip(&session.map) {
+        *level = *stored as u8;
+    }
+    Ok(session.used as usize)
+}
+
+/// The stored time of the entry at `i` under the map.
+#[inline(never)]
+pub fn map_time(session: &Session, i: usize) -> Result<u64, Refusal> {
+    if i >= held(session)?.len() {
+        return Err(Refusal::plain(POSITION));
+    }
+    if !has_map(session) {
+        return Err(Refusal::plain(NO_MAP));
+    }
+    Ok(u64::from(session.times[i]))
 }

@@ -78,6 +78,26 @@ impl<'a, E: Entry> Test<'a, E> {
         Timing::Late { rounds, overrun }
     }
 
+    /// The completion time of an entry that is on time, without its rounds;
+    /// `known` is at most that time. It is the initial time or the known one if
+    /// the demand is met there; else rounds that begin as late as the utilisation
+    /// allows find it.
+    pub fn time_from(&self, known: u64) -> u64 {
+        let early = self.initial_time.max(known);
+        let next = self.demand(early as u32);
+        if next <= early {
+            return early;
+        }
+        let mut t = next.max(self.completion_bound());
+        loop {
+            let next = self.demand(t as u32);
+            if next <= t {
+                return t;
+            }
+            t = next;
+        }
+    }
+
     /// Whether the entry ends by its limit. The initial time decides, or the
     /// demand at the limit, or else rounds that begin as late as the
     /// utilisation allows.

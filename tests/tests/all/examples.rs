@@ -81,6 +81,19 @@ fn map_line(session: &Session) -> String {
     }
 }
 
+fn map_time_line(session: &Session, i: usize) -> String {
+    match session.map_time(i) {
+        Ok(time) => format!("entry {i}: time {time}\n"),
+        Err(refusal) => format!("entry {i}: refused {}\n", refusal.number),
+    }
+}
+
+/// The map, and the time of each entry under it.
+fn map_time_lines(session: &Session) -> String {
+    let times = (0..session.entries().len()).map(|i| map_time_line(session, i));
+    map_line(session) + &times.collect::<String>()
+}
+
 fn time_line(session: &Session) -> String {
     match session.time(1, 2, 2) {
         Ok(Timing::OnTime { time, rounds }) => format!("time: {time}, rounds {rounds}\n"),
@@ -106,12 +119,12 @@ fn c_session() {
     let (text, ended) = run(&program, &[], Duration::ZERO);
     assert!(ended);
     let mut session = Session::holding(2, &cases::p().entries).unwrap();
-    let mut due = map_line(&session) + &time_line(&session);
+    let mut due = map_time_lines(&session) + &time_line(&session);
     due += &change_line("replace", session.replace(2, cases::r().entries[2]));
-    due += &(map_line(&session) + &time_line(&session));
+    due += &(map_time_lines(&session) + &time_line(&session));
     due += &change_line("remove", session.remove(1));
     due += &change_line("set levels", session.set_levels(1));
-    due += &(map_line(&session) + &time_line(&session));
+    due += &(map_time_lines(&session) + &time_line(&session));
     let late = |j| cases::r().entries[2].jittered(j);
     due += &change_line("replace", session.replace(1, late(49)));
     due += &map_line(&session);
@@ -125,7 +138,7 @@ fn c_session() {
     due += &change_line("insert", session.insert(1, Entry::task(4, 6, 10, 5)));
     due += &change_line("remove", session.remove(2));
     due += &change_line("set levels", session.set_levels(0));
-    due += &map_line(&session);
+    due += &(map_time_lines(&session) + &map_time_line(&session, 2));
     assert_eq!(String::from_utf8_lossy(&text), due);
 }
 
@@ -197,7 +210,7 @@ fn every_function_is_called_from_c() {
         .filter_map(|line| line.strip_prefix("uint32_t "))
         .map(|line| line.split('(').next().unwrap())
         .collect();
-    assert_eq!(declared.len(), 14);
+    assert_eq!(declared.len(), 15);
     let examples = ["convert.c", "list.c", "session.c", "write.c"];
     let examples = examples.map(|name| text(&format!("examples/{name}")));
     for name in declared {
@@ -222,6 +235,8 @@ fn sizes_in_the_header() {
         format!("MAIPLUR_MOST_LEVELS = {MAX_ENTRIES},"),
         format!("MAIPLUR_MOST_TEXT = {MOST_TEXT} "),
         format!("uint32_t words[{words}];"),
+        format!("uint32_t map[{MAX_ENTRIES}];"),
+        format!("uint32_t times[{MAX_ENTRIES}];"),
         format!("const uint32_t entry[{ENTRY_WORDS}], size_t values[3]"),
     ] {
         assert!(header.contains(&size), "{size}");

@@ -5,7 +5,7 @@ use oracle::ffi;
 use oracle::file::{encode, longest};
 use oracle::gen::damage::{damage, AIMS};
 use oracle::gen::plans;
-use oracle::lent::words_of;
+use oracle::lent::{words_with, NO_STORE};
 use oracle::listing::{list, MAX_INPUT};
 use oracle::model::{Edition, Entry, Node, Plan};
 use oracle::options::{rng, times};
@@ -135,7 +135,7 @@ fn node_lines(file: &[u8], node: &Node) -> Vec<String> {
         return vec![format!("node {number} no map")];
     };
     let held = Session::holding(usize::from(available), &node.entries).expect("a good node");
-    let session = ffi::session::Session::of(&words_of(&held));
+    let session = ffi::session::Session::of(&words_with(&held, &NO_STORE));
     let mut lines = vec![format!("node {number} levels {used} of {available}")];
     for (i, (entry, level)) in node.entries.iter().zip(&levels).enumerate() {
         let first = levels.iter().position(|other| other == level).unwrap();

@@ -236,6 +236,7 @@ fn positions_in_a_session() {
                     Op::Time(0, position, 0),
                     Op::Time(position, position, position),
                     Op::Time(0, position, position),
+                    Op::MapTime(position),
                 ] {
                     let answer = both.step(&mut tally, &op, 0);
                     assert_eq!(answer, Err(Refusal::plain(POSITION)), "{op:?}");
@@ -245,6 +246,7 @@ fn positions_in_a_session() {
         for room in [256, 65_536] {
             let _ = both.step(&mut tally, &Op::Map, room);
         }
+        let _ = both.step(&mut tally, &Op::MapTime(count - 1), 0);
         assert_eq!(both.words(), &words);
     }
 }
@@ -300,6 +302,7 @@ fn ticks(tally: &mut Tally, both: &mut Both, entry: Entry) -> bool {
     if inserted {
         let _ = both.step(tally, &Op::Time(0, 0, 0), 0);
         let _ = both.step(tally, &Op::Map, 1);
+        let _ = both.step(tally, &Op::MapTime(0), 0);
         both.step(tally, &Op::Remove(0), 0).expect("it is there");
     }
     let mut held = words_of(&Session::holding(1, &[Entry::task(1, 1, 1, 1)]).unwrap());

@@ -291,6 +291,7 @@ fn the_order_of_14_in_a_lent_session() {
             (Op::Replace(1, wrong), Refusal::at_entry(JITTER, 0, 1)),
             (Op::Remove(2), PLAIN(POSITION)),
             (Op::Time(0, 2, 0), PLAIN(POSITION)),
+            (Op::MapTime(2), PLAIN(POSITION)),
         ] {
             let mut lent = Both::of(&words);
             assert_eq!(lent.step(&mut tally, &op, 1), Err(due.unwrap_or(own)));
@@ -300,6 +301,6 @@ fn the_order_of_14_in_a_lent_session() {
         let levels = Both::of(&words).step(&mut tally, &Op::Map, 1);
         assert_eq!(levels, Err(Refusal::at_row(ROW, 0)));
     }
-    // Nine pairs with nine operations, and two operations of the good pair.
-    assert_eq!(tally.met(JITTER), 83, "{tally}");
+    // Nine pairs with ten operations, and two operations of the good pair.
+    assert_eq!(tally.met(JITTER), 92, "{tally}");
 }

@@ -11,7 +11,7 @@ use oracle::gen::buffers::known;
 use oracle::gen::jitter::thirds;
 use oracle::gen::just_late::just_late;
 use oracle::gen::odd::JUST_LATE;
-use oracle::lent::words_of;
+use oracle::lent::{words_with, NO_STORE};
 use oracle::options::{rng, times};
 use oracle::refusal::{Refusal, NO_MAP};
 use oracle::session::{Op, Reply, Session};
@@ -28,7 +28,7 @@ fn at_the_completion_time_and_a_tick_before() {
         let early = round % 2;
         let entries = just_late(&mut rng, early, round % 4 > 1);
         let last = entries.len() - 1;
-        let words = words_of(&Session::holding(64, &entries).unwrap());
+        let words = words_with(&Session::holding(64, &entries).unwrap(), &NO_STORE);
         let first = entries.iter().position(|e| e.t == entries[last].t).unwrap();
         let timed = Both::of(&words).step(&mut tally, &Op::Time(first, last, last), 0);
         let Ok(Reply::Timed(timing)) = timed else {

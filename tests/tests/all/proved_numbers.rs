@@ -81,6 +81,8 @@ fn assert_no_session(tally: &mut Tally, entries: &[Entry], due: Refusal) {
         Op::Time(0, 0, 0),
         Op::Time(0, count, 0),
         Op::Map,
+        Op::MapTime(0),
+        Op::MapTime(count),
     ] {
         let mut both = Both::of(&words);
         assert_eq!(both.step(tally, &op, 0), Err(due), "{op:?}");
@@ -109,7 +111,13 @@ fn every_pair_of_positions() {
             let three = plan_of(edition, vec![before, Vec::new(), entries.clone()]);
             assert_plan(&mut tally, &three, Some(repeat(2, second)));
             let words = unchecked::session(3, &entries);
-            let op = [Op::Map, Op::Remove(0), Op::SetLevels(1), Op::Time(0, 0, 0)][pairs % 4];
+            let op = match pairs % 5 {
+                0 => Op::Map,
+                1 => Op::Remove(0),
+                2 => Op::SetLevels(1),
+                3 => Op::Time(0, 0, 0),
+                _ => Op::MapTime(0),
+            };
             let answer = Both::of(&words).step(&mut tally, &op, MAX_ENTRIES);
             assert_eq!(answer, Err(repeat(0, second)), "{op:?}");
             // Up to the entry before the repeat, the numbers differ.
@@ -142,7 +150,7 @@ fn at_both_ends() {
             }
         }
     }
-    assert_eq!(tally.met(REPEAT), 30 * (13 + 2 * 3 * 2), "{tally}");
+    assert_eq!(tally.met(REPEAT), 30 * (15 + 2 * 3 * 2), "{tally}");
 }
 
 /// Three equal numbers, or two pairs of them: the first entry that has an equal
@@ -567,9 +575,9 @@ fn the_order_of_16_in_a_lent_session() {
         }
     }
     for number in [KIND, TICKS, JITTER] {
-        assert_eq!(tally.met(number), 12 * 13, "{tally}");
+        assert_eq!(tally.met(number), 12 * 15, "{tally}");
     }
-    assert_eq!(tally.met(REPEAT), 3 * 13, "{tally}");
+    assert_eq!(tally.met(REPEAT), 3 * 15, "{tally}");
 }
 
 /// Full and nearly full sessions: each number of another entry at each position,
@@ -789,7 +797,7 @@ fn sessions_filled_number_by_number() {
                 assert_eq!(refused, Err(repeat(0, to)));
             }
         }
-        both.map(&mut tally, &mut rng);
+        both.map(&mut tally);
     }
     assert_eq!(tally.met(REPEAT), 63 * times(30), "{tally}");
 }

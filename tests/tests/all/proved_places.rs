@@ -285,6 +285,7 @@ fn assert_no_session(tally: &mut Tally, words: &Words, due: Refusal) {
         Op::SetLevels(64),
         Op::Map,
         Op::Time(0, 63, 63),
+        Op::MapTime(63),
     ] {
         assert_eq!(both.step(tally, &op, MAX_ENTRIES), Err(due), "{op:?}");
     }

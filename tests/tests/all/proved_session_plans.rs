@@ -20,7 +20,7 @@ struct Run {
 impl Run {
     /// Compares the map, and times some entries in some groups.
     fn look(&mut self, rng: &mut Rng, both: &mut Both) {
-        both.map(&mut self.tally, rng);
+        both.map(&mut self.tally);
         let len = both.session().expect("it is held").entries().len();
         for _ in 0..4 {
             let mut places = [rng.index(len), rng.index(len), rng.index(len)];

@@ -1,6 +1,6 @@
 //! The proved library's sessions: sequences of operations, refused ones
-//! included. After each operation the contents, the map and a timing are
-//! compared with the second implementation.
+//! included. After each operation the contents, the map, a time under it and a
+//! timing are compared with the second implementation.
 
 use crate::calls::{ENTRIES, GOOD};
 use crate::say;
@@ -9,7 +9,7 @@ use oracle::compare::session::Both;
 use oracle::ffi;
 use oracle::gen::lent::{damaged, sound};
 use oracle::gen::numbers::from_one;
-use oracle::gen::ops::{group, levels, next_op, Course};
+use oracle::gen::ops::{group, levels, next_op, position, Course};
 use oracle::lent::{words_of, SESSION_WORDS};
 use oracle::model::Entry;
 use oracle::options::{rng, times};
@@ -19,11 +19,12 @@ use oracle::session::{Op, Session};
 use oracle::tally::Tally;
 use oracle::timing::Timing;
 
-/// One operation, then the map and a timing.
+/// One operation, then the map, a time under it and a timing.
 fn step(rng: &mut Rng, tally: &mut Tally, both: &mut Both, op: &Op) {
     let _ = both.step(tally, op, rng.pick(&[0, 3, 64]));
-    both.map(tally, rng);
+    both.map(tally);
     let count = both.session().map_or(4, |held| held.entries().len());
+    let _ = both.step(tally, &Op::MapTime(position(rng, count)), 0);
     let _ = both.step(tally, &group(rng, count), 0);
 }
 
@@ -55,6 +56,7 @@ fn short_sessions() {
     }
     assert!(tally.accepted() > times(10_000), "{tally}");
     tally.assert_maps(times(8_000), times(2_500));
+    tally.assert_map_times(times(3_000), times(1_000), times(500));
 }
 
 #[test]
@@ -70,6 +72,7 @@ fn full_sessions() {
         assert!(tally.met(number) > times(20), "{number}: {tally}");
     }
     tally.assert_maps(times(200), times(150));
+    tally.assert_map_times(times(100), times(50), times(20));
 }
 
 /// From opening until the list is full, without a map at each step.
@@ -105,6 +108,7 @@ fn memory_from_elsewhere() {
     }
     say(format!("memory from elsewhere: {tally}"));
     tally.assert_maps(times(1_600), times(700));
+    tally.assert_map_times(times(300), times(300), times(100));
     for number in [4, 7, 8, 14, 16] {
         assert!(tally.met(number) > times(1_000), "{number}: {tally}");
     }
@@ -130,7 +134,9 @@ fn the_order_of_the_checks() {
                     }
                 }
             }
-            let _ = Both::of(&words).step(&mut tally, &Op::Remove(position), 0);
+            for op in [Op::Remove(position), Op::MapTime(position)] {
+                let _ = Both::of(&words).step(&mut tally, &op, 0);
+            }
             for (first, last) in [(0, position), (position, position), (position, 0)] {
                 let op = Op::Time(first, last, position);
                 let _ = Both::of(&words).step(&mut tally, &op, 0);
@@ -183,10 +189,12 @@ fn a_blank_session_is_refused_until_it_is_opened() {
     assert_eq!(session.set_levels(3), Err(due));
     assert_eq!(session.time(0, 0, 0), Err(due));
     assert_eq!(session.map(&mut []), Err(due));
+    assert_eq!(session.map_time(0), Err(due));
     assert_eq!(session, blank);
     assert_eq!(session.open(3), Ok(()));
     assert_eq!(session.map(&mut []), Ok(0));
-    assert_eq!(std::mem::size_of_val(&session), 4 * 386);
+    assert_eq!(session.map_time(0), Err(Refusal::plain(12)));
+    assert_eq!(std::mem::size_of_val(&session), 4 * 516);
 }
 
 #[test]

@@ -10,7 +10,7 @@ use oracle::gen::extremes::{
     far_sums, first_group, five_full, high_demand, high_initial_time, many_releases, slow,
     slow_and_fifth_late, slow_and_late, until_the_last, SLOW,
 };
-use oracle::lent::words_of;
+use oracle::lent::{words_with, NO_STORE};
 use oracle::model::{Entry, MAX_TICKS};
 use oracle::options::{rng, times};
 use oracle::session::{Op, Reply, Session};
@@ -23,7 +23,7 @@ fn time_last(tally: &mut Tally, entries: &[Entry], first: usize) -> Timing {
     let last = entries.len() - 1;
     let session = Session::holding(64, entries).expect("generators give good entries");
     let op = Op::Time(first, last, last);
-    match Both::of(&words_of(&session)).step(tally, &op, 0) {
+    match Both::of(&words_with(&session, &NO_STORE)).step(tally, &op, 0) {
         Ok(Reply::Timed(timing)) => timing,
         other => panic!("{other:?}"),
     }

@@ -19,7 +19,7 @@ fn changed(entries: &[Entry], op: &Op) -> Vec<Entry> {
         Op::Insert(at, entry) => [&entries[..at], &[entry], &entries[at..]].concat(),
         Op::Remove(at) => [&entries[..at], &entries[at + 1..]].concat(),
         Op::Replace(at, entry) => [&entries[..at], &[entry], &entries[at + 1..]].concat(),
-        Op::SetLevels(_) | Op::Map | Op::Time(..) => entries.to_vec(),
+        Op::SetLevels(_) | Op::Map | Op::Time(..) | Op::MapTime(_) => entries.to_vec(),
     }
 }
 
@@ -56,7 +56,9 @@ fn step(rng: &mut Rng, session: &mut Session, course: Course, tally: &mut Tally)
             assert_eq!(mapped_from_file(session, &mut from_file), Ok(used));
             assert_eq!(buffer, from_file);
         }
-        (Op::Time(..), Reply::Timed(_)) | (_, Reply::Changed) => {
+        (Op::Time(..), Reply::Timed(_))
+        | (Op::MapTime(_), Reply::MapTime(_))
+        | (_, Reply::Changed) => {
             assert_eq!(session.levels(), before.levels());
             assert_eq!(buffer, lent);
         }

@@ -1,19 +1,21 @@
 //! Compares the tuned Rust of the benchmarks with the second implementation: a
 //! comparison of speed is worth nothing if the answers are wrong. Answers,
 //! refusals with their places, and every lent buffer are compared. Of the plain
-//! Rust, whose other calls the benchmarks compare, only conversions and timings
-//! are.
+//! Rust, whose other calls the benchmarks compare, only conversions, timings and
+//! the changes of sessions are.
 
 use oracle::file::{self, contents_end, encode, entry_length, longest};
-use oracle::gen::budget;
+use oracle::gen::budget::{self, draw_fitting};
 use oracle::gen::buffers::known;
 use oracle::gen::damage::{damage, truncations, AIMS};
-use oracle::gen::jitter::most;
+use oracle::gen::entries;
+use oracle::gen::jitter::{most, Jitter};
 use oracle::gen::listings::long_listing;
+use oracle::gen::odd::{many_rounds, near_one};
 use oracle::gen::ops::sequence;
 use oracle::gen::overruns;
 use oracle::gen::plans::{self, in_edition, punctual};
-use oracle::lent;
+use oracle::lent::{self, Words, SESSION_WORDS};
 use oracle::listing;
 use oracle::map::map_node;
 use oracle::model::{Edition, Entry, Plan, Row};
@@ -272,11 +274,86 @@ fn sessions() {
             );
             assert_eq!(session.memory(), due, "{}", lent());
             assert_eq!(buffer, due_buffer, "{}", lent());
+            if let Op::MapTime(_) = op {
+                tally.map_time(&answer);
+            }
+            compare_plain(&before, &op, answer, &due);
         }
     }
     for number in [4, 7, 8, 10, 11, 12, 13, 14, 16] {
         assert!(tally.met(number) > times(10), "{number}: {tally}");
     }
+    tally.assert_map_times(times(100), times(100), times(20));
+}
+
+/// The plain program on the same memory: changes, and the map and a time under
+/// it where the store is right.
+fn compare_plain(before: &Words, op: &Op, answer: Result<Reply, Refusal>, due: &Words) {
+    use plain::session::{insert, map, map_time, remove, replace, set_levels};
+    let mut session = Session::of(before);
+    let done = match *op {
+        Op::Insert(position, entry) => insert(&mut session, position, &entry_words(&entry)),
+        Op::Remove(position) => remove(&mut session, position),
+        Op::Replace(position, entry) => replace(&mut session, position, &entry_words(&entry)),
+        Op::SetLevels(levels) => set_levels(&mut session, levels as u8),
+        Op::Map | Op::MapTime(_) if !lent::is_right(before) => return,
+        Op::Map => map(&session, &mut [0; 64]).is_some(),
+        Op::MapTime(i) => {
+            let given = map_time(&session, i);
+            assert_eq!(given.map(Reply::MapTime), answer.ok(), "{before:?}");
+            given.is_some()
+        }
+        Op::Open(_) | Op::Time(..) => return,
+    };
+    if *op != Op::Map || answer.is_ok() {
+        assert_eq!(done, answer.is_ok(), "{op:?} on {before:?}");
+    }
+    assert_eq!(session.memory(), *due, "{op:?} on {before:?}");
+}
+
+/// Nodes whose times take very many rounds, or whose entries differ in B and r on
+/// one level: the times that are found without most rounds are those of the
+/// test.
+#[test]
+fn times_under_the_map() {
+    let mut rng = rng(346);
+    let (mut mapped, mut none, mut shared) = (0, 0, 0);
+    for round in 0..times(3_000) {
+        let (count, jitter) = (rng.count(1, 9), Jitter::draw(&mut rng));
+        let entries = match round % 3 {
+            0 => draw_fitting(|| near_one(&mut rng, jitter)).0,
+            1 => entries::queued(&mut rng, count, jitter),
+            _ => entries::wide(&mut rng, count.max(2), jitter),
+        };
+        let mut session = Session::of(&[0; SESSION_WORDS]);
+        tuned::session::open(&mut session, 64).expect("64 is a level count");
+        for (at, entry) in entries.iter().enumerate() {
+            tuned::session::insert(&mut session, at, &entry_words(entry)).expect("a good entry");
+        }
+        let held = oracle::session::Session::holding(64, &entries).expect("good entries");
+        assert_eq!(session.memory(), lent::words_of(&held), "{entries:?}");
+        let store = session.store();
+        mapped += u64::from(store.mapped);
+        none += u64::from(1 - store.mapped);
+        shared += u64::from(store.mapped == 1 && (store.used as usize) < entries.len());
+    }
+    let met = [mapped, none, shared];
+    assert!(met.iter().all(|&met| met > times(300)), "{met:?}");
+}
+
+/// Nodes of 64 entries with millions of rounds: the times are those that the
+/// test has, which `many_rounds` tells.
+#[test]
+fn times_after_millions_of_rounds() {
+    let mut session = Session::of(&[0; SESSION_WORDS]);
+    tuned::session::open(&mut session, 64).expect("64 is a level count");
+    for (at, entry) in many_rounds(64).iter().enumerate() {
+        tuned::session::insert(&mut session, at, &entry_words(entry)).expect("a good entry");
+    }
+    let store = session.store();
+    assert_eq!((store.mapped, store.used), (1, 5));
+    assert_eq!(store.times[63], 59 * 3_263_442);
+    assert!(store.times[5..].iter().all(|time| *time == store.times[63]));
 }
 
 /// Timing, on time and late, in the tuned and in the plain program.
@@ -314,7 +391,7 @@ fn callable(op: &Op) -> Op {
 }
 
 fn apply(session: &mut Session, op: &Op, buffer: &mut [u8]) -> Result<Reply, Refusal> {
-    use tuned::session::{insert, map, open, remove, replace, set_levels, time};
+    use tuned::session::{insert, map, map_time, open, remove, replace, set_levels, time};
     match *op {
         Op::Open(levels) => open(session, levels as u8)?,
         Op::SetLevels(levels) => set_levels(session, levels as u8)?,
@@ -323,6 +400,7 @@ fn apply(session: &mut Session, op: &Op, buffer: &mut [u8]) -> Result<Reply, Ref
         Op::Replace(position, entry) => replace(session, position, &entry_words(&entry))?,
         Op::Time(first, last, i) => return time(session, first, last, i).map(Reply::Timed),
         Op::Map => return map(session, buffer).map(|used| Reply::Mapped(used as u8)),
+        Op::MapTime(i) => return map_time(session, i).map(Reply::MapTime),
     }
     Ok(Reply::Changed)
 }
