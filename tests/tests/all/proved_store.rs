@@ -114,7 +114,7 @@ fn rows_of_operations() {
             met.step(&mut both, &op, &mut had);
         }
     }
-    met.assert_least("rows of operations", [40, 40, 15, 15, 300, 50, 500, 150]);
+    met.assert_least("rows of operations", [40, 40, 3, 3, 300, 50, 500, 150]);
     for number in [4, 7, 8, 10, 11, 12, 14, 16] {
         assert!(met.tally.met(number) > times(15), "{number}: {met:?}");
     }
@@ -510,6 +510,30 @@ fn no_change_takes_long() {
         "changes that would make very many rounds: {taken:?}"
     ));
     assert!(taken < Duration::from_secs(20), "{taken:?}");
+}
+
+/// 64 entries, each of which ends just by its deadline if every one before it has a
+/// level of its own: the map uses all 64 levels. With one less there is none.
+#[test]
+fn sixty_four_levels() {
+    let mut tally = Tally::default();
+    let mut both = Both::of(&words_of(&Session::open(64).expect("a level count")));
+    for at in 0..64 {
+        let entry = Entry::task(at, 1, MAX_TICKS, u64::from(at) + 1);
+        let inserted = both.step(&mut tally, &Op::Insert(usize::from(at), entry), 0);
+        assert_eq!(inserted, Ok(Reply::Changed));
+        assert_eq!(Store::within(both.words()).used, u32::from(at) + 1);
+    }
+    assert!(both.ask(&mut tally));
+    let due: [u32; 64] = std::array::from_fn(|i| i as u32 + 1);
+    let store = Store::within(both.words());
+    assert_eq!((store.map, store.times), (due, due));
+    let mut met = Met::default();
+    let mut had = true;
+    for (levels, has) in [(63, false), (64, true), (1, false), (64, true)] {
+        met.step(&mut both, &Op::SetLevels(levels), &mut had);
+        assert_eq!(had, has, "{levels}");
+    }
 }
 
 /// Times at the ends: 1, and 10^9, which D allows.

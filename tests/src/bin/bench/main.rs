@@ -183,21 +183,27 @@ fn listing(file: &[u8], room: Room) -> Listing {
 
 fn main() {
     let arguments: Vec<String> = std::env::args().skip(1).collect();
-    if let [odd, who, family] = &arguments[..] {
-        if odd == odd::CHILD {
-            return odd::child(who, family);
+    if let [work, who, family] = &arguments[..] {
+        match work.as_str() {
+            odd::LISTING => return odd::list_child(who, family),
+            odd::CHANGE => return odd::change_child(who, family),
+            _ => {}
         }
     }
     let mut table = Table::new(&arguments);
     let forward = files(&mut table);
     conversions(&mut table);
-    sessions::rows(&mut table);
+    let asked = sessions::rows(&mut table);
     let back = late_files(&mut table);
-    sessions::late_rows(&mut table);
-    for ratio in [forward, back].into_iter().flatten() {
+    let asked_late = sessions::late_rows(&mut table);
+    for ratio in [forward, back, asked, asked_late].into_iter().flatten() {
         println!("\n{ratio}");
     }
     odd::rounds(&mut Table::of_long_calls(&arguments), 8);
+    let asked = |word: &String| "change a node of an odd plan".contains(word.as_str());
+    if arguments.is_empty() || arguments.iter().any(asked) {
+        odd::changes();
+    }
     if arguments.is_empty() {
         odd::families();
     }

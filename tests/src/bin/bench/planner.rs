@@ -23,8 +23,10 @@ pub trait Planner {
     fn list(file: &[u8], text: &mut [u8]) -> Option<usize>;
     fn insert(session: &mut Session, position: usize, entry: &Entry) -> bool;
     fn remove(session: &mut Session, position: usize) -> bool;
+    fn set_levels(session: &mut Session, levels: u8) -> bool;
     fn time(session: &Session, first: usize, last: usize, i: usize) -> Option<Timing>;
     fn map_session(session: &Session, levels: &mut [u8]) -> Option<usize>;
+    fn map_time(session: &Session, i: usize) -> Option<u64>;
 }
 
 /// The proved library.
@@ -66,12 +68,20 @@ impl Planner for Proved {
         session.remove(position).is_ok()
     }
 
+    fn set_levels(session: &mut Session, levels: u8) -> bool {
+        session.set_levels(levels).is_ok()
+    }
+
     fn time(session: &Session, first: usize, last: usize, i: usize) -> Option<Timing> {
         session.time(first, last, i).ok()
     }
 
     fn map_session(session: &Session, levels: &mut [u8]) -> Option<usize> {
         session.map(levels).ok()
+    }
+
+    fn map_time(session: &Session, i: usize) -> Option<u64> {
+        session.map_time(i).ok()
     }
 }
 
@@ -114,12 +124,20 @@ impl Planner for Tuned {
         tuned::session::remove(session, position).is_ok()
     }
 
+    fn set_levels(session: &mut Session, levels: u8) -> bool {
+        tuned::session::set_levels(session, levels).is_ok()
+    }
+
     fn time(session: &Session, first: usize, last: usize, i: usize) -> Option<Timing> {
         tuned::session::time(session, first, last, i).ok()
     }
 
     fn map_session(session: &Session, levels: &mut [u8]) -> Option<usize> {
         tuned::session::map(session, levels).ok()
+    }
+
+    fn map_time(session: &Session, i: usize) -> Option<u64> {
+        tuned::session::map_time(session, i).ok()
     }
 }
 
@@ -162,12 +180,20 @@ impl Planner for Plain {
         plain::session::remove(session, position)
     }
 
+    fn set_levels(session: &mut Session, levels: u8) -> bool {
+        plain::session::set_levels(session, levels)
+    }
+
     fn time(session: &Session, first: usize, last: usize, i: usize) -> Option<Timing> {
         plain::session::time(session, first, last, i)
     }
 
     fn map_session(session: &Session, levels: &mut [u8]) -> Option<usize> {
         plain::session::map(session, levels)
+    }
+
+    fn map_time(session: &Session, i: usize) -> Option<u64> {
+        plain::session::map_time(session, i)
     }
 }
 

@@ -1,9 +1,10 @@
 //! Sessions: changes in the middle, the completion time test alone, also of late
-//! entries, and maps.
+//! entries, level counts, and what is asked of the store.
 
 use crate::measure::{Row, Table};
 use crate::planner::{Entry, Plain, Planner, Proved, Tuned};
-use crate::stations::{mapped_entries, Starts};
+use crate::rows;
+use crate::stations::{mapped_entries, one_node, Starts};
 use oracle::ffi::session::Session;
 use oracle::gen::entries;
 use oracle::lent::words_of;
@@ -16,20 +17,78 @@ use std::hint::black_box;
 
 type Draw = fn(&mut Rng, usize) -> Vec<model::Entry>;
 
-/// All rows without jitter.
-pub fn rows(table: &mut Table) {
+/// All rows without jitter; returns what [`asking`] does.
+pub fn rows(table: &mut Table) -> Option<String> {
     let mut rng = Rng::new(8);
     for count in [8, 32, 63] {
         table.row(&Changes::new(&mut rng, count));
     }
-    timings_and_maps(table, &mut rng, Starts::Punctual);
+    timings(table, &mut rng, Starts::Punctual);
     late_timings(table, &mut Rng::new(12), Starts::Punctual);
+    mapped_changes(table, &mut Rng::new(15), Starts::Punctual);
+    asking(table, &mut rng, Starts::Punctual)
 }
 
-/// Timing and mapping entries that start late.
-pub fn late_rows(table: &mut Table) {
-    timings_and_maps(table, &mut Rng::new(10), Starts::Late);
+/// The same with entries that start late.
+pub fn late_rows(table: &mut Table) -> Option<String> {
+    let mut rng = Rng::new(10);
+    timings(table, &mut rng, Starts::Late);
     late_timings(table, &mut Rng::new(13), Starts::Late);
+    mapped_changes(table, &mut Rng::new(16), Starts::Late);
+    asking(table, &mut rng, Starts::Late)
+}
+
+/// Changes of sessions that have a map before and after, and level counts.
+fn mapped_changes(table: &mut Table, rng: &mut Rng, starts: Starts) {
+    for count in [8, 16, 32, 63] {
+        table.row(&Changes::mapped(rng, starts, count));
+    }
+    for count in [8, 64] {
+        table.row(&LevelCounts::new(rng, starts, count));
+    }
+}
+
+/// Asking for the map and for times, and the checks of the lent session alone.
+/// Returns how the time beyond the checks compares with mapping the same 64
+/// entries from a file beyond the checks of that file.
+fn asking(table: &mut Table, rng: &mut Rng, starts: Starts) -> Option<String> {
+    let mut ratio = None;
+    for count in [8, 16, 32, 64] {
+        let draw = |_| mapped_entries(rng, starts, count, 64);
+        let nodes: Vec<Vec<model::Entry>> = (0..16).map(draw).collect();
+        let asked = [What::Map, What::Time, What::NoRoom, What::Outside];
+        let [map, time, no_room, outside] =
+            asked.map(|what| table.row(&Asking::new(&nodes, starts, what)));
+        if count == 64 {
+            let files: Vec<Vec<u8>> = nodes.iter().map(|node| one_node(node, 64)).collect();
+            let name = format!("map the same nodes of {count} entries{}", starts.name());
+            let whole = table.row(&rows::Mapping {
+                name,
+                files: files.clone(),
+            });
+            let what = &format!("a node of {count} entries{}", starts.name());
+            let check = table.row(&rows::Checking {
+                file: &files[0],
+                what,
+            });
+            let afresh = whole.zip(check).map(|(whole, check)| whole - check);
+            let beyond = [map.zip(no_room), time.zip(outside)];
+            ratio = told(beyond, afresh, starts);
+        }
+    }
+    ratio
+}
+
+/// How much of mapping afresh it is to ask for the map and for a time, each beyond
+/// the checks.
+fn told(beyond: [Option<(f64, f64)>; 2], afresh: Option<f64>, starts: Starts) -> Option<String> {
+    let afresh = afresh?;
+    let [map, time] = beyond.map(|both| both.map(|(whole, checks)| (whole - checks) / afresh));
+    let (map, time, late) = (map?, time?, starts.name());
+    Some(format!(
+        "asking a session of 64 entries{late}, of mapping it afresh, both beyond the checks: \
+         {map:.3} for the map, {time:.3} for a time, goal 0.05 or less"
+    ))
 }
 
 /// Timing late entries, whose overrun is wanted too.
@@ -41,16 +100,13 @@ fn late_timings(table: &mut Table, rng: &mut Rng, starts: Starts) {
     }
 }
 
-fn timings_and_maps(table: &mut Table, rng: &mut Rng, starts: Starts) {
+fn timings(table: &mut Table, rng: &mut Rng, starts: Starts) {
     let draws: [(&str, Draw); 2] = [("mixed", entries::mixed), ("usual", entries::realistic)];
     for (periods, draw) in draws {
         for count in [8, 32, 64] {
             let draw = |rng: &mut Rng| starts.of(draw(rng, count));
             table.row(&Timing::new(rng, count, periods, starts, draw));
         }
-    }
-    for count in [8, 16, 32, 64] {
-        table.row(&Mapping::new(rng, starts, count));
     }
 }
 
@@ -59,19 +115,46 @@ fn session(levels: usize, entries: &[model::Entry]) -> Session {
     Session::of(&words_of(&held.expect("generated entries are good")))
 }
 
-/// An insert and a remove, which leave the session as it was.
+/// An insert and a remove in the middle, which leave each session as it was.
 struct Changes {
-    session: Session,
+    sessions: Vec<Session>,
     entry: Entry,
     count: usize,
+    name: String,
 }
 
 impl Changes {
+    /// Of one session with mixed periods, whose map and times are as they come.
     fn new(rng: &mut Rng, count: usize) -> Changes {
+        let entry = model::Entry::task(99, 5, 1_000, 900);
+        let name = format!("insert into or remove from the middle of a session of {count} entries");
+        Changes::of(vec![session(8, &entries::mixed(rng, count))], &entry, name)
+    }
+
+    /// Of several sessions that have a map before and after.
+    fn mapped(rng: &mut Rng, starts: Starts, count: usize) -> Changes {
+        let entry = model::Entry::task(999, 1, 1_000_000, 1_000_000);
+        let mut sessions = Vec::new();
+        while sessions.len() < 8 {
+            let held = session(64, &mapped_entries(rng, starts, count, 64));
+            let mut between = held.clone();
+            assert!(Plain::insert(&mut between, count / 2, &entry_words(&entry)));
+            if between.mapped == 1 {
+                sessions.push(held);
+            }
+        }
+        let late = starts.name();
+        let name =
+            format!("insert into or remove from a session of {count} entries{late}, with a map");
+        Changes::of(sessions, &entry, name)
+    }
+
+    fn of(sessions: Vec<Session>, entry: &model::Entry, name: String) -> Changes {
         let row = Changes {
-            session: session(8, &entries::mixed(rng, count)),
-            entry: entry_words(&model::Entry::task(99, 5, 1_000, 900)),
-            count,
+            count: sessions[0].count as usize,
+            entry: entry_words(entry),
+            sessions,
+            name,
         };
         let between = row.between::<Proved>();
         assert_eq!(row.between::<Tuned>(), between);
@@ -79,37 +162,42 @@ impl Changes {
         row
     }
 
-    /// The session between the insert and the remove.
-    fn between<P: Planner>(&self) -> Session {
-        let mut session = self.session.clone();
-        assert!(P::insert(&mut session, self.count / 2, &self.entry));
-        let between = session.clone();
-        assert!(P::remove(&mut session, self.count / 2));
-        assert_eq!(session, self.session);
-        between
+    /// The sessions between the insert and the remove.
+    fn between<P: Planner>(&self) -> Vec<Session> {
+        let changed = |before: &Session| {
+            let mut session = before.clone();
+            assert!(P::insert(&mut session, self.count / 2, &self.entry));
+            let between = session.clone();
+            assert!(P::remove(&mut session, self.count / 2));
+            assert_eq!(session, *before);
+            between
+        };
+        self.sessions.iter().map(changed).collect()
     }
 }
 
 impl Row for Changes {
-    type Lent = (Session, [bool; 2]);
+    type Lent = Vec<(Session, [bool; 2])>;
 
     fn name(&self) -> String {
-        let count = self.count;
-        format!("insert into or remove from the middle of a session of {count} entries")
+        self.name.clone()
     }
 
     fn parts(&self) -> usize {
-        2
+        2 * self.sessions.len()
     }
 
     fn lent(&self) -> Self::Lent {
-        (self.session.clone(), [false; 2])
+        let unchanged = |session: &Session| (session.clone(), [false; 2]);
+        self.sessions.iter().map(unchanged).collect()
     }
 
-    fn call<P: Planner>(&self, (session, changed): &mut Self::Lent) {
+    fn call<P: Planner>(&self, lent: &mut Self::Lent) {
         let middle = self.count / 2;
-        changed[0] = P::insert(session, black_box(middle), &self.entry);
-        changed[1] = P::remove(session, black_box(middle));
+        for (session, changed) in lent {
+            changed[0] = P::insert(session, black_box(middle), &self.entry);
+            changed[1] = P::remove(session, black_box(middle));
+        }
     }
 }
 
@@ -275,33 +363,50 @@ impl Row for LateTiming {
     }
 }
 
-/// Maps several sessions, because they differ in cost.
-struct Mapping {
+/// What is asked of a session.
+#[derive(Clone, Copy, PartialEq, Eq)]
+enum What {
+    /// The map.
+    Map,
+    /// The time of the middle entry under it.
+    Time,
+    /// The map in a buffer that is too short: only the session is checked.
+    NoRoom,
+    /// The time of an entry outside the list: only the session is checked.
+    Outside,
+}
+
+/// Asks several sessions, because they differ in cost.
+struct Asking {
     sessions: Vec<Session>,
     count: usize,
     starts: Starts,
+    what: What,
 }
 
-impl Mapping {
-    fn new(rng: &mut Rng, starts: Starts, count: usize) -> Mapping {
-        let draw = |_| session(64, &mapped_entries(rng, starts, count, 64));
-        Mapping {
-            sessions: (0..16).map(draw).collect(),
-            count,
+impl Asking {
+    fn new(nodes: &[Vec<model::Entry>], starts: Starts, what: What) -> Asking {
+        Asking {
+            sessions: nodes.iter().map(|node| session(64, node)).collect(),
+            count: nodes[0].len(),
             starts,
+            what,
         }
     }
 }
 
-impl Row for Mapping {
+impl Row for Asking {
     type Lent = Vec<(Option<usize>, [u8; 64])>;
 
     fn name(&self) -> String {
-        format!(
-            "map a session of {} entries{}",
-            self.count,
-            self.starts.name()
-        )
+        let (count, late) = (self.count, self.starts.name());
+        let what = match self.what {
+            What::Map => "for its map",
+            What::Time => "for a time under its map",
+            What::NoRoom => "for its map, refused as 10",
+            What::Outside => "for a time under its map, refused as 12",
+        };
+        format!("ask a session of {count} entries{late} {what}")
     }
 
     fn parts(&self) -> usize {
@@ -313,8 +418,51 @@ impl Row for Mapping {
     }
 
     fn call<P: Planner>(&self, lent: &mut Self::Lent) {
-        for (session, (used, levels)) in self.sessions.iter().zip(lent) {
-            *used = P::map_session(black_box(session), levels);
+        for (session, (answer, levels)) in self.sessions.iter().zip(lent) {
+            let (session, count) = (black_box(session), self.count);
+            *answer = match self.what {
+                What::Map => P::map_session(session, levels),
+                What::NoRoom => P::map_session(session, &mut levels[..count - 1]),
+                What::Time => P::map_time(session, count / 2).map(|time| time as usize),
+                What::Outside => P::map_time(session, count).map(|time| time as usize),
+            };
         }
+    }
+}
+
+/// Sets the level count of a session, and sets it back.
+struct LevelCounts {
+    session: Session,
+    starts: Starts,
+}
+
+impl LevelCounts {
+    fn new(rng: &mut Rng, starts: Starts, count: usize) -> LevelCounts {
+        LevelCounts {
+            session: session(64, &mapped_entries(rng, starts, count, 64)),
+            starts,
+        }
+    }
+}
+
+impl Row for LevelCounts {
+    type Lent = (Session, [bool; 2]);
+
+    fn name(&self) -> String {
+        let (count, late) = (self.session.count, self.starts.name());
+        format!("set the level count of a session of {count} entries{late}")
+    }
+
+    fn parts(&self) -> usize {
+        2
+    }
+
+    fn lent(&self) -> Self::Lent {
+        (self.session.clone(), [false; 2])
+    }
+
+    fn call<P: Planner>(&self, (session, changed): &mut Self::Lent) {
+        changed[0] = P::set_levels(session, black_box(1));
+        changed[1] = P::set_levels(session, black_box(64));
     }
 }
