@@ -48,8 +48,8 @@ pub fn damaged(rng: &mut Rng) -> Words {
 /// any session.
 pub fn forged(rng: &mut Rng, words: &Words) -> Store {
     let (levels, lent) = (words[0], Store::within(words));
-    let more = levels.wrapping_add(1);
-    let used = rng.pick(&[0, 1, levels, levels, more, 255, 256, u32::MAX]);
+    let (more, high) = (levels.wrapping_add(1), 1 << rng.pick(&[8, 16, 24, 31]));
+    let used = rng.pick(&[0, 1, levels, levels, more, 255, high, high | 1, u32::MAX]);
     let mut store = match rng.below(8) {
         0 => NO_STORE,
         1 => {
@@ -59,7 +59,7 @@ pub fn forged(rng: &mut Rng, words: &Words) -> Store {
         _ => Store { mapped: 1, ..lent },
     };
     match rng.below(5) {
-        0 => store.mapped = rng.pick(&[0, 2, 3, 256, 257, 1 << 16 | 1, 1 << 31 | 1, u32::MAX]),
+        0 => store.mapped = rng.pick(&[0, 2, 3, 255, high, high | 1, high | 1, u32::MAX]),
         1 => store.used = used,
         2 => store.map = [(); MAX_ENTRIES].map(|_| rng.word() as u32),
         3 => store.times = [(); MAX_ENTRIES].map(|_| rng.word() as u32),

@@ -25,4 +25,5 @@ fn every_kept_sequence() {
     for number in [11, 12, 14] {
         assert!(tally.met(number) > 0, "case P's sequences are there");
     }
+    tally.assert_map_times(5, 2, 5);
 }

@@ -164,7 +164,7 @@ fn rows_of_operations() {
     for number in [4, 7, 8, 11, 12, 14, 16] {
         assert!(tally.met(number) > times(5), "{number}: {tally}");
     }
-    tally.assert_map_times(times(3_000), times(1_000), times(1_000));
+    tally.assert_map_times(times(2_000), times(500), times(1_000));
 }
 
 /// A change other than setting the level count leaves the right store, whatever
@@ -174,7 +174,10 @@ fn forged_stores_end_with_a_change() {
     let mut rng = rng(602);
     let (mut changed, mut kept) = (0, 0);
     for _ in 0..times(3_000) {
-        let mut words = damaged(&mut rng);
+        let mut words = match rng.chance(1, 2) {
+            true => sound(&mut rng, 4),
+            false => damaged(&mut rng),
+        };
         forged(&mut rng, &words).put(&mut words);
         let Ok(held) = session_in(&words) else {
             continue;
