@@ -406,7 +406,7 @@ impl Row for Asking {
             What::NoRoom => "for its map, refused as 10",
             What::Outside => "for a time under its map, refused as 12",
         };
-        format!("ask a session of {count} entries{late} {what}")
+        format!("ask a session of {count} entries {what}{late}")
     }
 
     fn parts(&self) -> usize {
