@@ -98,7 +98,7 @@ fn sessions_that_fill_up() {
 fn memory_from_elsewhere() {
     let (mut rng, mut tally) = (rng(273), Tally::default());
     let (mut forged, mut held) = (0, 0);
-    for _ in 0..times(2_500) {
+    for _ in 0..times(3_000) {
         let mut both = Both::of(&damaged(&mut rng));
         match both.session() {
             Ok(_) => held += 1,
