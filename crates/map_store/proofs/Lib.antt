@@ -6,3 +6,4 @@ pub mod Asking
 pub mod Earliest
 pub mod Theorems
 pub mod WithoutJitter
+pub mod StoreCases
