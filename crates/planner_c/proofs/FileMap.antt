@@ -1,12 +1,12 @@
 -- The map of a session equals the map of its node in a plan file: laws, and then the theorems.
-use Prim.Native.Nat.{ℕ, zero, suc, _<_}
+use Prim.Native.Nat.{ℕ, zero, suc, _≤_, _<_}
 use mathlib.Core.Path.{_≡_, _∙_, refl, ap, ap₂, sym}
-use mathlib.Core.List.{List}
+use mathlib.Core.List.{List, _∷_}
 use native.Mathlib.Omega.{arith}
 use lib.ListN.{length}
 use lib.Seq.{take-length}
 use Rattle.refusals.specs.Refusals.{accepted}
-use Rattle.task_model.specs.Limits.{Node, NodeValid}
+use Rattle.task_model.specs.Limits.{mostLevels, Node, NodeValid}
 use Rattle.refusals.specs.Answers.{left}
 use Rattle.node_words.proofs.Entries.{length-entries}
 use Rattle.plan_file.specs.Plan.{Plan, entryCount, PlanFits}
@@ -28,7 +28,9 @@ use Rattle.session.specs.State.{nodeIn, Sound}
 use Rattle.map_store.specs.Store.{storedLevels}
 use Rattle.session.specs.Asking.{mapGiven}
 use Rattle.session.proofs.Reading.{Kept, kept-fit, number-short}
-use Rattle.session.proofs.Theorems.{map-answers, map-writes}
+use Rattle.session.specs.Operations.{Operation, opening, AllCallable}
+use Rattle.session.specs.InWords.{sessionIn, wordsAfterAll}
+use Rattle.session.proofs.Theorems.{map-answers, map-writes, words-sound}
 use Rattle.planner_c.specs.OneRow.{oneRow}
 
 -- the node of any row of an accepted file, mapped under the number of that row
@@ -192,3 +194,13 @@ first-maps s h number short punctual buffer =
       one-row-answers First s h number short placed (length buffer),
       one-row-writes First s h number short placed buffer,
     )
+
+-- So it is with the words that a caller lends, after the opening and any row of operations, whatever they held before.
+pub words-map : (levels : ℕ) → 1 ≤ levels → levels ≤ mostLevels → (os : List Operation) → AllCallable os → (w : List ℕ)
+    → (number : ℕ) → number < 65536 → (buffer : List ℕ)
+    → let s = sessionIn (wordsAfterAll (opening levels ∷ os) w) in
+    (fileAnswer (encoding Second (oneRow number (nodeIn s))) number (length buffer) ≡ mapGiven s (length buffer))
+    × (left (fileAnswer (encoding Second (oneRow number (nodeIn s))) number (length buffer))
+    (mapOf (nodeFound (encoding Second (oneRow number (nodeIn s))) number)) buffer
+    ≡ left (mapGiven s (length buffer)) (storedLevels (s .store) (s .count)) buffer)
+words-map levels low few os call w number short buffer = second-maps _ (words-sound levels low few os call w) number short buffer

@@ -5,7 +5,7 @@ use mathlib.Core.Logic.{⊎-elim}
 use mathlib.Core.List.{List, [], _∷_, _++_, append-nil}
 use native.Mathlib.Omega.{arith}
 use lib.ListN.{length, take, drop, getD, set, length-append, length-drop, length-replicate, take-append-drop, drop-of-length-le}
-use lib.Seq.{paste, take-all, take-at, drop-at, length-take-le}
+use lib.Seq.{paste, take-all, take-at, drop-at, drop-drop, length-take-le}
 use borrow.Rule.Slice.PartMut.{putMid}
 use Rattle.refusals.specs.declared.Refusal.{Refusal}
 use Rattle.refusals.specs.declared.Checked.{Checked}
@@ -68,10 +68,16 @@ words-sized w h =
 pub store-lent : (w : List ℕ) → take (length w - storeAt) (drop storeAt w) ≡ drop storeAt w
 store-lent w = take-all (length w - storeAt) (drop storeAt w) (omega (arith, length-drop storeAt w))
 
-module _ (s : Session) (sized : Sized s) where
-  pub session-back : sessionIn (wordsIn s) ≡ s
-  session-back = rw (take-at (s .words) (s .store) nodeSize (sized .node), drop-at (s .words) (s .store) nodeSize (sized .node))
+-- the session in the words of a session, if those of its node are as many as they should be, or if words held it
+pub session-back : (s : Session) → length (s .words) ≡ nodeSize → sessionIn (wordsIn s) ≡ s
+session-back s long = rw (take-at (s .words) (s .store) nodeSize long, drop-at (s .words) (s .store) nodeSize long)
 
+pub session-again : (w : List ℕ) → sessionIn (wordsIn (sessionIn w)) ≡ sessionIn w
+session-again w =
+    let e : drop nodeSize (drop nodeAt w) ≡ drop storeAt w = drop-drop nodeSize nodeAt w in
+    rw (← e, take-append-drop nodeSize (drop nodeAt w))
+
+module _ (s : Session) (sized : Sized s) where
   pub session-length : length (wordsIn s) ≡ sessionSize
   session-length = omega (arith, length-append (s .words) (s .store), sized .node, sized .store)
 
@@ -150,6 +156,14 @@ module _ (w : List ℕ) (size : length w ≡ sessionSize) where
       with-sized _ (changed x (nodeIn (sessionIn w))) (h .fewEntries) (store-long x h)
   made-sized (asking q) a = words-sized w size
 
+-- and is read back from them
+made-back : (w : List ℕ) (o : Operation) → stepCheck o (nodeIn (sessionIn w)) ≡ accepted
+    → sessionIn (wordsIn (sessionMade o (sessionIn w))) ≡ sessionMade o (sessionIn w)
+unfolding sessionWith
+made-back w (opening levels) a = session-back _ (padded-size [] (omega arith))
+made-back w (changing x) a = session-back _ (padded-size _ (change-holds _ _ _ x a .fewEntries))
+made-back w (asking q) a = session-again w
+
 module _ (o : Operation) (w : List ℕ) where
   pub words-refused : (r : Numbered) → stepCheck o (nodeIn (sessionIn w)) ≡ refused r → wordsAfter o w ≡ w
   unfolding wordsAfterBy
@@ -160,21 +174,19 @@ module _ (o : Operation) (w : List ℕ) where
   words-accepted p =
       ap (λ a. wordsLeft a (sessionAfter o (sessionIn w)) w) p ∙ ap wordsIn (after-accepted o (sessionIn w) p)
 
-  module _ (size : length w ≡ sessionSize) where
-    pub words-session : sessionIn (wordsAfter o w) ≡ sessionAfter o (sessionIn w)
-    words-session =
-        ⊎-elim
-        (λ p.
-        ap sessionIn (words-accepted p) ∙ session-back _ (made-sized w size o p) ∙ sym (after-accepted o (sessionIn w) p))
-        (λ p. ap sessionIn (words-refused (p .0) (p .1)) ∙ sym (after-refused o (sessionIn w) (p .0) (p .1)))
-        (either (stepCheck o (nodeIn (sessionIn w))))
+  pub words-session : sessionIn (wordsAfter o w) ≡ sessionAfter o (sessionIn w)
+  words-session =
+      ⊎-elim
+      (λ p. ap sessionIn (words-accepted p) ∙ made-back w o p ∙ sym (after-accepted o (sessionIn w) p))
+      (λ p. ap sessionIn (words-refused (p .0) (p .1)) ∙ sym (after-refused o (sessionIn w) (p .0) (p .1)))
+      (either (stepCheck o (nodeIn (sessionIn w))))
 
-    pub words-length : length (wordsAfter o w) ≡ sessionSize
-    words-length =
-        ⊎-elim
-        (λ p. ap length (words-accepted p) ∙ session-length _ (made-sized w size o p))
-        (λ p. ap length (words-refused (p .0) (p .1)) ∙ size)
-        (either (stepCheck o (nodeIn (sessionIn w))))
+  pub words-length : length w ≡ sessionSize → length (wordsAfter o w) ≡ sessionSize
+  words-length size =
+      ⊎-elim
+      (λ p. ap length (words-accepted p) ∙ session-length _ (made-sized w size o p))
+      (λ p. ap length (words-refused (p .0) (p .1)) ∙ size)
+      (either (stepCheck o (nodeIn (sessionIn w))))
 
   -- what an operation in place leaves
   module _ (a : Checked) (p : outcome a ≡ stepCheck o (nodeIn (sessionIn w))) where
@@ -190,10 +202,10 @@ pub by-value : (o : Operation) (s : Session) → Sized s → {a : Checked} {w af
     → t ≡ sessionIn after → Follows o s a t
 by-value o s sized written h read =
     let g = rw written at h in
-    let back = session-back s sized in
+    let back = session-back s (sized .node) in
     record {
       answer = g .answer ∙ ap (λ u. stepCheck o (nodeIn u)) back;
-      session = read ∙ ap sessionIn (g .words) ∙ words-session o (wordsIn s) (session-length s sized) ∙ ap (sessionAfter o) back;
+      session = read ∙ ap sessionIn (g .words) ∙ words-session o (wordsIn s) ∙ ap (sessionAfter o) back;
     }
 
 -- opening clears every word but the first, and stores that an empty node has a map
@@ -273,7 +285,7 @@ module _ (w : List ℕ) (size : length w ≡ sessionSize) where
       part-length = ap length after-words ∙ session-length _ sized
 
       whole : sessionIn after ≡ sessionWith (drop storeAt w) made
-      whole = ap sessionIn after-words ∙ session-back _ sized
+      whole = ap sessionIn after-words ∙ session-back _ (sized .node)
 
       module _ (call : CallableChange x) where
         read-made : nodeIn (sessionWith (drop storeAt w) made) ≡ made
@@ -296,7 +308,7 @@ module _ (w : List ℕ) (size : length w ≡ sessionSize) where
             (ap remembered whole ∙ ap (λ (m : Node). sessionWith (storeOf (m .entries)) made) read-made ∙ ap (λ l. sessionWith l made) (sym q))
             _ f
 
-pub rows-words : (os : List Operation) (w : List ℕ) → length w ≡ sessionSize → sessionIn (wordsAfterAll os w) ≡ sessionAfterAll os (sessionIn w)
+pub rows-words : (os : List Operation) (w : List ℕ) → sessionIn (wordsAfterAll os w) ≡ sessionAfterAll os (sessionIn w)
 unfolding wordsAfterAll sessionAfterAll
-rows-words [] w h = refl
-rows-words (o ∷ os) w h = rows-words os (wordsAfter o w) (words-length o w h) ∙ ap (sessionAfterAll os) (words-session o w h)
+rows-words [] w = refl
+rows-words (o ∷ os) w = rows-words os (wordsAfter o w) ∙ ap (sessionAfterAll os) (words-session o w)

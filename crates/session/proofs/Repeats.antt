@@ -1,7 +1,7 @@
 -- When 16 is given: a session that is lent with a repeat, and an entry whose number another entry has.
 use Prim.Native.Nat.{ℕ, _≤_, _<_}
 use mathlib.Core.Path.{_≡_, _∙_, refl, sym, ap}
-use mathlib.Core.Bool.{Bool, true, false, not}
+use mathlib.Core.Bool.{Bool, true, false, not, _&&_}
 use mathlib.Core.Logic.{_⊎_, inl, inr, ⊎-elim, _↔_}
 use mathlib.Core.List.{List}
 use native.Mathlib.Omega.{arith}
@@ -9,14 +9,24 @@ use lib.ListN.{length}
 use lib.Dec.{leb, ltb}
 use borrow.Author.Tests.{leb-true, ltb-true, not-false}
 use Rattle.refusals.specs.Refusals.{Numbered, at, Outcome, accepted, refused, _andThen_, mustHold}
-use Rattle.refusals.proofs.Outcomes.{either, not-both, then-nothing, Never, never-must, never-then, after-never, demanded}
+use Rattle.refusals.proofs.Outcomes.{either, not-both, then-nothing, then-accepted, then-refused, Never, never-must, never-then, after-never, demanded}
 use Rattle.task_model.specs.declared.Entry.{Entry}
 use Rattle.task_model.specs.Limits.{mostEntries, Node, entryAt, EntryHolds, NodeHolds, FirstRepeat, NodeValid}
-use Rattle.task_model.specs.Checks.{kindTest, timesTest, jitterTest, entryCheck, hasNumber}
+use Rattle.task_model.specs.Checks.{kindTest, timesTest, jitterTest, entryCheck, hasNumber, nodeCheck}
 use Rattle.task_model.proofs.Numbers.{number-there, has-number}
 use Rattle.task_model.proofs.Theorems.{entry-accepted, node-accepted, node-repeat}
 use Rattle.node_words.specs.Lists.{removeAt}
+use Rattle.map_store.specs.Store.{hasMap}
+use Rattle.map_store.specs.Asking.{mapCheck, timeCheck}
+use Rattle.session.specs.declared.Session.{Session}
+use Rattle.session.specs.State.{nodeIn}
+use Rattle.session.specs.Asking.{askCheck, callCheck}
 use Rattle.session.specs.Operations.{
+  Query,
+  mapping,
+  timing,
+  mapTiming,
+  queryCheckBy,
   Operation,
   opening,
   changing,
@@ -173,4 +183,29 @@ step-repeat o out n j = (
       (λ l. lent-stops o n (at 16 0 j) (lent-repeat o out n j .1 l))
       (λ v. own-checks o n (v .0) ∙ v .1)
       h,
+)
+
+-- the own checks of a query never give 16
+ask-never : (q : Query) (s : Session) → Never 16 (askCheck q s)
+unfolding askCheck mapCheck timeCheck queryCheckBy
+ask-never (mapping room) s =
+    never-then 16 _ _ (never-must 16 10 (leb (s .count) room) 0 0 (λ z. omega arith))
+    (never-must 16 11 (hasMap (s .store) (s .levels)) 0 0 (λ z. omega arith))
+ask-never (timing first last i) s =
+    never-must 16 12 (leb first i && leb i last && ltb last (length (nodeIn s .entries))) 0 0 (λ z. omega arith)
+ask-never (mapTiming i) s =
+    never-then 16 _ _ (never-must 16 12 (ltb i (s .count)) 0 0 (λ z. omega arith))
+    (never-must 16 11 (hasMap (s .store) (s .levels)) 0 0 (λ z. omega arith))
+
+-- So a query gives 16 exactly if the lent session does.
+pub call-repeat : (q : Query) (s : Session) (j : ℕ)
+    → callCheck (asking q) s ≡ refused (at 16 0 j) ↔ (NodeHolds (nodeIn s) × FirstRepeat (nodeIn s .entries) j)
+unfolding callCheck
+call-repeat q s j = (
+  λ a.
+      ⊎-elim
+      (λ p. absurd (ask-never q s (at 16 0 j) (sym (then-accepted _ _ p) ∙ a) refl))
+      (λ r. node-repeat 0 (nodeIn s) j .0 (r .1 ∙ sym (then-refused _ (askCheck q s) (r .0) (r .1)) ∙ a))
+      (either (nodeCheck 0 (nodeIn s))),
+  λ h. then-refused _ _ _ (node-repeat 0 (nodeIn s) j .1 h),
 )

@@ -2,6 +2,8 @@
 use Prim.Native.Nat.{ℕ, _≤_, _<_}
 use mathlib.Core.Path.{_≡_, _∙_, refl, sym, ap, ap₂, subst}
 use mathlib.Core.Logic.{⊎-elim, _↔_}
+use mathlib.Core.Bool.{true, false, false≢true}
+use mathlib.Core.Option.{some}
 use mathlib.Core.List.{List, _∷_}
 use native.Mathlib.Omega.{arith}
 use lib.ListN.{length}
@@ -13,11 +15,16 @@ use Rattle.task_model.proofs.Laws.{node-sizes}
 use Rattle.node_words.proofs.Entries.{length-entries}
 use Rattle.refusals.proofs.Outcomes.{giving-refuses, either}
 use Rattle.task_model.proofs.Theorems.{node-accepted}
-use Rattle.completion.specs.Group.{groupLevel}
-use Rattle.completion.specs.Test.{Completion, completionTest, on-time, late}
+use Rattle.completion.specs.Group.{IsGroup, groupLevel}
+use Rattle.completion.specs.Test.{Completion, completionTest, on-time, late, isOnTime, timeIn}
 use Rattle.completion.specs.Right.{LateBy, RightTiming}
-use Rattle.completion.proofs.Theorems.{timing-right}
-use Rattle.level_map.specs.Answer.{mapOf, heldAnswer, NodeBestMapOrNone}
+use Rattle.completion.proofs.Groups.{named-group}
+use Rattle.completion.proofs.Theorems.{timing-right, same-group}
+use Rattle.level_map.specs.Assignments.{levelOf}
+use Rattle.level_map.specs.Map.{theMap}
+use Rattle.level_map.specs.Answer.{isSome, mapOf, heldAnswer, NodeBestMapOrNone}
+use Rattle.level_map.proofs.Theorems.{mapping as mapping-of}
+use Rattle.map_store.proofs.Asking.{timed-given}
 use Rattle.session.specs.declared.Session.{Session}
 use Rattle.node_words.specs.Words.{nodeSize}
 use Rattle.session.specs.State.{nodeIn, sessionWith, sessionOf, Sound, blankSession}
@@ -45,7 +52,7 @@ use Rattle.session.specs.Operations.{
 }
 use Rattle.refusals.specs.Answers.{gives, refuses, left}
 use Rattle.session.specs.Timing.{timeAnswer}
-use Rattle.map_store.specs.Store.{storeSize, storeOf, hasMap, storedUsed, storedLevels, storedTime}
+use Rattle.map_store.specs.Store.{storeOf, hasMap, storedUsed, storedLevels, storedTime}
 use Rattle.map_store.proofs.Theorems.{store-has, store-kept}
 use Rattle.session.specs.Asking.{callCheck, mapGiven, mapTimeGiven}
 use Rattle.session.specs.Mapping.{mapAnswer, mapTimeAnswer, Remembers}
@@ -65,16 +72,16 @@ use Rattle.session.proofs.Checking.{
   after-refused,
   after-accepted,
 }
-use Rattle.session.proofs.Mapping.{own-answer, own-time, sound-map, sound-left, sound-time, sound-best}
+use Rattle.session.proofs.Mapping.{asked-time, own-answer, own-time, sound-map, sound-left, sound-time, sound-best}
 use Rattle.session.proofs.InWords.{words-back, session-back, words-refused, words-accepted, rows-words}
 use Rattle.session.proofs.Sequences.{kept-empty, own-checks, rows-session, rows-answers, rows-kept}
 
 -- From the opening, by any row of operations, refused ones included, and whatever the memory held before. `levels` is
 -- the level count at opening, `os` the row.
-module _ (levels : ℕ) (some : 1 ≤ levels) (few : levels ≤ mostLevels) (os : List Operation) (call : AllCallable os) (s : Session) where
+module _ (levels : ℕ) (low : 1 ≤ levels) (few : levels ≤ mostLevels) (os : List Operation) (call : AllCallable os) (s : Session) where
   opened-accepted : stepCheck (opening levels) (nodeIn s) ≡ accepted
   unfolding stepCheckBy lentCheckBy operationCheckBy
-  opened-accepted = levels-within levels some few
+  opened-accepted = levels-within levels low few
 
   called-open : callCheck (opening levels) s ≡ stepCheck (opening levels) (nodeIn s)
   unfolding callCheck
@@ -84,7 +91,7 @@ module _ (levels : ℕ) (some : 1 ≤ levels) (few : levels ≤ mostLevels) (os 
   opened-session = after-accepted (opening levels) s opened-accepted
 
   opened-kept : Kept (emptyNode levels)
-  opened-kept = kept-empty levels some few
+  opened-kept = kept-empty levels low few
 
   -- The session is the session of the node that the definition makes of the list of changes: its contents, and every slot
   -- beyond them.
@@ -136,10 +143,17 @@ forged-refused (opening levels) s r out p = absurd (out levels refl)
 forged-refused (changing c) s r out p = lent-stops (changing c) (nodeIn s) r p
 forged-refused (asking q) s r out p = lent-stops (asking q) (nodeIn s) r p
 
--- A blank session is turned back with 4.
-pub blank-refused : (o : Operation) → ((levels : ℕ) → o ≡ opening levels → ⊥)
-    → stepCheck o (nodeIn blankSession) ≡ refused (at 4 0 0)
-blank-refused o out = forged-refused o blankSession (at 4 0 0) out (node-sizes 0 (nodeIn blankSession) (λ h1 h2 h3. omega arith))
+-- So every call but opening answers, whatever its store holds,
+pub forged-called : (o : Operation) (s : Session) (r : Numbered) → ((levels : ℕ) → o ≡ opening levels → ⊥)
+    → nodeCheck 0 (nodeIn s) ≡ refused r → callCheck o s ≡ refused r
+unfolding callCheck
+forged-called (opening levels) s r out p = absurd (out levels refl)
+forged-called (changing c) s r out p = forged-refused (changing c) s r out p
+forged-called (asking q) s r out p = rw p
+
+-- and a blank session is turned back with 4.
+pub blank-refused : (o : Operation) → ((levels : ℕ) → o ≡ opening levels → ⊥) → callCheck o blankSession ≡ refused (at 4 0 0)
+blank-refused o out = forged-called o blankSession (at 4 0 0) out (node-sizes 0 (nodeIn blankSession) (λ h1 h2 h3. omega arith))
 
 -- With 64 entries an insert at 64 is 13 and at 65 is 12.
 module _ (n : Node) (full : length (n .entries) ≡ 64) (e : Entry) where
@@ -243,12 +257,38 @@ module _ (s : Session) (h : Sound s) where
   pub map-time-afresh : (i : ℕ) → mapTimeGiven s i ≡ mapTimeAnswer (nodeIn s) i
   map-time-afresh i = sound-time s h i ∙ sym (own-time (nodeIn s) (node-accepted 0 (nodeIn s) .1 (h .valid)) i)
 
--- A session as 516 words: each form is the inverse of the other. (The arrays of a session have as many words as that asks.)
+-- The stored time is what timing the entry in its group of the map answers: on time, with that time. So it is the completion
+-- time of the test, and never the 0 of a late entry.
+on-time-of : (c : Completion) → isOnTime c ≡ true → (rounds : ℕ) × (c ≡ on-time (timeIn c) rounds)
+on-time-of (on-time t r) p = (r, refl)
+on-time-of (late r o) p = absurd (false≢true p)
+
+module _ (s : Session) (h : Sound s) (m : List ℕ) (p : theMap (nodeIn s .entries) (nodeIn s .levels) ≡ some m) (first last i : ℕ)
+    (hf : first ≤ i) (hi : i ≤ last) (hl : last < length (nodeIn s .entries))
+    (g : IsGroup (length (nodeIn s .entries)) first last i (levelOf m)) where
+  pub map-time-in-group : (rounds : ℕ) × (mapTimeGiven s i ≡ gives (storedTime (s .store) i))
+      × (timeAnswer (nodeIn s) first last i ≡ gives (on-time (storedTime (s .store) i) rounds))
+  map-time-in-group =
+      let es = nodeIn s .entries in
+      let inside : i < length es = omega arith in
+      let r = sound-remembers s h in
+      let same = same-group _ es es (levelOf m) (groupLevel first last) first last i hf hi hl hl g
+      (named-group first last (length es) i hf hi) (λ j k. (refl, refl, refl)) refl refl in
+      let o = on-time-of (completionTest es (levelOf m) i) (mapping-of es (h .valid .within .each) (nodeIn s .levels) m p .passing .inTime i inside) in (
+        o .0,
+        asked-time s (node-accepted 0 (nodeIn s) .1 (h .valid)) i
+            ∙ timed-given (s .store) (s .levels) (s .count) i (omega (arith, count-is s h)) (r .has ∙ ap isSome p),
+        time-follows s h first last i hf hi hl
+            ∙ ap gives (sym same ∙ o .1 ∙ ap (λ t. on-time t (o .0)) (sym (r .times m p i inside))),
+      )
+
+-- A session as 516 words: each form is the inverse of the other. (The array of a session's node has as many words as that
+-- asks.)
 pub words-inverse : (w : List ℕ) → length w ≡ sessionSize → wordsIn (sessionIn w) ≡ w
 words-inverse w h = words-back w h
 
-pub session-inverse : (s : Session) → length (s .words) ≡ nodeSize → length (s .store) ≡ storeSize → sessionIn (wordsIn s) ≡ s
-session-inverse s node store = session-back s (record { node = node; store = store })
+pub session-inverse : (s : Session) → length (s .words) ≡ nodeSize → sessionIn (wordsIn s) ≡ s
+session-inverse s long = session-back s long
 
 -- Zero in every word is the session that is not open.
 pub zero-words : sessionIn (zeros sessionSize) ≡ blankSession
@@ -268,17 +308,15 @@ words-asked q w h =
     (either (stepCheck (asking q) (nodeIn (sessionIn w))))
 
 -- After any row of operations the words hold the session after that row, so what is said of sessions above holds of them.
-pub words-follow : (os : List Operation) (w : List ℕ) → length w ≡ sessionSize
-    → sessionIn (wordsAfterAll os w) ≡ sessionAfterAll os (sessionIn w)
-words-follow os w h = rows-words os w h
+pub words-follow : (os : List Operation) (w : List ℕ) → sessionIn (wordsAfterAll os w) ≡ sessionAfterAll os (sessionIn w)
+words-follow os w = rows-words os w
 
 -- So it is with the words that a caller in C lends, whatever they held before: after the opening and any row of operations,
 -- refused ones included,
-module _ (levels : ℕ) (some : 1 ≤ levels) (few : levels ≤ mostLevels) (os : List Operation) (call : AllCallable os) (w : List ℕ)
-    (size : length w ≡ sessionSize) where
+module _ (levels : ℕ) (low : 1 ≤ levels) (few : levels ≤ mostLevels) (os : List Operation) (call : AllCallable os) (w : List ℕ) where
   -- they are those of a sound session,
   pub words-sound : Sound (sessionIn (wordsAfterAll (opening levels ∷ os) w))
-  words-sound = subst Sound (sym (words-follow (opening levels ∷ os) w size)) (made-sound levels some few os call (sessionIn w))
+  words-sound = subst Sound (sym (words-follow (opening levels ∷ os) w)) (made-sound levels low few os call (sessionIn w))
 
   -- which holds no entry number twice,
   pub words-numbers : NumbersDiffer (nodeIn (sessionIn (wordsAfterAll (opening levels ∷ os) w)) .entries)
@@ -292,4 +330,4 @@ module _ (levels : ℕ) (some : 1 ≤ levels) (few : levels ≤ mostLevels) (os 
 -- The same of a session that is lent by reference.
 pub session-remembers : (levels : ℕ) → 1 ≤ levels → levels ≤ mostLevels → (os : List Operation) → AllCallable os → (s : Session)
     → Remembers (sessionAfterAll (opening levels ∷ os) s)
-session-remembers levels some few os call s = sound-remembers _ (made-sound levels some few os call s)
+session-remembers levels low few os call s = sound-remembers _ (made-sound levels low few os call s)

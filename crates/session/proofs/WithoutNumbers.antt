@@ -113,7 +113,7 @@ unfolding sessionAfterBy looseAfterBy
 session-differ by o s once = ap (λ x. elim x [ accepted ↦ sessionMadeBy by o s | refused r ↦ s ]) (step-differ by (nodeIn s) o once)
 
 -- It answers as it did too,
-call-differ : (o : Operation) (s : Session) → NumbersOnce o (nodeIn s) → callCheck o s ≡ looseCall o s
+pub call-differ : (o : Operation) (s : Session) → NumbersOnce o (nodeIn s) → callCheck o s ≡ looseCall o s
 unfolding callCheck looseCall
 call-differ (opening levels) s once = step-differ rules (nodeIn s) (opening levels) once
 call-differ (changing c) s once = step-differ rules (nodeIn s) (changing c) once

@@ -28,7 +28,7 @@ sessionUnder test n = sessionWith (storeUnder test (n .entries)) n
 abbrev pub sessionOf : Node → Session
 sessionOf n = sessionUnder completionTest n
 
--- A session with its store worked out afresh.
+-- A session with its store worked out afresh. Only the code between the functions for users cites it.
 abbrev pub remembered : Session → Session
 remembered s =
     record { levels = s .levels; count = s .count; words = s .words; store = storeUnder completionTest (nodeIn s .entries) }

@@ -34,8 +34,8 @@ storeAfterBy by (removing position) s = storeUnder (by .test) (changed (removing
 storeAfterBy by (replacing position e) s = storeUnder (by .test) (changed (replacing position e) (nodeIn s) .entries)
 storeAfterBy by (settingLevels levels) s = s .store
 
--- The session after an accepted operation: the session of an empty node, the session of the changed node, or, after a
--- query, the same session.
+-- The session after an accepted operation: the session of an empty node, the changed node with the store after the change, or,
+-- after a query, the same session.
 abbrev pub sessionMadeBy : Rules → Operation → Session → Session
 sessionMadeBy by (opening levels) s = sessionUnder (by .test) (emptyNode levels)
 sessionMadeBy by (changing c) s = sessionWith (storeAfterBy by c s) (changed c (nodeIn s))
