@@ -4,7 +4,7 @@ use lib.ListN.{length, getD, take, drop}
 use mathlib.Core.List.{_∷_, _++_}
 use borrow.Author.Needs.{needs}
 use Rattle.node_words.specs.Words.{nodeSize, entriesOf}
-use Rattle.node_words.proofs.Entries.{length-entries}
+use Rattle.node_words.proofs.Entries.{length-entries, all-fewer}
 use Rattle.map_store.specs.Store.{storeOf}
 use Rattle.map_store.proofs.Theorems.{store-size}
 use Rattle.session.specs.State.{nodeIn, remembered}
@@ -18,7 +18,7 @@ store-map-requires c κs =
     let n = c .before .before in
     let s = n .before .before .before .before in
     let w = s .args .words .now in
-    (rw (n .node-part .ensures) (s .pre .1 .1), (s .pre .1 .0, ap length (store-lent w) ∙ words-sized w (s .pre .0) .store))
+    (rw (n .node-part .ensures) (all-fewer _ _ _ (omega arith) (s .pre .1 .1)), (omega (arith, s .pre .1 .0), ap length (store-lent w) ∙ words-sized w (s .pre .0) .store))
 
 returns : tie.Need-returns
 returns c =
