@@ -181,6 +181,17 @@ pub fn is_right(words: &Words) -> bool {
     session_in(words).is_ok_and(|session| Store::within(words) == store_of(session.entries()))
 }
 
+/// The words of a session without the store of a map that needs more levels than
+/// the session has: what is left by a program that maps on the session's levels
+/// instead of 64.
+pub fn on_own_levels(words: &Words) -> Words {
+    let mut own = *words;
+    if !Store::within(words).has_map(words[0] as u8) {
+        NO_STORE.put(&mut own);
+    }
+    own
+}
+
 /// Makes any operation on lent words. An accepted change leaves the words of
 /// the changed session; but setting the level count leaves the store as it was
 /// lent, since it is that of the entries alone. All other calls leave the words

@@ -6,7 +6,7 @@ use oracle::gen::entries;
 use oracle::gen::numbers::{congruent, different, free, has, with};
 use oracle::gen::ops::{levels, next_op, Course};
 use oracle::gen::{plans, unchecked};
-use oracle::lent::apply;
+use oracle::lent::{apply, on_own_levels};
 use oracle::limits::check_numbers;
 use oracle::model::{Edition, Entry, Node, Plan, MAX_ENTRIES};
 use oracle::options::{rng, times};
@@ -256,6 +256,7 @@ fn plain_and_tuned_sessions_agree() {
                 let mut session = Lent::of(&words);
                 let done = plain::session::insert(&mut session, at, &entry_words(&entry));
                 assert_eq!(done, due.is_ok(), "{op:?} on {entries:?}");
+                let due_words = due.map_or(due_words, |()| on_own_levels(&due_words));
                 assert_eq!(session.memory(), due_words);
             }
             match due {

@@ -15,7 +15,7 @@ use oracle::gen::odd::{many_rounds, near_one};
 use oracle::gen::ops::sequence;
 use oracle::gen::overruns;
 use oracle::gen::plans::{self, in_edition, punctual};
-use oracle::lent::{self, Words, SESSION_WORDS};
+use oracle::lent::{self, Store, Words, SESSION_WORDS};
 use oracle::listing;
 use oracle::map::map_node;
 use oracle::model::{Edition, Entry, Plan, Row};
@@ -256,7 +256,7 @@ fn long_texts() {
 
 #[test]
 fn sessions() {
-    let (mut rng, mut tally) = (rng(343), Tally::default());
+    let (mut rng, mut tally, mut stores) = (rng(343), Tally::default(), [0; 2]);
     for _ in 0..times(400) {
         let sequence = sequence(&mut rng, &mut tally);
         let (mut session, mut due) = (Session::of(&sequence.start), sequence.start);
@@ -277,18 +277,28 @@ fn sessions() {
             if let Op::MapTime(_) = op {
                 tally.map_time(&answer);
             }
-            compare_plain(&before, &op, answer, &due);
+            compare_plain(&mut stores, &before, &op, answer, &due);
         }
     }
     for number in [4, 7, 8, 10, 11, 12, 13, 14, 16] {
         assert!(tally.met(number) > times(10), "{number}: {tally}");
     }
     tally.assert_map_times(times(100), times(100), times(20));
+    let [mapped, exceeding] = stores;
+    assert!(mapped > times(100) && exceeding > times(10), "{stores:?}");
 }
 
 /// The plain program on the same memory: changes, and the map and a time under
-/// it where the store is right.
-fn compare_plain(before: &Words, op: &Op, answer: Result<Reply, Refusal>, due: &Words) {
+/// it where the store is right. It maps on the session's own levels, so after a
+/// change of the list it stores no map that needs more. Counts the changes after
+/// which it stores a map, and those after which only the library does.
+fn compare_plain(
+    stores: &mut [u64; 2],
+    before: &Words,
+    op: &Op,
+    answer: Result<Reply, Refusal>,
+    due: &Words,
+) {
     use plain::session::{insert, map, map_time, remove, replace, set_levels};
     let mut session = Session::of(before);
     let done = match *op {
@@ -308,7 +318,16 @@ fn compare_plain(before: &Words, op: &Op, answer: Result<Reply, Refusal>, due: &
     if *op != Op::Map || answer.is_ok() {
         assert_eq!(done, answer.is_ok(), "{op:?} on {before:?}");
     }
-    assert_eq!(session.memory(), *due, "{op:?} on {before:?}");
+    let due = match op {
+        Op::Insert(..) | Op::Remove(_) | Op::Replace(..) if done => {
+            let own = lent::on_own_levels(due);
+            stores[0] += u64::from(Store::within(&own).mapped);
+            stores[1] += u64::from(own != *due);
+            own
+        }
+        _ => *due,
+    };
+    assert_eq!(session.memory(), due, "{op:?} on {before:?}");
 }
 
 /// Nodes whose times take very many rounds, or whose entries differ in B and r on

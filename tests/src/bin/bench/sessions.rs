@@ -7,7 +7,7 @@ use crate::rows;
 use crate::stations::{mapped_entries, one_node, Starts};
 use oracle::ffi::session::Session;
 use oracle::gen::entries;
-use oracle::lent::words_of;
+use oracle::lent::{on_own_levels, words_of};
 use oracle::model;
 use oracle::rng::Rng;
 use oracle::timing::Timing as Timed;
@@ -26,6 +26,7 @@ pub fn rows(table: &mut Table) -> Option<String> {
     timings(table, &mut rng, Starts::Punctual);
     late_timings(table, &mut Rng::new(12), Starts::Punctual);
     mapped_changes(table, &mut Rng::new(15), Starts::Punctual);
+    exceeding_changes(table, &mut Rng::new(17), Starts::Punctual);
     asking(table, &mut rng, Starts::Punctual)
 }
 
@@ -35,6 +36,7 @@ pub fn late_rows(table: &mut Table) -> Option<String> {
     timings(table, &mut rng, Starts::Late);
     late_timings(table, &mut Rng::new(13), Starts::Late);
     mapped_changes(table, &mut Rng::new(16), Starts::Late);
+    exceeding_changes(table, &mut Rng::new(18), Starts::Late);
     asking(table, &mut rng, Starts::Late)
 }
 
@@ -45,6 +47,14 @@ fn mapped_changes(table: &mut Table, rng: &mut Rng, starts: Starts) {
     }
     for count in [8, 64] {
         table.row(&LevelCounts::new(rng, starts, count));
+    }
+}
+
+/// Changes of sessions whose map needs more levels than they have: the library
+/// searches on, and stores the map and the times.
+fn exceeding_changes(table: &mut Table, rng: &mut Rng, starts: Starts) {
+    for count in [8, 16, 32, 63] {
+        table.row(&Changes::exceeding(rng, starts, count));
     }
 }
 
@@ -133,6 +143,38 @@ impl Changes {
 
     /// Of several sessions that have a map before and after.
     fn mapped(rng: &mut Rng, starts: Starts, count: usize) -> Changes {
+        let late = starts.name();
+        let name =
+            format!("insert into or remove from a session of {count} entries{late}, with a map");
+        Changes::drawn(rng, starts, count, name, Some)
+    }
+
+    /// Of several sessions with one level less than their map needs.
+    fn exceeding(rng: &mut Rng, starts: Starts, count: usize) -> Changes {
+        let late = starts.name();
+        let name = format!(
+            "insert into or remove from a session of {count} entries whose map needs more levels \
+             than it has{late}"
+        );
+        let row = Changes::drawn(rng, starts, count, name, |session| {
+            let levels = session.used - 1;
+            (levels >= 1).then_some(Session { levels, ..session })
+        });
+        for session in row.changed::<Proved>().as_flattened() {
+            assert!(session.mapped == 1 && session.used > session.levels);
+        }
+        row
+    }
+
+    /// Of 8 sessions that are made out of ones with 64 levels and a map before and
+    /// after.
+    fn drawn(
+        rng: &mut Rng,
+        starts: Starts,
+        count: usize,
+        name: String,
+        make: impl Fn(Session) -> Option<Session>,
+    ) -> Changes {
         let entry = model::Entry::task(999, 1, 1_000_000, 1_000_000);
         let mut sessions = Vec::new();
         while sessions.len() < 8 {
@@ -140,12 +182,9 @@ impl Changes {
             let mut between = held.clone();
             assert!(Plain::insert(&mut between, count / 2, &entry_words(&entry)));
             if between.mapped == 1 {
-                sessions.push(held);
+                sessions.extend(make(held));
             }
         }
-        let late = starts.name();
-        let name =
-            format!("insert into or remove from a session of {count} entries{late}, with a map");
         Changes::of(sessions, &entry, name)
     }
 
@@ -156,24 +195,32 @@ impl Changes {
             sessions,
             name,
         };
-        let between = row.between::<Proved>();
-        assert_eq!(row.between::<Tuned>(), between);
-        assert_eq!(row.between::<Plain>(), between);
+        let proved = row.changed::<Proved>();
+        for ([_, after], before) in proved.iter().zip(&row.sessions) {
+            assert_eq!(after, before);
+        }
+        assert_eq!(row.changed::<Tuned>(), proved);
+        let due: Vec<_> = proved.iter().map(|both| both.each_ref().map(own)).collect();
+        assert_eq!(row.changed::<Plain>(), due);
         row
     }
 
-    /// The sessions between the insert and the remove.
-    fn between<P: Planner>(&self) -> Vec<Session> {
+    /// Each session after the insert, and after the remove.
+    fn changed<P: Planner>(&self) -> Vec<[Session; 2]> {
         let changed = |before: &Session| {
             let mut session = before.clone();
             assert!(P::insert(&mut session, self.count / 2, &self.entry));
             let between = session.clone();
             assert!(P::remove(&mut session, self.count / 2));
-            assert_eq!(session, *before);
-            between
+            [between, session]
         };
         self.sessions.iter().map(changed).collect()
     }
+}
+
+/// What the plain program leaves where the library leaves this.
+fn own(session: &Session) -> Session {
+    Session::of(&on_own_levels(&session.memory()))
 }
 
 impl Row for Changes {
@@ -198,6 +245,13 @@ impl Row for Changes {
             changed[0] = P::insert(session, black_box(middle), &self.entry);
             changed[1] = P::remove(session, black_box(middle));
         }
+    }
+
+    fn agrees(&self, plain: &Self::Lent, proved: &Self::Lent) -> bool {
+        let due = proved
+            .iter()
+            .map(|(session, changed)| (own(session), *changed));
+        plain.iter().cloned().eq(due)
     }
 }
 
