@@ -53,8 +53,10 @@ fn mapped_changes(table: &mut Table, rng: &mut Rng, starts: Starts) {
 /// Changes of sessions whose map needs more levels than they have: the library
 /// searches on, and stores the map and the times.
 fn exceeding_changes(table: &mut Table, rng: &mut Rng, starts: Starts) {
-    for count in [8, 16, 32, 63] {
-        table.row(&Changes::exceeding(rng, starts, count));
+    for levels in [Levels::OneLess, Levels::One] {
+        for count in [8, 16, 32, 63] {
+            table.row(&Changes::exceeding(rng, starts, count, levels));
+        }
     }
 }
 
@@ -125,6 +127,15 @@ fn session(levels: usize, entries: &[model::Entry]) -> Session {
     Session::of(&words_of(&held.expect("generated entries are good")))
 }
 
+/// How many levels a session has whose map needs more.
+#[derive(Clone, Copy, PartialEq, Eq)]
+enum Levels {
+    /// One less than the map needs.
+    OneLess,
+    /// One: a search on so many levels ends after the first group.
+    One,
+}
+
 /// An insert and a remove in the middle, which leave each session as it was.
 struct Changes {
     sessions: Vec<Session>,
@@ -149,16 +160,23 @@ impl Changes {
         Changes::drawn(rng, starts, count, name, Some)
     }
 
-    /// Of several sessions with one level less than their map needs.
-    fn exceeding(rng: &mut Rng, starts: Starts, count: usize) -> Changes {
+    /// Of several sessions with fewer levels than their map needs.
+    fn exceeding(rng: &mut Rng, starts: Starts, count: usize, levels: Levels) -> Changes {
         let late = starts.name();
-        let name = format!(
-            "insert into or remove from a session of {count} entries whose map needs more levels \
-             than it has{late}"
-        );
+        let exceeding = match levels {
+            Levels::OneLess => "whose map needs more levels than it has",
+            Levels::One => "with one level, whose map needs more",
+        };
+        let name =
+            format!("insert into or remove from a session of {count} entries {exceeding}{late}");
         let row = Changes::drawn(rng, starts, count, name, |session| {
-            let levels = session.used - 1;
-            (levels >= 1).then_some(Session { levels, ..session })
+            let levels = match levels {
+                Levels::OneLess => session.used - 1,
+                Levels::One => 1,
+            };
+            (1..session.used)
+                .contains(&levels)
+                .then_some(Session { levels, ..session })
         });
         for session in row.changed::<Proved>().as_flattened() {
             assert!(session.mapped == 1 && session.used > session.levels);
