@@ -1,3 +1,5 @@
+#![tactic(auto)]
+
 // Words of 32 bits in bytes, low byte first.
 ghost use Rattle.std.specs.Prelude.{◌≡◌, length, take, ◌+◌, ◌*◌, ◌≤◌, ◌<◌};
 ghost use Rattle.byte_words.specs.Bytes.{low, word_at, words_from, bytes_of};

@@ -1,3 +1,5 @@
+#![tactic(auto)]
+
 // Converts the plan file on standard input: `carry_plan forward` from the first edition to the second, `carry_plan back` from
 // the second to the first. Standard output gets the new file and nothing else. If the input is refused, standard output
 // stays empty, and standard error gets one line with the refusal.
@@ -22,14 +24,14 @@ const READ_MOST: usize = 65537;
 const LINE_MOST: usize = 128;
 
 // The edition that a plan is to be converted to, if the program is called with a word that names one.
-#[derive(Drop)]
+#[derive(Clone, Copy)]
 enum Direction {
     To(Edition),
     Unknown,
 }
 
 // How many bytes go to standard output, and how many to standard error.
-#[derive(Drop)]
+#[derive(Clone, Copy)]
 struct Sizes {
     file: usize,
     line: usize,

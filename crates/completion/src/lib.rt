@@ -1,3 +1,5 @@
+#![tactic(auto)]
+
 // The completion time test of an entry in a group of its node.
 ghost use Rattle.std.specs.Prelude.{◌≡◌, ◌+◌, ◌-◌, ◌≤◌, ◌<◌};
 ghost use Rattle.task_model.specs.Limits.{most_ticks, most_entries, AllHold, EntryHolds};
@@ -11,7 +13,7 @@ use task_model::Entry;
 
 // Whether an entry ends by its deadline; rounds is the number of times that its demand was evaluated to find that out. The
 // overrun of a late entry is by how much its demand at its limit exceeds the limit.
-#[derive(Drop)]
+#[derive(Clone, Copy)]
 pub enum Timing {
     OnTime { time: u32, rounds: u32 },
     Late { rounds: u32, overrun: u64 },

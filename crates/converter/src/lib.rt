@@ -1,3 +1,5 @@
+#![tactic(auto)]
+
 // Converts plan files from one edition to the other.
 mod entries;
 mod losses;

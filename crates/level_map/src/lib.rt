@@ -1,3 +1,5 @@
+#![tactic(auto)]
+
 // The map of a node: a level for each entry, with as few levels as the deadlines allow.
 ghost use Rattle.std.specs.Prelude.{◌≡◌, ◌∷◌, ◌++◌, ◌-◌, ◌≤◌, length, get_or, take, drop, replicate};
 ghost use Rattle.task_model.specs.Limits.{most_ticks, most_entries, AllHold, NodeHolds};
@@ -15,21 +17,21 @@ use refusals::Refusal;
 use task_model::MOST_ENTRIES;
 
 // The number of levels of the map that was written, or why there is none.
-#[derive(Drop)]
+#[derive(Clone, Copy)]
 pub enum MappedNode {
     Levels(u8),
     Refused(Refusal),
 }
 
 // The number of groups in a node's map, or that no map passes.
-#[derive(Drop)]
+#[derive(Clone, Copy)]
 pub enum Cut {
     Groups(u8),
     NoMap,
 }
 
 // Where a group starts, if it can pass at all.
-#[derive(Drop)]
+#[derive(Clone, Copy)]
 enum Start {
     At(usize),
     Nowhere,

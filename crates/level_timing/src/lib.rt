@@ -1,3 +1,5 @@
+#![tactic(auto)]
+
 // Times an entry under a list of levels. Entries with equal levels are a group.
 ghost use Rattle.std.specs.Prelude.{◌≡◌, ◌≤◌, ◌<◌};
 ghost use Rattle.task_model.specs.Limits.{most_entries, AllHold};

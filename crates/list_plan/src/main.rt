@@ -1,3 +1,5 @@
+#![tactic(auto)]
+
 // Lists the plan file on standard input: writes its listing, or one line with the refusal, and nothing else.
 ghost use Rattle.std.specs.Prelude.{◌≡◌, List, ℕ, ◌<◌, length, take};
 ghost use Rattle.io.specs.Counts.{IsPrefixLen};

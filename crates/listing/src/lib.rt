@@ -1,3 +1,5 @@
+#![tactic(auto)]
+
 // Writes the listing of a plan file into a lent buffer. Each function writes from position `at` on, and returns the
 // position after its text.
 mod aside;
@@ -36,7 +38,7 @@ const NODE_LINES: usize = 29 + 56 * MOST_ENTRIES;
 pub const MOST_TEXT: usize = PLAN_LINE + 32 * NODE_LINES;
 
 // The length of the text that was written, or the refusal if it does not fit.
-#[derive(Drop)]
+#[derive(Clone, Copy)]
 pub enum Listed {
     Text(usize),
     Refused(Refusal),

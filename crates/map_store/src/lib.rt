@@ -1,3 +1,5 @@
+#![tactic(auto)]
+
 // The store of a node: its map, with every entry's completion time under it, in words that a session keeps. It is worked out
 // once, and asked as often as one likes.
 ghost use Rattle.std.specs.Prelude.{◌≡◌, ◌⊎◌, ◌∷◌, ◌++◌, ◌-◌, ◌*◌, ◌≤◌, length, take, drop};
@@ -35,14 +37,14 @@ pub const STORE_WORDS: usize = TIMES_AT + MOST_ENTRIES;
 pub type StoreWords = [u32; STORE_WORDS];
 
 // The completion time of an entry under the stored map, or why there is none.
-#[derive(Drop)]
+#[derive(Clone, Copy)]
 pub enum StoredTime {
     At(u32),
     Refused(Refusal),
 }
 
 // A time before which no entry of a group ends whose B is `blocking` or more.
-#[derive(Drop)]
+#[derive(Clone, Copy)]
 struct Known {
     blocking: u32,
     time: u32,

@@ -153,7 +153,7 @@ entries_front (suc n) ws rest l =
 
 -- what is written of entries is read as these entries, whatever comes after them
 pub read_entries : (es : List Entry) (rest : List ℕ) → EntriesFit es → entries_of (words_of es ++ rest) (length es) ≡ es
-unfolding entries_from words_of
+unfolding entries_from words_of entry_words
 read_entries [] rest h = refl
 read_entries (e ∷ es) rest h =
     rw (append_assoc (entry_words e) (words_of es) rest)

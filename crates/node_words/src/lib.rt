@@ -1,3 +1,5 @@
+#![tactic(auto)]
+
 // The entries of a node as words of 32 bits: how they are read, stored, checked, and changed in place.
 pub mod list;
 pub mod numbers;

@@ -1,3 +1,5 @@
+#![tactic(auto)]
+
 // Does an entry meet its deadline, and when does it end? The answer without its rounds takes far fewer evaluations than the
 // test: a small plan can have entries of 10^9 rounds, and a search asks about many of them. An entry is on time exactly if
 // its demand is at most t at some time t up to its limit ('met at t' below), and the first such time is its completion time.
@@ -16,14 +18,14 @@ use node_words::{NodeWords, entry_at};
 use task_model::Entry;
 
 // The verdict without a completion time.
-#[derive(Drop)]
+#[derive(Clone, Copy)]
 pub enum Deadline {
     Met,
     Missed,
 }
 
 // When an entry ends, if it does by its limit.
-#[derive(Drop)]
+#[derive(Clone, Copy)]
 enum Ending {
     At(u32),
     Late,
@@ -34,7 +36,7 @@ const FULL_UTILISATION: u64 = 17179869184;
 
 // Sums over the entries that are released again before a limit: C / T, C, and J times C / T of each. The last sum can be too
 // large for 64 bits; it is cut at the limit times the full utilisation, which already means that the limit is missed.
-#[derive(Drop)]
+#[derive(Clone, Copy)]
 struct Recurring {
     utilisation: u64,
     runs: u64,

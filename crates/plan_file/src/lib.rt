@@ -1,3 +1,5 @@
+#![tactic(auto)]
+
 // Plan files: checking, reading, writing, and finding a node.
 //
 // In memory a plan is words of 32 bits (specs/Plan.antt). A row is one word: the first four bytes of the row in the file.
@@ -31,7 +33,7 @@ use store::{put_contents, put_entries, put_header};
 use task_model::MOST_ENTRIES;
 
 // The editions of a plan file. In the second, an entry has its J.
-#[derive(Drop)]
+#[derive(Clone, Copy)]
 pub enum Edition {
     First,
     Second,
@@ -65,7 +67,7 @@ pub const MOST_SECOND: usize = HEADER_BYTES
     + MOST_NODES as usize * (ROW_BYTES + MOST_ENTRIES * SECOND_ENTRY_BYTES);
 
 // A row of the contents without its offset.
-#[derive(Drop)]
+#[derive(Clone, Copy)]
 pub struct Row {
     pub number: u16,
     pub levels: u8,
@@ -73,7 +75,7 @@ pub struct Row {
 }
 
 // The file's edition and how many rows and entries were filled, or why none were.
-#[derive(Drop)]
+#[derive(Clone, Copy)]
 pub enum ReadPlan {
     Filled {
         edition: Edition,
@@ -84,14 +86,14 @@ pub enum ReadPlan {
 }
 
 // The file's length, or why none was written.
-#[derive(Drop)]
+#[derive(Clone, Copy)]
 pub enum Written {
     Length(usize),
     Refused(Refusal),
 }
 
 // The levels and the entry count of the node that was found, or why none was.
-#[derive(Drop)]
+#[derive(Clone, Copy)]
 pub enum FoundNode {
     Found { levels: u8, count: usize },
     Refused(Refusal),

@@ -1,3 +1,5 @@
+#![tactic(auto)]
+
 // The map of a node of a plan file.
 ghost use Rattle.std.specs.Prelude.{◌≡◌, length};
 ghost use Rattle.refusals.specs.Refusals.{accepted};

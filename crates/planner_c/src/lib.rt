@@ -1,3 +1,5 @@
+#![tactic(auto)]
+
 // The planner for C and Rust programs. A slice is passed as a pointer and a length, an array as a pointer.
 //
 // Each function returns 0 or the number of a refusal, and writes three numbers to `values`: the results of the call, or

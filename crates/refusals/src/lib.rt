@@ -1,10 +1,12 @@
+#![tactic(auto)]
+
 // Why a call is refused, and the number that a user sees.
 ghost use Rattle.std.specs.Prelude.{◌≡◌};
 ghost use Rattle.refusals.specs.Refusals.{numbered, numbers_in};
 
 // Why a call is refused, with the row and the entry position if the refusal has them. `numbered` in specs/Refusals gives
 // the number that a user sees.
-#[derive(Drop)]
+#[derive(Clone, Copy)]
 pub enum Refusal {
     ShortFile,
     OpeningBytes,
@@ -24,14 +26,14 @@ pub enum Refusal {
     Repeat { row: usize, position: usize },
 }
 
-#[derive(Drop)]
+#[derive(Clone, Copy)]
 pub enum Checked {
     Accepted,
     Refused(Refusal),
 }
 
 // A refusal as a user sees it.
-#[derive(Drop)]
+#[derive(Clone, Copy)]
 pub struct Numbers {
     pub number: u8,
     pub row: usize,

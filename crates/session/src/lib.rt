@@ -1,3 +1,5 @@
+#![tactic(auto)]
+
 // The session: one node that is changed entry by entry. Numbers in parentheses are the refusals of an operation, in the
 // order of its checks.
 mod checks;
@@ -29,7 +31,7 @@ pub type SessionWords = [u32; SESSION_WORDS];
 // One node, with room for the most entries that it may have, and the store of its map and its times, in words of 32 bits
 // without padding.
 #[repr(C)]
-#[derive(Drop)]
+#[derive(Clone, Copy)]
 pub struct Session {
     levels: u32,
     count: u32,
@@ -38,14 +40,14 @@ pub struct Session {
 }
 
 // What an operation answers, and the session that it leaves.
-#[derive(Drop)]
+#[derive(Clone, Copy)]
 pub struct Changed {
     pub answer: Checked,
     pub session: Session,
 }
 
 // The timing of an entry, or why it is refused.
-#[derive(Drop)]
+#[derive(Clone, Copy)]
 pub enum TimeAnswer {
     Answered(Timing),
     Refused(Refusal),

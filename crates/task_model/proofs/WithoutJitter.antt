@@ -1,14 +1,13 @@
 -- For entries whose J is 0, the checks are those without the jitter.
-use Prim.Native.Nat.{ℕ, suc, ◌-◌, zero-le}
-use mathlib.Core.Path.{◌≡◌, ◌∙◌, refl, ap, ap₂}
-use mathlib.Core.Bool.{Bool}
+use Prim.Native.Nat.{ℕ, suc, zero-le}
+use mathlib.Core.Path.{◌≡◌, refl, ap, ap₂}
 use mathlib.Core.List.{List, [], ◌∷◌}
 use native.Mathlib.Omega.{arith}
 use lib.ListN.{length}
 use Rattle.task_model.specs.declared.Entry.{Entry}
 use Rattle.refusals.specs.Refusals.{at, ◌and_then◌, must_hold}
 use Rattle.task_model.specs.Limits.{Node, JitterHolds}
-use Rattle.task_model.specs.Checks.{kind_test, times_test, jitter_test, entry_check, entries_by, numbers_check, body_by, size_test, node_check_by, node_check}
+use Rattle.task_model.specs.Checks.{kind_test, times_test, entry_check, entries_by, numbers_check, body_by, size_test, node_check_by, node_check}
 use Rattle.task_model.specs.WithoutJitter.{Punctual, punctual_check}
 use Rattle.refusals.proofs.Outcomes.{then_nothing}
 use Rattle.task_model.proofs.Laws.{jitter_true}

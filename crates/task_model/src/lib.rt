@@ -1,3 +1,5 @@
+#![tactic(auto)]
+
 // The task model: the fields of an entry, and their limits.
 ghost use Rattle.std.specs.Prelude.{◌≡◌, ℕ, ltb};
 ghost use Rattle.task_model.specs.Limits.{TimesHold};
@@ -15,7 +17,7 @@ pub const MOST_ENTRIES: usize = 64;
 
 // An entry of a node: a task, or a global critical section that runs here for a remote task. (docs/SPEC.md, 'Terms', has
 // the usual scheduling terms beside these.)
-#[derive(Drop)]
+#[derive(Clone, Copy)]
 pub struct Entry {
     pub number: u16,
     // 1 is a task, 2 a global critical section.

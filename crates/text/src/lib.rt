@@ -1,3 +1,5 @@
+#![tactic(auto)]
+
 // Writes text into a lent buffer. Each function writes from position `at` on, and returns the position after the text.
 ghost use Rattle.std.specs.Prelude.{◌+◌, ◌≤◌, ◌++◌, length};
 ghost use Rattle.text.specs.Text.{Wrote};

@@ -1,0 +1,12 @@
+use Prim.Native.Nat.{◌+◌, ◌≤◌, ◌-◌}
+use mathlib.Core.Path.{◌≡◌}
+use Rattle.node_words.specs.Words.{entries_from}
+use Rattle.task_model.specs.Checks.{entries_check}
+use Rattle.node_words.proofs.check_entries.Given as goal
+
+abbrev pub invariant-loop-position : goal.invariant-loop-position
+invariant-loop-position l = (l.position ≤ l.count)
+    × (entries_check l.row l.position (entries_from l.words (l.first + l.position) (l.count - l.position)) ≡ entries_check l.row 0 (entries_from l.words l.first l.count))
+
+abbrev pub decreases-loop-position : goal.decreases-loop-position
+decreases-loop-position l = l.count - l.position
