@@ -5,10 +5,8 @@ pub mod Checking
 pub mod Reading
 pub mod Sequences
 pub mod InWords
-pub mod Held
 pub mod Theorems
 pub mod Repeats
-pub mod Lent
 pub mod Mapping
 pub mod WithoutJitter
 pub mod WithoutNumbers

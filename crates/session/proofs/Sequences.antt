@@ -11,7 +11,6 @@ use Rattle.task_model.specs.Limits.{most_levels, most_entries, Node, EntryHolds,
 use Rattle.refusals.proofs.Outcomes.{either}
 use Rattle.task_model.proofs.Theorems.{node_accepted}
 use Rattle.map_store.specs.Store.{store_of}
-use Rattle.map_store.specs.Asking.{map_check, time_check}
 use Rattle.map_store.proofs.Theorems as stored
 use Rattle.session.specs.State.{node_in, session_with, session_of}
 use Rattle.session.specs.Asking.{ask_check, call_check}

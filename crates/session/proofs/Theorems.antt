@@ -2,7 +2,7 @@
 use Prim.Native.Nat.{ℕ, ◌≤◌, ◌<◌}
 use mathlib.Core.Path.{◌≡◌, ◌∙◌, refl, sym, ap, ap₂, subst}
 use mathlib.Core.Logic.{⊎_elim, ◌↔◌}
-use mathlib.Core.Bool.{true, false, false≢true}
+use mathlib.Core.Bool.{true, false≢true}
 use mathlib.Core.Option.{some}
 use mathlib.Core.List.{List, ◌∷◌}
 use native.Mathlib.Omega.{arith}
@@ -29,27 +29,7 @@ use Rattle.session.specs.declared.Session.{Session}
 use Rattle.node_words.specs.Words.{node_size}
 use Rattle.session.specs.State.{node_in, session_with, session_of, Sound, blank_session}
 use Rattle.node_words.specs.Lists.{zeros}
-use Rattle.session.specs.Operations.{
-  Query,
-  Operation,
-  opening,
-  changing,
-  asking,
-  inserting,
-  mapping,
-  timing,
-  map_timing,
-  AllCallable,
-  operation_check,
-  operation_check_by,
-  empty_node,
-  node_after_all,
-  answers_all,
-  lent_check,
-  lent_check_by,
-  step_check,
-  step_check_by,
-}
+use Rattle.session.specs.Operations.{Query, Operation, opening, changing, asking, inserting, mapping, timing, map_timing, AllCallable, operation_check, operation_check_by, empty_node, node_after_all, answers_all, lent_check_by, step_check, step_check_by}
 use Rattle.refusals.specs.Answers.{gives, refuses, left}
 use Rattle.session.specs.Timing.{time_answer}
 use Rattle.map_store.specs.Store.{store_of, has_map, stored_used, stored_levels, stored_time}

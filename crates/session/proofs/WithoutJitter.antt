@@ -1,20 +1,20 @@
 -- Where every J is 0, a session answers as it did before entries had a jitter, and holds the same.
-use Prim.Native.Nat.{ℕ, ◌<◌}
+use Prim.Native.Nat.{ℕ}
 use mathlib.Core.Path.{◌≡◌, ◌∙◌, refl, ap, ap₂}
 use mathlib.Core.Logic.{⊎_elim}
 use mathlib.Core.List.{List, [], ◌∷◌}
 use native.Mathlib.Omega.{arith}
 use lib.ListN.{length}
 use lib.Dec.{leb, ltb}
-use Rattle.refusals.specs.Refusals.{at, Outcome, accepted, refused, ◌and_then◌, must_hold}
+use Rattle.refusals.specs.Refusals.{at, accepted, refused, ◌and_then◌, must_hold}
 use Rattle.refusals.specs.Answers.{giving}
 use Rattle.refusals.proofs.Outcomes.{either}
 use Rattle.task_model.specs.declared.Entry.{Entry}
-use Rattle.task_model.specs.Limits.{most_entries, Node, entry_at}
+use Rattle.task_model.specs.Limits.{most_entries, Node}
 use Rattle.task_model.specs.WithoutJitter.{Punctual}
 use Rattle.task_model.proofs.WithoutJitter.{entry_punctual, node_punctual}
 use Rattle.node_words.specs.Lists.{insert_at, remove_at, replace_at}
-use Rattle.node_words.proofs.Lists.{Each, each_of, of_each, each_inserted, each_removed, each_replaced}
+use Rattle.node_words.proofs.Lists.{each_of, of_each, each_inserted, each_removed, each_replaced}
 use Rattle.completion.specs.Group.{group_level}
 use Rattle.completion.proofs.WithoutJitter.{test_punctual}
 use Rattle.level_map.specs.Assignments.{level_of, levels_used}

@@ -1,6 +1,6 @@
 -- The rules of a session before entries had a jitter, and operations with entries whose J is 0. Entry numbers are checked
 -- under these rules too; specs/WithoutNumbers has the checks without that.
-use Rattle.std.specs.Prelude.{ℕ, ◌≡◌, List, [], ◌∷◌}
+use Rattle.std.specs.Prelude.{◌≡◌, List, [], ◌∷◌}
 use Rattle.task_model.specs.WithoutJitter.{punctual_check}
 use Rattle.completion.specs.WithoutJitter.{punctual_test}
 use Rattle.session.specs.Operations.{Rules, Change, inserting, removing, replacing, setting_levels, Operation, opening, changing, asking}
