@@ -1,0 +1,18 @@
+use Prim.Native.Nat.{◌≤◌, ◌-◌}
+use mathlib.Core.Path.{◌≡◌, ◌∙◌, refl, sym}
+use native.Mathlib.Omega.{arith}
+use lib.ListN.{length}
+use borrow.Author.Rules.{rules}
+use Rattle.node_words.specs.Words.{words_of}
+use Rattle.byte_words.specs.Buffers.{over}
+use Rattle.byte_words.proofs.Buffers.{over_nothing}
+use Rattle.plan_file.specs.declared.Edition.TheVariants.{First}
+use Rattle.plan_file.specs.Decoding.{entries_at}
+use Rattle.plan_file.proofs.Memory.{entry_copied}
+use Rattle.plan_file.proofs.read.copy_first.Given as goal
+
+abbrev pub invariant-loop-i : goal.invariant-loop-i
+invariant-loop-i l = (l.i ≤ l.count) × (length l.words ≡ length l.initial.words) × (l.words ≡ over l.initial.words 0 (words_of (entries_at First l.file l.k l.i)))
+
+abbrev pub decreases-loop-i : goal.decreases-loop-i
+decreases-loop-i l = l.count - l.i
