@@ -4,7 +4,6 @@ use mathlib.Core.Bool.{true}
 use mathlib.Core.Path.{◌≡◌, ◌∙◌, sym, ap}
 use native.Mathlib.Omega.{arith}
 use lib.ListN.{length, length-map}
-use borrow.Author.Rules.{rules}
 use Rattle.node_words.specs.Words.{entry_size}
 use Rattle.refusals.specs.Refusals.{outcome}
 use Rattle.refusals.specs.declared.Checked.{Checked}

@@ -1,6 +1,5 @@
 use mathlib.Core.Path.{◌∙◌, sym}
 use Rattle.plan_file.proofs.Tests.{edition_second, edition_first}
-use borrow.Author.Rules.{rules}
 use Rattle.plan_file.proofs.edition_of.Goals as goal
 
 pub returns-then-opens : goal.returns-then-opens

@@ -1,6 +1,5 @@
 use mathlib.Core.Path.{◌≡◌, ◌∙◌, refl, sym, ap}
 use native.Mathlib.Omega.{arith}
-use borrow.Author.Rules.{rules}
 use Rattle.refusals.specs.Refusals.{outcome, accepted}
 use Rattle.plan_file.specs.Find.{row_of_number}
 use Rattle.plan_file.specs.Decoding.{rows_in}
@@ -11,10 +10,10 @@ use Rattle.plan_file.proofs.find_node.Goals as goal
 
 pub returns-in-Refused : goal.returns-in-Refused
 returns-in-Refused c = record {
-      result_value = sym (find_refused _ _ _ (sym c.check_file-checked.ensures.result_value ∙ ap outcome c.in-Refused.is));
-      words_after = refl;
-      holding = tt;
-    }
+  result_value = sym (find_refused _ _ _ (sym c.check_file-checked.ensures.result_value ∙ ap outcome c.in-Refused.is));
+  words_after = refl;
+  holding = tt;
+}
 
 pub node_count-nodes-requires : goal.node_count-nodes-requires
 node_count-nodes-requires c =
@@ -31,8 +30,8 @@ returns-then-nodes-row c =
     let told : file_check c.args.file.now ≡ accepted = sym c.check_file-checked.ensures.result_value ∙ ap outcome c.in_default.is in
     record {
       result_value = sym
-      (find_missing _ _ (told)
-      (rw (← c.node_count-nodes.ensures.0) (rw (← c.row_of_number-row.ensures) c.if-nodes-row.true)));
+          (find_missing _ _ (told)
+          (rw (← c.node_count-nodes.ensures.0) (rw (← c.row_of_number-row.ensures) c.if-nodes-row.true)));
       words_after = refl;
       holding = tt;
     }

@@ -1,7 +1,6 @@
 use Prim.Native.Nat.{◌*◌}
 use mathlib.Core.Path.{◌∙◌, ap}
 use native.Mathlib.Omega.{arith}
-use borrow.Author.Rules.{rules}
 use Rattle.plan_file.specs.declared.Row.{Row}
 use Rattle.plan_file.specs.Encoding.{entry_length}
 use Rattle.plan_file.specs.Decoding.{edition_of}
@@ -42,7 +41,7 @@ edition_of-requires c =
     (header).long
 
 pub copy_entries-requires : goal.copy_entries-requires
-copy_entries-requires c =    let f = c.args.file.now in
+copy_entries-requires c = let f = c.args.file.now in
     let row = c.row_at-r in
     omega (
       arith,
@@ -55,6 +54,6 @@ copy_entries-requires c =    let f = c.args.file.now in
     )
 
 pub returns : goal.returns
-returns c =    rw c.row_at-r.ensures
+returns c = rw c.row_at-r.ensures
     (loaded c.args.file.now (λ i. (c.shared_slice_known-1.given i).fits) c.requires.0 _ c.requires.1 _ _
     (c.copy_entries.ensures ∙ rw (c.edition_of.ensures, c.word_at-start.ensures, c.row_at-r.ensures)))

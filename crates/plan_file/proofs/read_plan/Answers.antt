@@ -2,7 +2,6 @@ use Prim.Native.Nat.{◌+◌, ◌*◌}
 use mathlib.Core.Path.{◌≡◌, ◌∙◌, refl, sym, ap}
 use native.Mathlib.Omega.{arith}
 use lib.ListN.{length}
-use borrow.Author.Rules.{rules}
 use Rattle.refusals.specs.Refusals.{outcome, accepted}
 use Rattle.byte_words.proofs.Buffers.{over_start}
 use Rattle.plan_file.specs.Plan.{entry_count}
@@ -17,13 +16,13 @@ use Rattle.plan_file.proofs.read_plan.Goals as goal
 
 pub returns-in-Refused : goal.returns-in-Refused
 returns-in-Refused c = record {
-      read_call = record {
+  read_call = record {
     answer = sym (read_refused _ _ _ _ (sym c.check_file-checked.ensures.result_value ∙ ap outcome c.in-Refused.is));
     rows_there = refl;
     words_there = refl;
   };
-      written_again = tt;
-    }
+  written_again = tt;
+}
 
 pub edition_of-edition-requires : goal.edition_of-edition-requires
 edition_of-edition-requires c =
@@ -45,10 +44,10 @@ returns-then-rows-nodes c =
     let told : file_check c.args.file.now ≡ accepted = sym c.check_file-checked.ensures.result_value ∙ ap outcome c.in_default.is in
     record {
       read_call = record {
-    answer = sym (read_few_rows _ _ _ (told) (rw (← c.node_count-nodes.ensures.0) c.if-rows-nodes.true));
-    rows_there = refl;
-    words_there = refl;
-  };
+        answer = sym (read_few_rows _ _ _ (told) (rw (← c.node_count-nodes.ensures.0) c.if-rows-nodes.true));
+        rows_there = refl;
+        words_there = refl;
+      };
       written_again = tt;
     }
 

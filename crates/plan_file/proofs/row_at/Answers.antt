@@ -1,5 +1,4 @@
 use mathlib.Core.Path.{◌∙◌, ap}
-use borrow.Author.Rules.{rules}
 use Rattle.plan_file.specs.Plan.{row_of}
 use Rattle.plan_file.proofs.row_at.Goals as goal
 

@@ -1,10 +1,6 @@
-use Prim.Native.Nat.{◌+◌, ◌≤◌, ◌-◌}
 use mathlib.Core.Path.{◌≡◌, ◌∙◌, sym}
 use native.Mathlib.Omega.{arith}
 use native.Mathlib.Nat.{zero-add}
-use lib.ListN.{drop}
-use borrow.Author.Rules.{rules}
-use Rattle.plan_file.specs.Find.{row_of_number}
 use Rattle.plan_file.specs.Decoding.{rows_from}
 use Rattle.byte_words.proofs.Runs.{AtHand, run_none}
 use Rattle.plan_file.proofs.Contents.{rows_run, file_row}
@@ -21,12 +17,11 @@ returns-then-r-number c =
 
 pub loop-row-preserved : goal.loop-row-preserved
 loop-row-preserved c =
-    let at_row : AtHand (rows_from c.args.file.now 0 c.args.nodes) c.loop-row.row c.row_at-r.result = file_row _ _ _ _ c.loop-row-test.true c.row_at-r.ensures in
-    (
-  omega arith,
-  sym (search_next _ (at_row) c.if-r-number.false) ∙ c.loop-row.invariant.1,
-)
+    let at_row : AtHand (rows_from c.args.file.now 0 c.args.nodes) c.loop-row.row c.row_at-r.result = file_row _ _ _ _ c.loop-row-test.true c.row_at-r.ensures in (
+      omega arith,
+      sym (search_next _ (at_row) c.if-r-number.false) ∙ c.loop-row.invariant.1,
+    )
 
 pub returns : goal.returns
-returns c =    let e : c.loop-row.row ≡ c.args.nodes = omega arith in
+returns c = let e : c.loop-row.row ≡ c.args.nodes = omega arith in
     sym e ∙ sym (search_end _ _ _ (run_none (rows_run _) _ _ _ c.loop-row-test.false)) ∙ c.loop-row.invariant.1

@@ -1,14 +1,8 @@
 use Prim.Native.Nat.{◌+◌, ◌≤◌, ◌-◌}
-use mathlib.Core.Path.{◌≡◌, ◌∙◌, sym}
-use native.Mathlib.Omega.{arith}
-use native.Mathlib.Nat.{zero-add}
+use mathlib.Core.Path.{◌≡◌}
 use lib.ListN.{drop}
-use borrow.Author.Rules.{rules}
 use Rattle.plan_file.specs.Find.{row_of_number}
 use Rattle.plan_file.specs.Decoding.{rows_from}
-use Rattle.byte_words.proofs.Runs.{AtHand, run_none}
-use Rattle.plan_file.proofs.Contents.{rows_run, file_row}
-use Rattle.plan_file.proofs.Finding.{search_found, search_next, search_end}
 use Rattle.plan_file.proofs.row_of_number.Given as goal
 
 abbrev pub invariant-loop-row : goal.invariant-loop-row

@@ -2,7 +2,6 @@ use Prim.Native.Nat.{ℕ, ◌+◌, ◌*◌, ◌/◌, ◌≤◌}
 use mathlib.Core.Path.{◌≡◌, ◌∙◌, refl, sym, ap}
 use native.Mathlib.Omega.{arith}
 use lib.ListN.{length, length-map}
-use borrow.Author.Rules.{rules}
 use Rattle.refusals.specs.Refusals.{outcome, accepted}
 use Rattle.node_words.specs.Words.{entry_size}
 use Rattle.byte_words.proofs.Buffers.{over_start}
@@ -18,12 +17,12 @@ use Rattle.plan_file.proofs.write_plan.Goals as goal
 
 pub returns-in-Refused : goal.returns-in-Refused
 returns-in-Refused c = record {
-      write_call = record {
+  write_call = record {
     answer = sym (write_refused _ _ _ _ _ (sym c.check_plan-checked.ensures.result_value ∙ ap outcome c.in-Refused.is));
     file_there = refl;
   };
-      read_again = tt;
-    }
+  read_again = tt;
+}
 
 pub overflow_add-start : goal.overflow_add-start
 overflow_add-start c =

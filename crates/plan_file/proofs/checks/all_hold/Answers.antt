@@ -1,4 +1,3 @@
-use borrow.Author.Rules.{rules}
 use Rattle.plan_file.proofs.checks.all_hold.Goals as goal
 
 pub first_hold-requires : goal.first_hold-requires

@@ -1,17 +1,16 @@
-use Prim.Native.Nat.{◌+◌, ◌*◌, ◌≤◌, ◌-◌}
+use Prim.Native.Nat.{◌+◌, ◌*◌}
 use mathlib.Core.Path.{◌≡◌, ◌∙◌, refl, sym, ap}
 use native.Mathlib.Omega.{arith}
-use lib.ListN.{length, drop}
+use lib.ListN.{drop}
 use borrow.Author.Rules.{rules}
 use Rattle.refusals.specs.Refusals.{outcome}
 use Rattle.task_model.specs.Checks.{body_check}
-use Rattle.plan_file.specs.Decoding.{rows_from, entries_at}
-use Rattle.plan_file.specs.Encoding.{entry_length, bodies_start}
+use Rattle.plan_file.specs.Decoding.{rows_from}
+use Rattle.plan_file.specs.Encoding.{entry_length}
 use Rattle.plan_file.specs.Plan.{entry_count}
-use Rattle.plan_file.specs.Quick.{file_marks}
 use Rattle.byte_words.proofs.Runs.{AtHand, run_none}
 use Rattle.plan_file.proofs.Contents.{rows_run, entries_run, file_row}
-use Rattle.plan_file.proofs.Rows.{bodies, count_here, bodies_here, bodies_end}
+use Rattle.plan_file.proofs.Rows.{count_here, bodies_here, bodies_end}
 use Rattle.plan_file.proofs.checks.check_bodies.Goals as goal
 
 pub loop-row-init : goal.loop-row-init
@@ -49,8 +48,7 @@ pub loop-row-preserved : goal.loop-row-preserved
 loop-row-preserved c =
     let at_row : AtHand (rows_from c.args.file.now 0 c.args.nodes) c.loop-row.row c.row_at-r.result = file_row _ _ _ _ c.loop-row-test.true c.row_at-r.ensures in
     let bytes_here : let rows = rows_from c.args.file.now 0 c.args.nodes in let size = entry_length c.args.edition in entry_count (drop c.loop-row.row rows) * size ≡ (c.row_at-r.result.count + entry_count (drop (c.loop-row.row + 1) rows)) * size = ap (λ n. n * entry_length c.args.edition) (count_here (at_row)) in
-    let sized : c.row_at-r.result.count * c.entry_bytes-size.result ≡ c.row_at-r.result.count * entry_length c.args.edition = ap (λ s. c.row_at-r.result.count * s) c.entry_bytes-size.ensures in
-    (
+    let sized : c.row_at-r.result.count * c.entry_bytes-size.result ≡ c.row_at-r.result.count * entry_length c.args.edition = ap (λ s. c.row_at-r.result.count * s) c.entry_bytes-size.ensures in (
       omega arith,
       c.check_body-found.ensures.marks_len,
       omega (arith, bytes_here, sized),
@@ -61,4 +59,4 @@ loop-row-preserved c =
     )
 
 pub returns : goal.returns
-returns c =    sym (bodies_end body_check (entries_run _ _) _ _ _ (run_none (rows_run _) _ _ _ c.loop-row-test.false)) ∙ c.loop-row.invariant.3
+returns c = sym (bodies_end body_check (entries_run _ _) _ _ _ (run_none (rows_run _) _ _ _ c.loop-row-test.false)) ∙ c.loop-row.invariant.3

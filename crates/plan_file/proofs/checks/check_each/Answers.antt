@@ -1,11 +1,10 @@
-use Prim.Native.Nat.{◌+◌, ◌-◌, ◌≤◌}
+use Prim.Native.Nat.{◌+◌, ◌≤◌}
 use mathlib.Core.Path.{◌∙◌, sym, ap}
 use native.Mathlib.Omega.{arith}
 use lib.ListN.{length}
-use borrow.Author.Rules.{rules}
 use Rattle.refusals.specs.Refusals.{outcome}
 use Rattle.plan_file.specs.Encoding.{entry_length}
-use Rattle.plan_file.proofs.Bodies.{Come, come_first, come_inside, come_stop, come_next, come_end}
+use Rattle.plan_file.proofs.Bodies.{come_first, come_inside, come_stop, come_next, come_end}
 use Rattle.plan_file.proofs.checks.check_each.Goals as goal
 
 pub loop-position-init : goal.loop-position-init
@@ -17,7 +16,7 @@ entry_in-e-requires c =
     inside
 
 pub returns-in_default : goal.returns-in_default
-returns-in_default c =    let told = ap outcome c.in_default.is in
+returns-in_default c = let told = ap outcome c.in_default.is in
     told
     ∙ come_stop _ _ _ _ _ _ _ c.loop-position.invariant _ _ c.loop-position-test.true c.entry_in-e.ensures
     (sym c.check_entry-found.ensures ∙ told)
@@ -28,7 +27,7 @@ overflow_add-k c =
     omega (arith, inside)
 
 pub loop-position-preserved : goal.loop-position-preserved
-loop-position-preserved c =    rw c.entry_bytes-size.ensures
+loop-position-preserved c = rw c.entry_bytes-size.ensures
     (come_next _ _ _ _ _ _ _ c.loop-position.invariant _ c.loop-position-test.true c.entry_in-e.ensures
     (sym c.check_entry-found.ensures ∙ ap outcome c.in-Accepted.is))
 

@@ -1,16 +1,13 @@
-use Prim.Native.Nat.{◌+◌, ◌≤◌, ◌-◌}
+use Prim.Native.Nat.{◌+◌}
 use mathlib.Core.Path.{◌≡◌, ◌∙◌, sym, ap}
 use native.Mathlib.Omega.{arith}
 use native.Mathlib.Nat.{add-zero, sub-zero}
-use borrow.Author.Rules.{rules}
 use Rattle.refusals.specs.Refusals.{outcome}
 use Rattle.refusals.specs.declared.Checked.{Checked}
 use Rattle.task_model.specs.declared.Entry.{Entry}
-use Rattle.task_model.specs.Checks.{entry_check, entries_by}
-use Rattle.node_words.specs.Words.{entry_of, entries_from}
+use Rattle.task_model.specs.Checks.{entry_check}
+use Rattle.node_words.specs.Words.{entry_of}
 use Rattle.node_words.proofs.Entries.{from_next, from_stop, from_end}
-use Rattle.plan_file.specs.declared.Edition.TheVariants.{First}
-use Rattle.plan_file.specs.Check.{written_check}
 use Rattle.plan_file.proofs.WriterChecks.{first_refuses, first_jitter, first_accepts}
 use Rattle.plan_file.proofs.checks.check_first_entries.Goals as goal
 

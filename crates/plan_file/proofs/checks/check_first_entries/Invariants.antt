@@ -1,21 +1,13 @@
 use Prim.Native.Nat.{◌+◌, ◌≤◌, ◌-◌}
-use mathlib.Core.Path.{◌≡◌, ◌∙◌, sym, ap}
-use native.Mathlib.Omega.{arith}
-use native.Mathlib.Nat.{add-zero, sub-zero}
-use borrow.Author.Rules.{rules}
-use Rattle.refusals.specs.Refusals.{outcome}
-use Rattle.refusals.specs.declared.Checked.{Checked}
-use Rattle.task_model.specs.declared.Entry.{Entry}
-use Rattle.task_model.specs.Checks.{entry_check, entries_by}
-use Rattle.node_words.specs.Words.{entry_of, entries_from}
-use Rattle.node_words.proofs.Entries.{from_next, from_stop, from_end}
+use mathlib.Core.Path.{◌≡◌}
+use Rattle.task_model.specs.Checks.{entries_by}
+use Rattle.node_words.specs.Words.{entries_from}
 use Rattle.plan_file.specs.declared.Edition.TheVariants.{First}
 use Rattle.plan_file.specs.Check.{written_check}
-use Rattle.plan_file.proofs.WriterChecks.{first_refuses, first_jitter, first_accepts}
 use Rattle.plan_file.proofs.checks.check_first_entries.Given as goal
 
 abbrev pub invariant-loop-position : goal.invariant-loop-position
-invariant-loop-position l =    (l.position ≤ l.count)
+invariant-loop-position l = (l.position ≤ l.count)
     × (entries_by (written_check First l.row) l.position (entries_from l.words (l.first + l.position) (l.count - l.position))
     ≡ entries_by (written_check First l.row) 0 (entries_from l.words l.first l.count))
 

@@ -1,7 +1,6 @@
 use mathlib.Core.Path.{◌∙◌, sym}
 use native.Mathlib.Omega.{arith}
 use borrow.Author.Tests.{not-true, not-false}
-use borrow.Author.Rules.{rules}
 use Rattle.plan_file.proofs.Header.{header_short, header_opening, header_count, header_cut, header_accepted}
 use Rattle.plan_file.proofs.checks.check_header.Goals as goal
 

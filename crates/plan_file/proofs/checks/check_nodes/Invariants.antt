@@ -1,23 +1,17 @@
 use Prim.Native.Nat.{◌+◌, ◌*◌, ◌≤◌, ◌-◌}
 use mathlib.Core.List.{map}
-use mathlib.Core.Path.{◌≡◌, ◌∙◌, refl, sym, ap}
-use native.Mathlib.Omega.{arith}
-use native.Mathlib.Nat.{zero-add}
+use mathlib.Core.Path.{◌≡◌}
 use lib.ListN.{length, drop}
-use borrow.Author.Rules.{rules}
 use Rattle.node_words.specs.Words.{entry_size, entries_from}
 use Rattle.node_words.specs.Marks.{mark_count}
-use Rattle.refusals.specs.Refusals.{outcome}
 use Rattle.task_model.specs.Checks.{body_by}
 use Rattle.plan_file.specs.Plan.{entry_count, row_of}
 use Rattle.plan_file.specs.Check.{written_check}
-use Rattle.byte_words.proofs.Runs.{AtHand}
-use Rattle.plan_file.proofs.Contents.{words_entries_run, memory_row, memory_none}
-use Rattle.plan_file.proofs.Rows.{bodies, count_here, bodies_here, bodies_end}
+use Rattle.plan_file.proofs.Rows.{bodies}
 use Rattle.plan_file.proofs.checks.check_nodes.Given as goal
 
 abbrev pub invariant-loop-row : goal.invariant-loop-row
-invariant-loop-row l =    (l.row ≤ length l.rows)
+invariant-loop-row l = (l.row ≤ length l.rows)
     × (length l.marks ≡ mark_count)
     × ((l.first + entry_count (drop l.row (map row_of l.rows))) * entry_size ≤ length l.words)
     × (bodies (body_by (written_check l.edition)) (entries_from l.words) l.first l.row (drop l.row (map row_of l.rows))

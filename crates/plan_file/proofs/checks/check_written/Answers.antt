@@ -1,4 +1,3 @@
-use borrow.Author.Rules.{rules}
 use Rattle.plan_file.specs.Check.{written_check}
 use Rattle.plan_file.proofs.checks.check_written.Goals as goal
 

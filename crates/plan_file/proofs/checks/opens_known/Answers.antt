@@ -1,6 +1,5 @@
 use mathlib.Core.Path.{◌∙◌, sym}
 use Rattle.plan_file.proofs.Tests.{opens_first, opens_else}
-use borrow.Author.Rules.{rules}
 use Rattle.plan_file.proofs.checks.opens_known.Goals as goal
 
 pub returns-then-opens : goal.returns-then-opens

@@ -1,4 +1,3 @@
-use borrow.Author.Rules.{rules}
 use Rattle.plan_file.proofs.checks.placed_at.Goals as goal
 
 pub returns : goal.returns

@@ -1,6 +1,5 @@
 use mathlib.Core.Path.{sym}
 use native.Mathlib.Omega.{arith}
-use borrow.Author.Rules.{rules}
 use Rattle.plan_file.proofs.Tests.{row_false, row_rest}
 use Rattle.plan_file.proofs.checks.row_holds.Goals as goal
 

@@ -1,4 +1,3 @@
-use borrow.Author.Rules.{rules}
 use Rattle.plan_file.proofs.editions.entries_in.Goals as goal
 
 pub returns-in-First : goal.returns-in-First

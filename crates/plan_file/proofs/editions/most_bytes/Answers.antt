@@ -1,5 +1,4 @@
 use mathlib.Core.Path.{sym, ap}
-use borrow.Author.Rules.{rules}
 use Rattle.plan_file.specs.Limits.{longest}
 use Rattle.plan_file.proofs.editions.most_bytes.Goals as goal
 

@@ -5,7 +5,6 @@ use mathlib.Core.List.{List}
 use Rattle.plan_file.specs.declared.Edition.{Edition}
 use Rattle.plan_file.specs.Encoding.{opening_bytes}
 use Rattle.plan_file.proofs.Tests.{opens_false, opens_rest}
-use borrow.Author.Rules.{rules}
 use Rattle.plan_file.proofs.editions.opens.Goals as goal
 
 -- a byte of the opening at hand is the edition's
@@ -22,5 +21,5 @@ pub returns-then-file-opening-3 : goal.returns-then-file-opening-3
 returns-then-file-opening-3 c = sym (opens_false _ _ (λ h. c.if-file-opening-3.true (h.third ∙ byte _ _ 2 c.opening_of-opening.ensures)))
 
 pub returns : goal.returns
-returns c =    rw c.opening_of-opening.ensures
+returns c = rw c.opening_of-opening.ensures
     (opens_rest _ _ (c.if-file-opening.false ∙ sym (byte _ _ 0 c.opening_of-opening.ensures)) (c.if-file-opening-2.false ∙ sym (byte _ _ 1 c.opening_of-opening.ensures)) (c.if-file-opening-3.false ∙ sym (byte _ _ 2 c.opening_of-opening.ensures)))

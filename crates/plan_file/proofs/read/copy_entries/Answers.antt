@@ -1,7 +1,6 @@
 use Prim.Native.Nat.{◌*◌}
 use mathlib.Core.Path.{◌∙◌, sym, ap}
 use native.Mathlib.Omega.{arith}
-use borrow.Author.Rules.{rules}
 use Rattle.byte_words.specs.Buffers.{over}
 use Rattle.plan_file.specs.Encoding.{entry_length}
 use Rattle.plan_file.proofs.Memory.{words_of_entries}
@@ -17,6 +16,6 @@ pub returns-in-First : goal.returns-in-First
 returns-in-First c = rw c.in-First.is c.copy_first.ensures
 
 pub returns-in-Second : goal.returns-in-Second
-returns-in-Second c =    rw c.in-Second.is
+returns-in-Second c = rw c.in-Second.is
     (c.copy_words.ensures
     ∙ ap (over _ 0) (sym (words_of_entries _ (λ i. (c.shared_slice_known-1.given i).fits) _ _)))

@@ -1,10 +1,6 @@
-use Prim.Native.Nat.{◌≤◌, ◌-◌}
 use mathlib.Core.Path.{◌≡◌, ◌∙◌, refl, sym}
 use native.Mathlib.Omega.{arith}
-use lib.ListN.{length}
-use borrow.Author.Rules.{rules}
 use Rattle.node_words.specs.Words.{words_of}
-use Rattle.byte_words.specs.Buffers.{over}
 use Rattle.byte_words.proofs.Buffers.{over_nothing}
 use Rattle.plan_file.specs.declared.Edition.TheVariants.{First}
 use Rattle.plan_file.specs.Decoding.{entries_at}
@@ -16,12 +12,12 @@ unfolding entries_at words_of
 loop-i-init c = (omega arith, refl, sym (over_nothing _ 0))
 
 pub loop-i-preserved : goal.loop-i-preserved
-loop-i-preserved c =    (
-      omega arith,
-      omega (arith, c.store_entry.auto.words),
-      c.store_entry.ensures
-          ∙ entry_copied First _ _ _ _ _ _ c.loop-i.invariant.2 c.loop-i.invariant.1 c.first_entry-e.ensures (omega arith),
-    )
+loop-i-preserved c = (
+  omega arith,
+  omega (arith, c.store_entry.auto.words),
+  c.store_entry.ensures
+      ∙ entry_copied First _ _ _ _ _ _ c.loop-i.invariant.2 c.loop-i.invariant.1 c.first_entry-e.ensures (omega arith),
+)
 
 pub returns : goal.returns
-returns c =    let e : c.loop-i.i ≡ c.args.count = omega arith in rw (← e) c.loop-i.invariant.2
+returns c = let e : c.loop-i.i ≡ c.args.count = omega arith in rw (← e) c.loop-i.invariant.2

@@ -1,14 +1,10 @@
 use Prim.Native.Nat.{◌≤◌, ◌-◌}
-use mathlib.Core.Path.{◌≡◌, ◌∙◌, refl, sym}
-use native.Mathlib.Omega.{arith}
+use mathlib.Core.Path.{◌≡◌}
 use lib.ListN.{length}
-use borrow.Author.Rules.{rules}
 use Rattle.node_words.specs.Words.{words_of}
 use Rattle.byte_words.specs.Buffers.{over}
-use Rattle.byte_words.proofs.Buffers.{over_nothing}
 use Rattle.plan_file.specs.declared.Edition.TheVariants.{First}
 use Rattle.plan_file.specs.Decoding.{entries_at}
-use Rattle.plan_file.proofs.Memory.{entry_copied}
 use Rattle.plan_file.proofs.read.copy_first.Given as goal
 
 abbrev pub invariant-loop-i : goal.invariant-loop-i

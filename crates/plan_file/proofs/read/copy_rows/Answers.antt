@@ -1,12 +1,7 @@
-use Prim.Native.Nat.{◌≤◌, ◌-◌}
-use mathlib.Core.List.{map}
 use mathlib.Core.Path.{◌≡◌, refl, sym}
 use native.Mathlib.Omega.{arith}
-use lib.ListN.{length, length-set}
-use borrow.Author.Rules.{rules}
+use lib.ListN.{length-set}
 use Rattle.plan_file.specs.Decoding.{rows_from}
-use Rattle.plan_file.specs.Plan.{row_word}
-use Rattle.byte_words.specs.Buffers.{over}
 use Rattle.plan_file.proofs.Contents.{row_words_run, row_kept}
 use Rattle.byte_words.proofs.Runs.{copied}
 use Rattle.byte_words.proofs.Buffers.{over_nothing}

@@ -1,15 +1,10 @@
 use Prim.Native.Nat.{◌≤◌, ◌-◌}
 use mathlib.Core.List.{map}
-use mathlib.Core.Path.{◌≡◌, refl, sym}
-use native.Mathlib.Omega.{arith}
-use lib.ListN.{length, length-set}
-use borrow.Author.Rules.{rules}
+use mathlib.Core.Path.{◌≡◌}
+use lib.ListN.{length}
 use Rattle.plan_file.specs.Decoding.{rows_from}
 use Rattle.plan_file.specs.Plan.{row_word}
 use Rattle.byte_words.specs.Buffers.{over}
-use Rattle.plan_file.proofs.Contents.{row_words_run, row_kept}
-use Rattle.byte_words.proofs.Runs.{copied}
-use Rattle.byte_words.proofs.Buffers.{over_nothing}
 use Rattle.plan_file.proofs.read.copy_rows.Given as goal
 
 abbrev pub invariant-loop-row : goal.invariant-loop-row

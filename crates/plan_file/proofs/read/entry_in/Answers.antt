@@ -1,4 +1,3 @@
-use borrow.Author.Rules.{rules}
 use Rattle.plan_file.proofs.read.entry_in.Goals as goal
 
 pub first_entry-requires : goal.first_entry-requires

@@ -1,4 +1,3 @@
-use borrow.Author.Rules.{rules}
 use Rattle.plan_file.proofs.Words.{words_jitter}
 use Rattle.plan_file.proofs.read.second_entry.Goals as goal
 

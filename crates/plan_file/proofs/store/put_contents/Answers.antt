@@ -1,12 +1,11 @@
-use Prim.Native.Nat.{◌+◌, ◌*◌, ◌≤◌, ◌-◌}
+use Prim.Native.Nat.{◌*◌, ◌≤◌}
 use mathlib.Core.List.{map}
-use mathlib.Core.Path.{◌≡◌, ◌∙◌, refl, sym, ap}
+use mathlib.Core.Path.{◌∙◌, refl, sym, ap}
 use native.Mathlib.Omega.{arith}
 use lib.Seq.{take_all}
-use lib.ListN.{length, take, length-map}
-use borrow.Author.Rules.{rules}
+use lib.ListN.{length-map}
 use Rattle.plan_file.specs.declared.Edition.TheVariants.{Second}
-use Rattle.plan_file.specs.Encoding.{bodies_start, contents_bytes, entry_length}
+use Rattle.plan_file.specs.Encoding.{contents_bytes, entry_length}
 use Rattle.plan_file.specs.Plan.{entry_count, row_of}
 use Rattle.byte_words.specs.Buffers.{over}
 use Rattle.plan_file.specs.declared.Row.{Row}
@@ -47,6 +46,6 @@ loop-row-preserved c =
     )
 
 pub returns : goal.returns
-returns c =    let rows = c.args.rows.now in
+returns c = let rows = c.args.rows.now in
     rw (← c.entry_bytes-size.ensures)
     (rw (take_all c.loop-row.row (map row_of rows) (omega (arith, length-map rows row_of))) at c.loop-row.invariant.4)

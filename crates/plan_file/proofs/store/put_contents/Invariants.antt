@@ -1,23 +1,15 @@
 use Prim.Native.Nat.{◌+◌, ◌*◌, ◌≤◌, ◌-◌}
 use mathlib.Core.List.{map}
-use mathlib.Core.Path.{◌≡◌, ◌∙◌, refl, sym, ap}
-use native.Mathlib.Omega.{arith}
-use lib.Seq.{take_all}
-use lib.ListN.{length, take, length-map}
-use borrow.Author.Rules.{rules}
+use mathlib.Core.Path.{◌≡◌}
+use lib.ListN.{length, take}
 use Rattle.plan_file.specs.declared.Edition.TheVariants.{Second}
 use Rattle.plan_file.specs.Encoding.{bodies_start, contents_bytes, entry_length}
 use Rattle.plan_file.specs.Plan.{entry_count, row_of}
 use Rattle.byte_words.specs.Buffers.{over}
-use Rattle.plan_file.specs.declared.Row.{Row}
-use Rattle.plan_file.proofs.Contents.{memory_row}
-use Rattle.plan_file.proofs.Encoding.{size_short}
-use Rattle.plan_file.proofs.Rows.{count_more, contents_more, contents_length}
-use Rattle.byte_words.proofs.Buffers.{over_nothing, over_next}
 use Rattle.plan_file.proofs.store.put_contents.Given as goal
 
 abbrev pub invariant-loop-row : goal.invariant-loop-row
-invariant-loop-row l =    (l.row ≤ length l.rows)
+invariant-loop-row l = (l.row ≤ length l.rows)
     × (length l.file ≡ length l.initial.file)
     × (l.offset ≡ bodies_start (length l.rows) + entry_count (take l.row (map row_of l.rows)) * l.size)
     × (l.offset ≤ bodies_start (length l.rows) + l.row * 255 * entry_length Second)

@@ -1,7 +1,6 @@
 use Prim.Native.Nat.{◌*◌}
 use mathlib.Core.Path.{◌∙◌, sym, ap}
 use native.Mathlib.Omega.{arith}
-use borrow.Author.Rules.{rules}
 use Rattle.byte_words.specs.Buffers.{over}
 use Rattle.plan_file.specs.Encoding.{entry_length}
 use Rattle.plan_file.proofs.Words.{bodies_bytes_lem}
@@ -17,5 +16,5 @@ pub returns-in-First : goal.returns-in-First
 returns-in-First c = rw c.in-First.is c.put_first.ensures
 
 pub returns-in-Second : goal.returns-in-Second
-returns-in-Second c =    rw c.in-Second.is
+returns-in-Second c = rw c.in-Second.is
     (c.put_words.ensures ∙ ap (over _ _) (sym (bodies_bytes_lem _ _ (omega arith))))

@@ -1,9 +1,7 @@
-use Prim.Native.Nat.{◌*◌, ◌≤◌, ◌-◌}
+use Prim.Native.Nat.{◌*◌}
 use mathlib.Core.Path.{◌≡◌, ◌∙◌, refl, sym, ap}
 use native.Mathlib.Omega.{arith}
-use lib.ListN.{length}
-use borrow.Author.Rules.{rules}
-use Rattle.node_words.specs.Words.{entry_size, entries_from, entries_of}
+use Rattle.node_words.specs.Words.{entry_size, entries_from}
 use Rattle.byte_words.specs.Bytes.{bytes_of}
 use Rattle.byte_words.specs.Buffers.{over}
 use Rattle.byte_words.proofs.Buffers.{over_nothing}
@@ -17,13 +15,13 @@ unfolding bodies_bytes entries_from
 loop-i-init c = (omega arith, refl, sym (over_nothing _ _))
 
 pub loop-i-preserved : goal.loop-i-preserved
-loop-i-preserved c =    let words = c.args.words.now in (
-      omega arith,
-      omega (arith, c.put_words.auto.file),
-      c.put_words.ensures
-          ∙ ap (over _ _) (ap bytes_of (first_words words (c.loop-i.i * entry_size) (omega arith)))
-          ∙ entry_put First words _ (omega arith) _ _ _ c.loop-i.invariant.2 (omega arith),
-    )
+loop-i-preserved c = let words = c.args.words.now in (
+  omega arith,
+  omega (arith, c.put_words.auto.file),
+  c.put_words.ensures
+      ∙ ap (over _ _) (ap bytes_of (first_words words (c.loop-i.i * entry_size) (omega arith)))
+      ∙ entry_put First words _ (omega arith) _ _ _ c.loop-i.invariant.2 (omega arith),
+)
 
 pub returns : goal.returns
-returns c =    let e : c.loop-i.i ≡ c.args.count = omega arith in rw (← e) c.loop-i.invariant.2
+returns c = let e : c.loop-i.i ≡ c.args.count = omega arith in rw (← e) c.loop-i.invariant.2

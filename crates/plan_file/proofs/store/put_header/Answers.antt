@@ -1,7 +1,6 @@
 use mathlib.Core.Path.{◌∙◌, ap}
 use native.Mathlib.Omega.{arith}
 use lib.ListN.{length-set}
-use borrow.Author.Rules.{rules}
 use Rattle.byte_words.specs.Buffers.{over}
 use Rattle.byte_words.proofs.Buffers.{stored}
 use Rattle.plan_file.proofs.Encoding.{header_stored}
@@ -32,5 +31,5 @@ pub shape_of-file : goal.shape_of-file
 shape_of-file c = simp length-set
 
 pub returns : goal.returns
-returns c =    let bytes = header_stored c.args.edition _ c.opening_of-opening.ensures c.args.nodes in
+returns c = let bytes = header_stored c.args.edition _ c.opening_of-opening.ensures c.args.nodes in
     stored _ 0 _ c.requires ∙ ap (over _ 0) bytes

@@ -1,6 +1,5 @@
 use mathlib.Core.Path.{◌∙◌, refl, sym, ap}
 use native.Mathlib.Omega.{arith}
-use borrow.Author.Rules.{rules}
 use Rattle.byte_words.specs.Bytes.{low}
 use Rattle.byte_words.specs.Buffers.{over}
 use Rattle.plan_file.proofs.Words.{row_bytes_lem}
@@ -9,6 +8,6 @@ use Rattle.plan_file.proofs.store.put_row.Goals as goal
 
 pub returns : goal.returns
 unfolding low
-returns c =    c.put_word-2.ensures
+returns c = c.put_word-2.ensures
     ∙ rw c.put_word.ensures
     (over_next _ _ 4 (low 4 _) (low 4 _) refl (omega arith) ∙ ap (over _ _) (sym (row_bytes_lem _ _)))
