@@ -2,7 +2,6 @@ use Prim.Native.Nat.{◌*◌}
 use mathlib.Core.Path.{◌≡◌, ◌∙◌, sym, ap}
 use mathlib.Core.Bool.{Bool, true}
 use native.Mathlib.Omega.{arith}
-use borrow.Author.Rules.{rules}
 use borrow.Author.Tests.{not-true, not-false}
 use Rattle.refusals.specs.Refusals.{outcome, accepted}
 use Rattle.plan_file.specs.declared.Edition.TheVariants.{Second}
@@ -16,7 +15,7 @@ use Rattle.converter.proofs.Converting.{opened, forward_keeps, second_losses, ch
 use Rattle.converter.proofs.check_conversion.Goals as goal
 
 pub returns-in_default : goal.returns-in_default
-returns-in_default c =    let t = ap outcome c.in_default.is in t ∙ sym (check_own _ _ _ (sym c.check_file-checked.ensures.result_value ∙ t))
+returns-in_default c = let t = ap outcome c.in_default.is in t ∙ sym (check_own _ _ _ (sym c.check_file-checked.ensures.result_value ∙ t))
 
 pub opens-requires : goal.opens-requires
 opens-requires c =

@@ -1,5 +1,4 @@
 use mathlib.Core.Path.{◌≡◌, ◌∙◌, refl, sym, ap}
-use borrow.Author.Rules.{rules}
 use Rattle.refusals.specs.Refusals.{outcome, accepted}
 use Rattle.converter.specs.Conversion.{convert_check}
 use Rattle.converter.proofs.Converting.{convert_refused, convert_accepted}
@@ -8,12 +7,12 @@ use Rattle.converter.proofs.convert.Goals as goal
 
 pub returns-in-Refused : goal.returns-in-Refused
 returns-in-Refused c = record {
-      convert_call = record {
+  convert_call = record {
     answer = sym (convert_refused _ _ _ _ (sym c.check_conversion-checked.ensures ∙ ap outcome c.in-Refused.is));
     there = refl;
   };
-      converted_again = tt;
-    }
+  converted_again = tt;
+}
 
 pub write_converted-requires : goal.write_converted-requires
 write_converted-requires c =

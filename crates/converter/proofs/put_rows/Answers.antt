@@ -4,7 +4,6 @@ use mathlib.Core.List.{map}
 use native.Mathlib.Omega.{arith}
 use lib.ListN.{length, take}
 use lib.Seq.{take_at}
-use borrow.Author.Rules.{rules}
 use Rattle.byte_words.specs.Buffers.{over}
 use Rattle.byte_words.proofs.Buffers.{over_start}
 use Rattle.plan_file.specs.Plan.{row_word}

@@ -2,7 +2,6 @@ use Prim.Native.Nat.{ℕ, ◌+◌, ◌*◌, ◌≤◌}
 use mathlib.Core.Path.{◌≡◌, ◌∙◌, refl, sym, ap}
 use native.Mathlib.Omega.{arith}
 use lib.ListN.{length}
-use borrow.Author.Rules.{rules}
 use Rattle.plan_file.specs.declared.Edition.TheVariants.{Second}
 use Rattle.plan_file.specs.Plan.{entry_count}
 use Rattle.plan_file.specs.Encoding.{entry_length, bodies_start}
@@ -122,8 +121,7 @@ put_bodies-requires c =
     ) in
     let counted : c.entries_in-count.result ≡ entry_count (rows_in c.args.file.now) = entries_counted c.other_edition.result _ _ _ _ (ends) c.entries_in-count.ensures in
     let count : ℕ = c.entries_in-count.result in
-    let size : count * c.entry_bytes.result ≡ count * entry_length c.args.to = ap (λ s. count * s) c.entry_bytes.ensures in
-    (
+    let size : count * c.entry_bytes.result ≡ count * entry_length c.args.to = ap (λ s. count * s) c.entry_bytes.ensures in (
       omega (
         arith,
         ends,

@@ -1,14 +1,10 @@
 use Prim.Native.Nat.{◌≤◌, ◌-◌}
-use mathlib.Core.Path.{◌≡◌, ◌∙◌, refl, sym}
-use native.Mathlib.Omega.{arith}
+use mathlib.Core.Path.{◌≡◌}
 use lib.ListN.{length}
-use borrow.Author.Rules.{rules}
 use Rattle.byte_words.specs.Buffers.{over}
-use Rattle.byte_words.proofs.Buffers.{over_nothing}
 use Rattle.plan_file.specs.declared.Edition.TheVariants.{First, Second}
 use Rattle.plan_file.specs.Encoding.{bodies_bytes}
 use Rattle.plan_file.specs.Decoding.{entries_at}
-use Rattle.converter.proofs.Stored.{entry_stored, read_first}
 use Rattle.converter.proofs.entries.put_second.Given as goal
 
 abbrev pub invariant-loop-i : goal.invariant-loop-i

@@ -1,12 +1,7 @@
-use Prim.Native.Nat.{◌-◌, ◌≤◌}
-use mathlib.Core.Path.{◌≡◌, ◌∙◌, refl, sym}
+use mathlib.Core.Path.{◌∙◌, refl, sym}
 use native.Mathlib.Omega.{arith}
-use lib.ListN.{drop}
-use borrow.Author.Rules.{rules}
-use Rattle.task_model.specs.Checks.{entries_by}
 use Rattle.byte_words.proofs.Runs.{run_none}
 use Rattle.plan_file.specs.declared.Edition.TheVariants.{First, Second}
-use Rattle.plan_file.specs.Decoding.{entries_at}
 use Rattle.plan_file.proofs.Contents.{entries_run}
 use Rattle.plan_file.proofs.Bodies.{body_end}
 use Rattle.converter.specs.Conversion.{loss_check}
@@ -17,13 +12,13 @@ pub loop-position-init : goal.loop-position-init
 loop-position-init c = (omega arith, refl)
 
 pub returns-then-jitter-gt0 : goal.returns-then-jitter-gt0
-returns-then-jitter-gt0 c =    sym (lost_here _ _ _ _ _ _ c.loop-position-test.true c.word_at-jitter.ensures (omega arith)) ∙ c.loop-position.invariant.1
+returns-then-jitter-gt0 c = sym (lost_here _ _ _ _ _ _ c.loop-position-test.true c.word_at-jitter.ensures (omega arith)) ∙ c.loop-position.invariant.1
 
 pub loop-position-preserved : goal.loop-position-preserved
-loop-position-preserved c =    (
-      omega arith,
-      sym (kept_here _ _ _ _ _ _ c.loop-position-test.true c.word_at-jitter.ensures (omega arith)) ∙ c.loop-position.invariant.1,
-    )
+loop-position-preserved c = (
+  omega arith,
+  sym (kept_here _ _ _ _ _ _ c.loop-position-test.true c.word_at-jitter.ensures (omega arith)) ∙ c.loop-position.invariant.1,
+)
 
 pub returns : goal.returns
-returns c =    sym (body_end (loss_check First _) _ _ (run_none (entries_run Second _) _ _ _ c.loop-position-test.false)) ∙ c.loop-position.invariant.1
+returns c = sym (body_end (loss_check First _) _ _ (run_none (entries_run Second _) _ _ _ c.loop-position-test.false)) ∙ c.loop-position.invariant.1

@@ -1,20 +1,14 @@
 use Prim.Native.Nat.{◌-◌, ◌≤◌}
-use mathlib.Core.Path.{◌≡◌, ◌∙◌, refl, sym}
-use native.Mathlib.Omega.{arith}
+use mathlib.Core.Path.{◌≡◌}
 use lib.ListN.{drop}
-use borrow.Author.Rules.{rules}
 use Rattle.task_model.specs.Checks.{entries_by}
-use Rattle.byte_words.proofs.Runs.{run_none}
 use Rattle.plan_file.specs.declared.Edition.TheVariants.{First, Second}
 use Rattle.plan_file.specs.Decoding.{entries_at}
-use Rattle.plan_file.proofs.Contents.{entries_run}
-use Rattle.plan_file.proofs.Bodies.{body_end}
 use Rattle.converter.specs.Conversion.{loss_check}
-use Rattle.converter.proofs.Lost.{lost_here, kept_here}
 use Rattle.converter.proofs.losses.check_body.Given as goal
 
 abbrev pub invariant-loop-position : goal.invariant-loop-position
-invariant-loop-position l =    (l.position ≤ l.count)
+invariant-loop-position l = (l.position ≤ l.count)
     × (entries_by (loss_check First l.row) l.position (drop l.position (entries_at Second l.file l.start l.count))
     ≡ entries_by (loss_check First l.row) 0 (entries_at Second l.file l.start l.count))
 

@@ -1,17 +1,12 @@
-use Prim.Native.Nat.{◌+◌, ◌*◌, ◌≤◌, ◌-◌}
-use mathlib.Core.Path.{◌≡◌, ◌∙◌, refl, sym, ap}
+use mathlib.Core.Path.{◌∙◌, refl, sym, ap}
 use native.Mathlib.Omega.{arith}
-use lib.ListN.{length, drop}
-use borrow.Author.Rules.{rules}
 use Rattle.refusals.specs.Refusals.{outcome}
 use Rattle.task_model.specs.Checks.{each_by}
 use Rattle.byte_words.proofs.Runs.{AtHand, run_none}
 use Rattle.plan_file.specs.declared.Edition.TheVariants.{First, Second}
-use Rattle.plan_file.specs.Plan.{entry_count}
-use Rattle.plan_file.specs.Encoding.{entry_length, bodies_start}
-use Rattle.plan_file.specs.Decoding.{rows_from, entries_at}
+use Rattle.plan_file.specs.Decoding.{rows_from}
 use Rattle.plan_file.proofs.Contents.{rows_run, entries_run, file_row}
-use Rattle.plan_file.proofs.Rows.{bodies, count_here, bodies_here, bodies_end}
+use Rattle.plan_file.proofs.Rows.{count_here, bodies_here, bodies_end}
 use Rattle.converter.specs.Conversion.{loss_check}
 use Rattle.converter.proofs.losses.check_losses.Goals as goal
 
@@ -43,8 +38,7 @@ overflow_add-start-in-loop-row c =
 
 pub loop-row-preserved : goal.loop-row-preserved
 loop-row-preserved c =
-    let at_row : AtHand (rows_from c.args.file.now 0 c.args.nodes) c.loop-row.row c.row_at-r.result = file_row _ _ _ _ c.loop-row-test.true c.row_at-r.ensures in
-    (
+    let at_row : AtHand (rows_from c.args.file.now 0 c.args.nodes) c.loop-row.row c.row_at-r.result = file_row _ _ _ _ c.loop-row-test.true c.row_at-r.ensures in (
       omega arith,
       omega (arith, count_here (at_row)),
       sym
@@ -54,4 +48,4 @@ loop-row-preserved c =
     )
 
 pub returns : goal.returns
-returns c =    sym (bodies_end (each_by (loss_check First)) (entries_run Second _) _ _ _ (run_none (rows_run _) _ _ _ c.loop-row-test.false)) ∙ c.loop-row.invariant.2
+returns c = sym (bodies_end (each_by (loss_check First)) (entries_run Second _) _ _ _ (run_none (rows_run _) _ _ _ c.loop-row-test.false)) ∙ c.loop-row.invariant.2
