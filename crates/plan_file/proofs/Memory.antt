@@ -52,7 +52,7 @@ words_fit Second f b k = words_below f b k entry_size
 pub entries_at_fit : (ed : Edition) (f : List ℕ) → Bytes f → (k n : ℕ) → EntriesFit (entries_at ed f k n)
 unfolding entries_at entries_from
 entries_at_fit ed f b k zero = tt
-entries_at_fit ed f b k (suc n) = ((entries_fit (entry_words_at ed f k) (words_fit ed f b k) 0 1).0, entries_at_fit ed f b _ n)
+entries_at_fit ed f b k (suc n) = ((entries_fit (entry_words_at ed f k) (words_fit ed f b k) 0 1).0, entries_at_fit ed f b (k + entry_length ed) n)
 
 -- and the edition has a place for them: J is 0 in the first
 edition_fits : (ed : Edition) (f : List ℕ) (k : ℕ) → EditionFits ed (entry_in ed f k)

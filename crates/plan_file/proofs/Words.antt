@@ -1,6 +1,6 @@
 -- Laws of words and the fields that they hold.
 use Prim.Native.Nat.{ℕ, zero, suc, ◌+◌, ◌*◌, ◌/◌, ◌%◌, ◌≤◌, ◌<◌}
-use mathlib.Core.Path.{◌≡◌, ◌∙◌, refl, sym}
+use mathlib.Core.Path.{◌≡◌, ◌∙◌, refl, sym, ap}
 use mathlib.Core.List.{List, [], ◌∷◌, ◌++◌, append_assoc, append-nil}
 use native.Mathlib.Omega.{arith}
 use lib.ListN.{length, get_or, take, drop, length-drop}
@@ -119,6 +119,8 @@ entries_in_words f k (suc n) =
     let ws = words_from f k entry_size in
     let rest = words_from f (k + entry_length Second) (n * entry_size) in
     let l = length-words f k entry_size in
+    let parts : words_from f k (suc n * entry_size) ≡ ws ++ rest = ap (words_from f k) e ∙ run_split (words_run f) k entry_size (n * entry_size) in
     sym
-    (rw (e, run_split (words_run f) k entry_size (n * entry_size)) (entries_cons (ws ++ rest) n
+    (ap (λ (w : List ℕ). entries_of w (suc n)) parts
+    ∙ (entries_cons (ws ++ rest) n
     ∙ rw (entry_front ws rest (omega (arith, l)), drop_at ws rest entry_size l, entries_in_words f (k + entry_length Second) n)))

@@ -1,5 +1,5 @@
 -- What the reader (`read_plan`), the writer (`write_plan`) and the finder (`find_node`) answer.
-use Rattle.std.specs.Prelude.{ℕ, ◌+◌, ◌*◌, Bool, ◌&&◌, ◌≡◌, List, ◌++◌, map, length, drop, leb}
+use Rattle.std.specs.Prelude.{ℕ, ◌*◌, Bool, ◌&&◌, ◌≡◌, List, ◌++◌, map, length, drop, leb}
 use Rattle.refusals.specs.Refusals.{at, numbered, ◌and_then◌, must_hold}
 use Rattle.refusals.specs.Answers.{Answer, gives, refuses, giving, left}
 use Rattle.task_model.specs.Limits.{Node}
