@@ -10,8 +10,8 @@ use lib.Dec.{leb, eqb}
 use Rattle.task_model.specs.declared.Entry.{Entry}
 use Rattle.task_model.specs.Limits.{entry_at}
 use Rattle.task_model.specs.WithoutJitter.{Punctual}
-use Rattle.completion.specs.Demand.{ceil_div, releases, sum_to, only, more_urgent, shares_level, higher_level_interference, same_level_interference, demand_with, demand, initial_time_with, initial_time}
-use Rattle.completion.specs.Test.{limit, test_from, test_with, completion_test, rounds_bound}
+use Rattle.completion.specs.Demand.{releases, only, more_urgent, shares_level, higher_level_interference, same_level_interference, demand_with, demand, initial_time_with, initial_time}
+use Rattle.completion.specs.Test.{limit, test_with, completion_test, rounds_bound}
 use Rattle.completion.specs.WithoutJitter.{punctual_releases, punctual_demand, punctual_initial_time, punctual_test, punctual_bound}
 use Rattle.completion.proofs.Sums.{sum_to-eq}
 use Rattle.completion.proofs.Iteration.{test_same}

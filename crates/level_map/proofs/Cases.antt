@@ -5,7 +5,7 @@ use Rattle.task_model.specs.Checks.{kind_test, times_test, jitter_test, entry_ch
 use Rattle.task_model.proofs.Theorems.{node_accepted}
 use Rattle.completion.specs.Demand.{ceil_div, releases, sum_to, higher_level_interference, same_level_interference, demand_with, initial_time_with}
 use Rattle.completion.specs.Test.{limit, iterate, test_from, test_with}
-use Rattle.level_map.specs.Map.{from_longest, maps_with, maps, first_of, none_late_to, pass_test, map_under, the_map}
+use Rattle.level_map.specs.Map.{from_longest, maps_with, maps, first_of, none_late_to, pass_test, map_under}
 use Rattle.level_map.specs.Cases.{All, cases, count_to, answers_to, floor_demand, one_run_demand, least_from}
 
 -- two parts of a table
