@@ -15,6 +15,8 @@ ghost use Rattle.carry_plan.specs.Direction.{Asks};
 ghost use Rattle.carry_plan.specs.Output.{converted_file, refusal_line, standard_output, standard_error};
 
 use plan_file::{Edition, MOST_SECOND, Written};
+use std::env::FillError;
+use std::rt::Env;
 use words::same_bytes;
 
 // One byte more than an input may have. An input of this length is refused, so the rest of it need not be read.
@@ -140,11 +142,30 @@ fn read_for(count: usize, word: &[u8], file: &mut [u8]) -> usize
     io::read_full(0, file)
 }
 
-fn main() {
-    let count = os::arg_count();
+// How many words the program is called with, its own name among them.
+fn word_count(rt: &impl Env) -> usize {
+    let mut letter = [0u8; 1];
+    for i in 0..usize::MAX {
+        if let Err(FillError::NotPresent) = rt.arg(i, &mut letter) {
+            return i;
+        }
+    }
+    usize::MAX
+}
+
+// Puts the word after the program's name at the start of `word`, and returns its length. A word that is missing, or longer than
+// `word`, is taken as an empty one.
+fn first_word(rt: &impl Env, word: &mut [u8]) -> usize
+    ensures { IsPrefixLen result word.new }
+{
+    rt.arg(1, word).unwrap_or(0)
+}
+
+fn main(rt: HostRuntime) {
+    let count = word_count(&rt);
     // A word that is longer than this is taken as an empty one, which asks for nothing either.
     let mut word = [0u8; 8];
-    let k = os::arg(1, &mut word);
+    let k = first_word(&rt, &mut word);
     let mut file = [0u8; READ_MOST];
     let n = read_for(count, &word[..k], &mut file);
     let mut out = [0u8; MOST_SECOND];

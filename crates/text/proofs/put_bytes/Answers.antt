@@ -1,11 +1,8 @@
-use Prim.Native.Nat.{◌-◌, ◌≤◌}
 use mathlib.Core.Path.{◌≡◌, ◌∙◌, refl, ap}
 use native.Mathlib.Numerals.{add-one}
 use native.Mathlib.Omega.{arith}
 use lib.ListN.{length}
-use lib.Seq.{paste, paste-zero, paste-suc, length-paste, take-length}
-use Rattle.text.proofs.put_bytes.Reads as reads
-use Rattle.text.proofs.put_bytes.Lts as lts
+use lib.Seq.{paste-zero, paste-suc, length-paste, take-length}
 use Rattle.text.proofs.put_bytes.Goals as goal
 
 pub loop-k-init : goal.loop-k-init
@@ -18,7 +15,7 @@ bounds-out-at c =
     omega (arith, kept)
 
 pub loop-k-preserved : goal.loop-k-preserved
-loop-k-preserved c =    let a = c.args in
+loop-k-preserved c = let a = c.args in
     let k = c.loop-k.k in (
       refl,
       omega arith,
@@ -33,6 +30,6 @@ shape_of-out c =
     kept
 
 pub returns : goal.returns
-returns c =    let a = c.args in
+returns c = let a = c.args in
     let e : c.loop-k.k ≡ length a.bytes.now = omega arith in
     record { buffer = c.loop-k.invariant.2 ∙ rw (e, take-length a.bytes.now); after = refl }
