@@ -14,7 +14,7 @@ use Rattle.plan_file.proofs.Examples.{case_p}
 use Rattle.plan_file.specs.Find.{node_of_row}
 use Rattle.level_map.specs.Map.{from_longest, maps_with, maps, first_of, none_late_to, pass_test, map_under}
 use Rattle.listing.specs.Lines.{plan_line, node_line, no_map_line, entry_line, refused_line}
-use Rattle.listing.specs.Listing.{entry_text, entry_text_under, entries_text, entries_text_under, node_text, node_text_under, nodes_text, nodes_text_under, plan_text, plan_text_under, listing, listing_under}
+use Rattle.listing.specs.Listing.{entry_text_under, entries_text_under, node_text_under, nodes_text_under, plan_text_under, listing, listing_under}
 
 pub listing-P : listing case_p
     ≡ text "plan 1\nnode 7 levels 2 of 2\nentry 1 level 1 time 20 rounds 1\nentry 2 level 2 time 138 rounds 2\nentry 3 level 2 time 138 rounds 2\n"

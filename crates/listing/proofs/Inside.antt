@@ -17,7 +17,7 @@ use Rattle.plan_file.specs.Find.{row_in, node_of_row}
 use Rattle.level_map.specs.Assignments.{levels_used}
 use Rattle.level_map.specs.Map.{the_map}
 use Rattle.listing.specs.Lines.{plan_line, node_line}
-use Rattle.listing.specs.Listing.{entry_text, entries_text, entries_text_under, node_text, nodes_text, nodes_text_under, plan_text, plan_text_under, listing}
+use Rattle.listing.specs.Listing.{entry_text, entries_text, entries_text_under, node_text, nodes_text, nodes_text_under, plan_text_under, listing}
 use Rattle.listing.specs.Timed.{StandsIn}
 use Rattle.listing.proofs.Texts.{node_mapped, listing_accepted}
 
