@@ -16,25 +16,7 @@ use Rattle.plan_file.specs.Decoding.{opening_test, edition_of, rows_from, entrie
 use Rattle.plan_file.specs.Check.{count_test, zeros_test, row_test, rows_check, contents_check, bodies_by, header_by, layout_check, file_check, written_check, writer_check, plan_check}
 use Rattle.plan_file.proofs.Examples.{case_p}
 use Rattle.converter.specs.Conversion.{convert_check, convert_answer}
-use Rattle.session.specs.Operations.{
-  Operation,
-  changing,
-  asking,
-  inserting,
-  removing,
-  replacing,
-  timing,
-  others_check,
-  change_check_by,
-  query_check_by,
-  operation_check_by,
-  lent_check_by,
-  step_check,
-  step_check_by,
-  node_after,
-  node_after_by,
-  changed,
-}
+use Rattle.session.specs.Operations.{changing, asking, inserting, removing, replacing, timing, others_check, change_check_by, query_check_by, operation_check_by, lent_check_by, step_check, step_check_by, node_after, node_after_by, changed}
 use Rattle.listing.specs.Lines.{refused_line}
 use Rattle.listing.specs.Listing.{listing, listing_under}
 

@@ -1,0 +1,8 @@
+use Rattle.session.specs.Operations.{opening}
+use Rattle.planner_c.proofs.Changing.{changes}
+use Rattle.planner_c.proofs.sessions.maiplur_session_open.Goals as goal
+
+pub returns : goal.returns
+returns c =
+    let a = c.args in
+    changes (opening a.levels) a.words.now c.open-answer.ensures c.give_checked.ensures
