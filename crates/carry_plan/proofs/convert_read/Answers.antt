@@ -5,14 +5,12 @@ use native.Mathlib.Omega.{arith}
 use lib.ListN.{take}
 use Rattle.io.proofs.Counting.{prefix_len_of_le}
 use Rattle.refusals.specs.Refusals.{numbered}
-use Rattle.refusals.specs.Answers.{Answer, gives, refuses}
 use Rattle.text.proofs.Writing.{front_text}
 use Rattle.plan_file.specs.Answers.{write_gives}
 use Rattle.plan_file.specs.Input.{ReadOf}
 use Rattle.listing.specs.Lines.{refused_line}
 use Rattle.listing.proofs.Lines.{upto_end}
-use Rattle.converter.specs.Conversion.{ConvertCall}
-use Rattle.carry_plan.proofs.Writes.{Alike, read_alike, converted_writes, nothing_writes}
+use Rattle.carry_plan.proofs.Writes.{read_alike, converted_writes, nothing_writes}
 use Rattle.carry_plan.proofs.convert_read.Goals as goal
 
 pub returns-in-Length : goal.returns-in-Length
