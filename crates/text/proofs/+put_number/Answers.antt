@@ -23,7 +23,7 @@ pub put_number-end-requires : goal.put_number-end-requires
 put_number-end-requires t c =
     let a = c.args in (
       omega arith,
-      omega (arith, ap length (decimal_more a.n c.if-n-lt10.false), length-append (decimal (a.n / 10)) ((48 + a.n % 10) ∷ [])),
+      omega (arith, ap length (decimal_more a.n (omega arith)), length-append (decimal (a.n / 10)) ((48 + a.n % 10) ∷ [])),
     )
 
 -- what the first digits leave: one more is to come, right after them
@@ -49,7 +49,7 @@ module _ (out last : List ℕ) (at n end : ℕ) (room : at + length (decimal n) 
       }
 
 pub bounds-out-end : goal.bounds-out-end
-bounds-out-end t c = inside _ _ _ _ _ c.requires c.if-n-lt10.false c.put_number-end.ensures
+bounds-out-end t c = inside _ _ _ _ _ c.requires (omega arith) c.put_number-end.ensures
 
 pub returns : goal.returns
-returns t c = whole _ _ _ _ _ c.requires c.if-n-lt10.false c.put_number-end.ensures
+returns t c = whole _ _ _ _ _ c.requires (omega arith) c.put_number-end.ensures
