@@ -14,7 +14,7 @@ list:
 	fi; \
 	if test -n "$$problem"; then printf 'make list: %s\n' "$$problem" >&2; exit 1; fi
 	@mkdir -p target
-	@rt check list_plan >target/list.log 2>&1 || { tail -n 20 target/list.log >&2; exit 1; }
+	@tools/build list_plan >target/list.log 2>&1 || { tail -n 20 target/list.log >&2; exit 1; }
 	@target/bin/list_plan <"$$PLAN"
 
 # Converts the plan file FROM to the other edition, as the file TO: WAY=forward to the second, WAY=back to the first. The new
@@ -31,7 +31,7 @@ carry:
 	fi; \
 	if test -n "$$problem"; then printf 'make carry: %s\n' "$$problem" >&2; exit 1; fi
 	@mkdir -p target
-	@rt check carry_plan >target/carry.log 2>&1 || { tail -n 20 target/carry.log >&2; exit 1; }
+	@tools/build carry_plan >target/carry.log 2>&1 || { tail -n 20 target/carry.log >&2; exit 1; }
 	@tools/carry "$$WAY" "$$FROM" "$$TO"
 
 # Everything that is proved and tested.
@@ -63,4 +63,4 @@ samples:
 	cargo run --release --quiet --manifest-path tests/Cargo.toml --bin samples samples
 
 fmt:
-	rt fmt
+	@for crate in crates/*; do (cd $$crate && rt fmt) || exit 1; done

@@ -15,9 +15,9 @@ pub data StoreClaim : Type 0 where
   -- whether it has a map on so many levels
   has : List Entry → (levels : ℕ) → Bool → StoreClaim
   -- what asking it for the map on so many levels answers, into a buffer of so many bytes
-  map_asked_lem : List Entry → (levels room : ℕ) → Answer ℕ → StoreClaim
+  asks_for_map : List Entry → (levels room : ℕ) → Answer ℕ → StoreClaim
   -- what asking it for the time of the entry at i answers
-  time_asked_lem : List Entry → (levels i : ℕ) → Answer ℕ → StoreClaim
+  asks_for_time : List Entry → (levels i : ℕ) → Answer ℕ → StoreClaim
   -- what asking a store of zeros answers for a node without entries
   blank_asked : (levels : ℕ) → Answer ℕ → StoreClaim
 
@@ -28,8 +28,8 @@ StoreHolds (stores es used levels times) =
     × (take (length es) (drop levels_at (store_of es)) ≡ levels)
     × (take (length es) (drop times_at (store_of es)) ≡ times)
 StoreHolds (has es levels b) = has_map (store_of es) levels ≡ b
-StoreHolds (map_asked_lem es levels room a) = map_asked (store_of es) levels (length es) room ≡ a
-StoreHolds (time_asked_lem es levels i a) = time_asked (store_of es) levels (length es) i ≡ a
+StoreHolds (asks_for_map es levels room a) = map_asked (store_of es) levels (length es) room ≡ a
+StoreHolds (asks_for_time es levels i a) = time_asked (store_of es) levels (length es) i ≡ a
 StoreHolds (blank_asked levels a) = map_asked (zeros store_size) levels 0 0 ≡ a
 
 -- What all lines say.
@@ -53,13 +53,13 @@ store_cases =
     ∷ stores case_v 1 (1 ∷ 1 ∷ []) (5 ∷ 16 ∷ [])
     ∷ stores case_e 0 [] []
     ∷ has case_e 1 true
-    ∷ map_asked_lem case_p 2 3 (gives 2)
-    ∷ map_asked_lem case_p 1 2 (refuses (at 10 0 0))
-    ∷ map_asked_lem case_p 1 3 (refuses (at 11 0 0))
-    ∷ map_asked_lem case_e 1 0 (gives 0)
+    ∷ asks_for_map case_p 2 3 (gives 2)
+    ∷ asks_for_map case_p 1 2 (refuses (at 10 0 0))
+    ∷ asks_for_map case_p 1 3 (refuses (at 11 0 0))
+    ∷ asks_for_map case_e 1 0 (gives 0)
     ∷ blank_asked 1 (refuses (at 11 0 0))
-    ∷ time_asked_lem case_p 2 2 (gives 138)
-    ∷ time_asked_lem case_p 1 3 (refuses (at 12 0 0))
-    ∷ time_asked_lem case_p 1 0 (refuses (at 11 0 0))
-    ∷ time_asked_lem case_e 1 0 (refuses (at 12 0 0))
+    ∷ asks_for_time case_p 2 2 (gives 138)
+    ∷ asks_for_time case_p 1 3 (refuses (at 12 0 0))
+    ∷ asks_for_time case_p 1 0 (refuses (at 11 0 0))
+    ∷ asks_for_time case_e 1 0 (refuses (at 12 0 0))
     ∷ []

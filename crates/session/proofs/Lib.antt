@@ -5,6 +5,7 @@ pub mod Checking
 pub mod Reading
 pub mod Sequences
 pub mod InWords
+pub mod Held
 pub mod Theorems
 pub mod Repeats
 pub mod Mapping

@@ -16,14 +16,14 @@ pub returns-then-n-lt10 : goal.returns-then-n-lt10
 returns-then-n-lt10 t c =
     let a = c.args in
     let room = decimal_some a.n in
-    let d : decimal a.n ≡ (48 + a.n % 10) ∷ [] = decimal_one a.n c.if-n-lt10.true ∙ ap (λ m. (48 + m) ∷ []) (omega arith) in
+    let d : decimal a.n ≡ (48 + a.n % 10) ∷ [] = decimal_one a.n (omega arith) ∙ ap (λ m. (48 + m) ∷ []) (omega arith) in
     record { buffer = rw d (written_one a.out.now a.at (48 + a.n % 10) (omega arith)); after = rw d }
 
 pub put_number-end-requires : goal.put_number-end-requires
 put_number-end-requires t c =
     let a = c.args in (
       omega arith,
-      omega (arith, ap length (decimal_more a.n c.if-n-lt10.false), length-append (decimal (a.n / 10)) ((48 + a.n % 10) ∷ [])),
+      omega (arith, ap length (decimal_more a.n (omega arith)), length-append (decimal (a.n / 10)) ((48 + a.n % 10) ∷ [])),
     )
 
 -- what the first digits leave: one more is to come, right after them
@@ -49,7 +49,7 @@ module _ (out last : List ℕ) (at n end : ℕ) (room : at + length (decimal n) 
       }
 
 pub bounds-out-end : goal.bounds-out-end
-bounds-out-end t c = inside _ _ _ _ _ c.requires c.if-n-lt10.false c.put_number-end.ensures
+bounds-out-end t c = inside _ _ _ c.args.n _ c.requires (omega arith) c.put_number-end.ensures
 
 pub returns : goal.returns
-returns t c = whole _ _ _ _ _ c.requires c.if-n-lt10.false c.put_number-end.ensures
+returns t c = whole _ _ _ c.args.n _ c.requires (omega arith) c.put_number-end.ensures

@@ -1,6 +1,7 @@
 //! The copy of the tests in which the faults are made.
 
 use oracle::programs::root;
+use std::env::temp_dir;
 use std::fs;
 use std::path::{Path, PathBuf};
 
@@ -38,9 +39,10 @@ pub struct Copy {
 }
 
 impl Copy {
-    /// A fresh copy under tests/target; only earlier build results are kept.
+    /// A fresh copy, apart from the repository: there `rt ci` refuses a second
+    /// `crates.txt`. Only earlier build results are kept.
     pub fn new() -> Copy {
-        let (from, to) = (root(), root().join("tests/target/mutants"));
+        let (from, to) = (root(), temp_dir().join("maiplur-mutants"));
         if to.exists() {
             let old = items(&to)
                 .into_iter()

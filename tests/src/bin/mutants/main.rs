@@ -3,8 +3,8 @@
 //!
 //! A fault that no test notices shows a gap in the tests. The faults are kept
 //! in tests/mutants. Arguments are parts of names: only faults with one of them
-//! are tried. Each fault is made in a copy under tests/target, which uses the
-//! library and the program as already proved. The exit status is 0 exactly if
+//! are tried. Each fault is made in a copy among the temporary files, which uses
+//! the library and the program as already proved. The exit status is 0 exactly if
 //! every fault is noticed, except those marked as changing nothing, which must
 //! not be noticed.
 
