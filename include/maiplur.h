@@ -1,6 +1,6 @@
 /* Maiplur for C: plan files, level maps, listings and sessions.
  *
- * Link with target/staticlib/libplanner_c.a, which `rt staticlib planner_c` makes (x86-64 Linux).
+ * Link with target/staticlib/libplanner_c.a, which `tools/build planner_c` makes (x86-64 Linux).
  *
  * Every function returns 0, or the number of a refusal (MAIPLUR_SHORT_FILE and so on), and leaves three values in `values`. If
  * it refuses, they are the row and the entry position, both from 0, and 0, and every other lent buffer is untouched.

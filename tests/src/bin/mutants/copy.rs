@@ -3,6 +3,7 @@
 use oracle::programs::root;
 use std::env::temp_dir;
 use std::fs;
+use std::hash::{DefaultHasher, Hash, Hasher};
 use std::path::{Path, PathBuf};
 
 /// A test file that contains one of these compares the second implementation
@@ -42,7 +43,8 @@ impl Copy {
     /// A fresh copy, apart from the repository: there `rt ci` refuses a second
     /// `crates.txt`. Only earlier build results are kept.
     pub fn new() -> Copy {
-        let (from, to) = (root(), temp_dir().join("maiplur-mutants"));
+        let from = root();
+        let to = temp_dir().join(format!("maiplur-mutants-{:x}", hash(&from)));
         if to.exists() {
             let old = items(&to)
                 .into_iter()
@@ -98,9 +100,15 @@ fn copy_tests(from: &Path, to: &Path) -> Vec<String> {
     comparing
 }
 
-/// The crates' directories of wrong programs, which a test reads. Nothing else
-/// of the crates is copied: rt would report it as files that belong to no
-/// crate.
+/// A number for a checkout, so that two of them have copies of their own.
+fn hash(root: &Path) -> u64 {
+    let mut hasher = DefaultHasher::new();
+    root.hash(&mut hasher);
+    hasher.finish()
+}
+
+/// The crates' directories of wrong programs, which a test reads. No test
+/// reads anything else of the crates.
 fn edit_folders(root: &Path) -> Vec<PathBuf> {
     let both = |item: &PathBuf| ["must-fail", "wrong"].map(|name| item.join(name));
     let all = items(&root.join("crates"));
