@@ -54,7 +54,7 @@ mutants:
 	@cargo run --release --offline --quiet --manifest-path tests/Cargo.toml --bin mutants -- $(ONLY)
 
 # Tries all wrong programs, in a copy: the prover must refuse each (docs/WRONG_PROGRAMS.md). `make test` tries only some of
-# them. All of them take long; `make wrong ONLY='plan_file text'` tries those of some crates.
+# them. All of them take a while; `make wrong ONLY='plan_file text'` tries those of some crates.
 wrong:
 	@tools/wrong $(ONLY)
 
