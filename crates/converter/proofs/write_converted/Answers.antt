@@ -1,11 +1,16 @@
-use Prim.Native.Nat.{ℕ, ◌+◌, ◌*◌, ◌≤◌}
+use Prim.Native.Nat.{ℕ, ◌+◌, ◌-◌, ◌*◌, ◌/◌, ◌≤◌}
+use mathlib.Core.Bool.{true}
+use mathlib.Core.List.{List}
 use mathlib.Core.Path.{◌≡◌, ◌∙◌, refl, sym, ap}
 use native.Mathlib.Omega.{arith}
 use lib.ListN.{length}
+use Rattle.refusals.specs.Refusals.{accepted}
+use Rattle.plan_file.specs.declared.Edition.{Edition}
 use Rattle.plan_file.specs.declared.Edition.TheVariants.{Second}
+use Rattle.plan_file.specs.Check.{file_check}
 use Rattle.plan_file.specs.Plan.{entry_count}
 use Rattle.plan_file.specs.Encoding.{entry_length, bodies_start}
-use Rattle.plan_file.specs.Decoding.{edition_of, node_count, rows_in}
+use Rattle.plan_file.specs.Decoding.{opening_test, edition_of, node_count, rows_in}
 use Rattle.plan_file.proofs.File.{FileHolds, file_holds}
 use Rattle.plan_file.specs.Limits.{longest}
 use Rattle.plan_file.proofs.Encoding.{size_short, entry_long, entries_counted}
@@ -14,94 +19,73 @@ use Rattle.converter.specs.Conversion.{other}
 use Rattle.converter.proofs.Converting.{opened, room_short, room_fits, converted}
 use Rattle.converter.proofs.write_converted.Goals as goal
 
+-- what is known of a file that is converted, by what the calls answer
+module _ (to : Edition) (f : List ℕ) (a : file_check f ≡ accepted) (q : opening_test (other to) f ≡ true) where
+  held : FileHolds f
+  held = file_holds f a
+
+  of_other : edition_of f ≡ other to
+  of_other = opened (other to) f q
+
+  -- its edition, and its count of nodes
+  module _ (from : Edition) (t : from ≡ other to) (nodes : ℕ) (n : nodes ≡ node_count f) where
+    ends : length f ≡ 8 + nodes * 8 + entry_count (rows_in f) * entry_length from
+    ends = omega (arith, held.ends, n, ap (λ ed. entry_count (rows_in f) * entry_length ed) (of_other ∙ sym t))
+
+    -- its count of entries, and how many bytes each of them will have
+    module _ (count : ℕ) (e : count ≡ (length f - (8 + nodes * 8)) / entry_length from) (size : ℕ) (l : size ≡ entry_length to) where
+      counted : count ≡ entry_count (rows_in f)
+      counted = entries_counted from _ _ _ _ ends e
+
+      few : count * size ≤ longest Second * 2
+      few =
+          omega (
+            arith,
+            size_short to _ l count,
+            counted,
+            file_most f a,
+            held.ends,
+            entry_long (edition_of f) (entry_count (rows_in f)),
+          )
+
+      total : 8 + nodes * 8 + count * size ≡ bodies_start (node_count f) + entry_count (rows_in f) * entry_length to
+      total = omega (arith, ap (λ s. count * s) l, n, ap (λ m. m * entry_length to) counted)
+
 pub node_count-nodes-requires : goal.node_count-nodes-requires
-node_count-nodes-requires c =
-    let held : FileHolds c.args.file.now = file_holds _ c.requires.0 in
-    (held).header.long
+node_count-nodes-requires c = (held c.args.to _ c.requires.0 c.requires.1).header.long
 
 pub overflow_sub-file : goal.overflow_sub-file
-overflow_sub-file c =
-    let held : FileHolds c.args.file.now = file_holds _ c.requires.0 in
-    omega (arith, c.node_count-nodes.ensures.0, (held).header.contents)
+overflow_sub-file c = omega (arith, c.node_count-nodes.ensures.0, (held c.args.to _ c.requires.0 c.requires.1).header.contents)
 
 pub overflow_mul-length : goal.overflow_mul-length
 overflow_mul-length c =
-    let held : FileHolds c.args.file.now = file_holds _ c.requires.0 in
-    let of_other : edition_of c.args.file.now ≡ other c.args.to = opened _ _ c.requires.1 in
-    let ends : let f = c.args.file.now in length f ≡ 8 + c.node_count-nodes.result * 8 + entry_count (rows_in f) * entry_length c.other_edition.result = let f = c.args.file.now in
     omega (
       arith,
-      (held).ends,
-      c.node_count-nodes.ensures.0,
-      ap (λ ed. entry_count (rows_in f) * entry_length ed) (of_other ∙ sym c.other_edition.ensures),
-    ) in
-    let counted : c.entries_in-count.result ≡ entry_count (rows_in c.args.file.now) = entries_counted c.other_edition.result _ _ _ _ (ends) c.entries_in-count.ensures in
-    let count : ℕ = c.entries_in-count.result in
-    let few : count * c.entry_bytes.result ≤ longest Second * 2 = let f = c.args.file.now in
-    omega (
-      arith,
-      size_short c.args.to _ c.entry_bytes.ensures count,
-      counted,
-      file_most f c.requires.0,
-      (held).ends,
-      entry_long (edition_of f) (entry_count (rows_in f)),
-    ) in
-    omega (arith, few)
+      few c.args.to _ c.requires.0 c.requires.1 _ c.other_edition.ensures _ c.node_count-nodes.ensures.0 _ c.entries_in-count.ensures _
+          c.entry_bytes.ensures,
+    )
 
 pub overflow_add-length : goal.overflow_add-length
 overflow_add-length c =
-    let held : FileHolds c.args.file.now = file_holds _ c.requires.0 in
-    let of_other : edition_of c.args.file.now ≡ other c.args.to = opened _ _ c.requires.1 in
-    let ends : let f = c.args.file.now in length f ≡ 8 + c.node_count-nodes.result * 8 + entry_count (rows_in f) * entry_length c.other_edition.result = let f = c.args.file.now in
     omega (
       arith,
-      (held).ends,
-      c.node_count-nodes.ensures.0,
-      ap (λ ed. entry_count (rows_in f) * entry_length ed) (of_other ∙ sym c.other_edition.ensures),
-    ) in
-    let counted : c.entries_in-count.result ≡ entry_count (rows_in c.args.file.now) = entries_counted c.other_edition.result _ _ _ _ (ends) c.entries_in-count.ensures in
-    let count : ℕ = c.entries_in-count.result in
-    let few : count * c.entry_bytes.result ≤ longest Second * 2 = let f = c.args.file.now in
-    omega (
-      arith,
-      size_short c.args.to _ c.entry_bytes.ensures count,
-      counted,
-      file_most f c.requires.0,
-      (held).ends,
-      entry_long (edition_of f) (entry_count (rows_in f)),
-    ) in
-    omega (arith, few)
+      few c.args.to _ c.requires.0 c.requires.1 _ c.other_edition.ensures _ c.node_count-nodes.ensures.0 _ c.entries_in-count.ensures _
+          c.entry_bytes.ensures,
+    )
 
 pub returns-then-out-length : goal.returns-then-out-length
 returns-then-out-length c =
-    let held : FileHolds c.args.file.now = file_holds _ c.requires.0 in
-    let of_other : edition_of c.args.file.now ≡ other c.args.to = opened _ _ c.requires.1 in
-    let ends : let f = c.args.file.now in length f ≡ 8 + c.node_count-nodes.result * 8 + entry_count (rows_in f) * entry_length c.other_edition.result = let f = c.args.file.now in
-    omega (
-      arith,
-      (held).ends,
-      c.node_count-nodes.ensures.0,
-      ap (λ ed. entry_count (rows_in f) * entry_length ed) (of_other ∙ sym c.other_edition.ensures),
-    ) in
-    let counted : c.entries_in-count.result ≡ entry_count (rows_in c.args.file.now) = entries_counted c.other_edition.result _ _ _ _ (ends) c.entries_in-count.ensures in
-    let nodes : ℕ = c.node_count-nodes.result in
-    let count : ℕ = c.entries_in-count.result in
-    let size : count * c.entry_bytes.result ≡ count * entry_length c.args.to = ap (λ s. count * s) c.entry_bytes.ensures in
-    let total : 8 + nodes * 8 + count * c.entry_bytes.result ≡ bodies_start (node_count c.args.file.now) + entry_count (rows_in c.args.file.now) * entry_length c.args.to = omega (
-      arith,
-      size,
-      c.node_count-nodes.ensures.0,
-      ap (λ n. n * entry_length c.args.to) (counted),
-    ) in
+    let t =
+        total c.args.to _ c.requires.0 c.requires.1 _ c.other_edition.ensures _ c.node_count-nodes.ensures.0 _ c.entries_in-count.ensures _
+            c.entry_bytes.ensures in
     record {
-      result_value = sym (room_short _ _ _ _ (total) c.if-out-length.true);
+      result_value = sym (room_short _ _ _ _ t c.if-out-length.true);
       out_after = refl;
     }
 
 pub put_rows-requires : goal.put_rows-requires
 put_rows-requires c =
-    let held : FileHolds c.args.file.now = file_holds _ c.requires.0 in
-    let h = (held).header in
+    let h = (held c.args.to _ c.requires.0 c.requires.1).header in
     let e = c.node_count-nodes.ensures.0 in (
       omega (arith, e, h.counted.few),
       omega (arith, e, h.contents),
@@ -110,27 +94,20 @@ put_rows-requires c =
 
 pub put_bodies-requires : goal.put_bodies-requires
 put_bodies-requires c =
-    let held : FileHolds c.args.file.now = file_holds _ c.requires.0 in
-    let of_other : edition_of c.args.file.now ≡ other c.args.to = opened _ _ c.requires.1 in
-    let ends : let f = c.args.file.now in length f ≡ 8 + c.node_count-nodes.result * 8 + entry_count (rows_in f) * entry_length c.other_edition.result = let f = c.args.file.now in
-    omega (
-      arith,
-      (held).ends,
-      c.node_count-nodes.ensures.0,
-      ap (λ ed. entry_count (rows_in f) * entry_length ed) (of_other ∙ sym c.other_edition.ensures),
-    ) in
-    let counted : c.entries_in-count.result ≡ entry_count (rows_in c.args.file.now) = entries_counted c.other_edition.result _ _ _ _ (ends) c.entries_in-count.ensures in
-    let count : ℕ = c.entries_in-count.result in
-    let size : count * c.entry_bytes.result ≡ count * entry_length c.args.to = ap (λ s. count * s) c.entry_bytes.ensures in (
+    let f = c.args.file.now in
+    let to = c.args.to in
+    let n = c.node_count-nodes.ensures.0 in
+    let m =
+        counted to f c.requires.0 c.requires.1 _ c.other_edition.ensures _ n _ c.entries_in-count.ensures _ c.entry_bytes.ensures in (
       omega (
         arith,
-        ends,
-        ap (λ n. n * entry_length (other c.args.to)) (counted),
-        ap (λ ed. entry_count (rows_in c.args.file.now) * entry_length ed) c.other_edition.ensures,
+        ends to f c.requires.0 c.requires.1 _ c.other_edition.ensures _ n,
+        ap (λ k. k * entry_length (other to)) m,
+        ap (λ ed. entry_count (rows_in f) * entry_length ed) c.other_edition.ensures,
       ),
       omega (
         arith,
-        size,
+        ap (λ s. c.entries_in-count.result * s) c.entry_bytes.ensures,
         c.put_rows.auto.out,
         c.put_header.auto.file,
       ),
@@ -138,27 +115,13 @@ put_bodies-requires c =
 
 pub returns : goal.returns
 returns c =
-    let held : FileHolds c.args.file.now = file_holds _ c.requires.0 in
-    let of_other : edition_of c.args.file.now ≡ other c.args.to = opened _ _ c.requires.1 in
-    let ends : let f = c.args.file.now in length f ≡ 8 + c.node_count-nodes.result * 8 + entry_count (rows_in f) * entry_length c.other_edition.result = let f = c.args.file.now in
-    omega (
-      arith,
-      (held).ends,
-      c.node_count-nodes.ensures.0,
-      ap (λ ed. entry_count (rows_in f) * entry_length ed) (of_other ∙ sym c.other_edition.ensures),
-    ) in
-    let counted : c.entries_in-count.result ≡ entry_count (rows_in c.args.file.now) = entries_counted c.other_edition.result _ _ _ _ (ends) c.entries_in-count.ensures in
-    let nodes : ℕ = c.node_count-nodes.result in
-    let count : ℕ = c.entries_in-count.result in
-    let size : count * c.entry_bytes.result ≡ count * entry_length c.args.to = ap (λ s. count * s) c.entry_bytes.ensures in
-    let total : 8 + nodes * 8 + count * c.entry_bytes.result ≡ bodies_start (node_count c.args.file.now) + entry_count (rows_in c.args.file.now) * entry_length c.args.to = omega (
-      arith,
-      size,
-      c.node_count-nodes.ensures.0,
-      ap (λ n. n * entry_length c.args.to) (counted),
-    ) in
+    let f = c.args.file.now in
+    let to = c.args.to in
+    let n = c.node_count-nodes.ensures.0 in
+    let t = total to f c.requires.0 c.requires.1 _ c.other_edition.ensures _ n _ c.entries_in-count.ensures _ c.entry_bytes.ensures in
+    let m = counted to f c.requires.0 c.requires.1 _ c.other_edition.ensures _ n _ c.entries_in-count.ensures _ c.entry_bytes.ensures in
     record {
-      result_value = sym (room_fits _ _ _ _ (total) (omega arith));
+      result_value = sym (room_fits _ _ _ _ t (omega arith));
       out_after = rw (c.put_bodies.ensures, c.put_rows.ensures, c.put_header.ensures)
-          (converted c.args.to c.args.file.now (of_other) _ _ _ c.node_count-nodes.ensures.0 refl (counted) _);
+          (converted to f (of_other to f c.requires.0 c.requires.1) _ _ _ n refl m _);
     }
