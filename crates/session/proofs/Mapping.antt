@@ -1,15 +1,19 @@
 -- Laws of asking a session: its answer for a session that the first check refuses, and for one that it accepts; and what is
 -- worked out afresh from a node.
-use Prim.Native.Nat.{ℕ}
+use Prim.Native.Nat.{ℕ, ◌≤◌}
 use mathlib.Core.Path.{◌≡◌, ◌∙◌, refl, sym, ap}
 use mathlib.Core.List.{List}
+use native.Mathlib.Omega.{arith}
 use lib.ListN.{length}
-use Rattle.refusals.specs.Refusals.{Numbered, accepted, refused, numbered}
+use Rattle.refusals.specs.Refusals.{Numbered, accepted, refused, numbered, outcome}
+use Rattle.refusals.specs.declared.Checked.{Checked}
+use Rattle.refusals.specs.declared.Checked.TheVariants.{Accepted}
 use Rattle.refusals.specs.declared.Refusal.{Refusal}
 use Rattle.refusals.specs.Answers.{Answer, refuses, left}
-use Rattle.task_model.specs.Limits.{Node}
+use Rattle.task_model.specs.Limits.{most_entries, Node, NodeHolds}
 use Rattle.task_model.specs.Checks.{node_check}
 use Rattle.task_model.proofs.Theorems.{node_accepted}
+use Rattle.node_words.proofs.Entries.{length-entries}
 use Rattle.completion.specs.Test.{completion_test}
 use Rattle.level_map.specs.declared.MappedNode.{MappedNode}
 use Rattle.level_map.specs.declared.MappedNode.TheVariants.{Refused}
@@ -107,3 +111,14 @@ module _ (s : Session) (buffer : List ℕ) where
       → answer a ≡ map_asked s.store s.levels s.count (length buffer)
       → after ≡ left (answer a) (stored_levels s.store s.count) buffer → Maps s buffer a after
   maps_held p a after e q = maps s buffer a after (e ∙ sym (asked_map s p (length buffer))) q
+
+-- what is known of a session that the check of what it holds accepts
+module _ (s : Session) (found : Checked) (e : outcome found ≡ node_check 0 (node_in s)) (p : found ≡ Accepted) where
+  pub found_lent : node_check 0 (node_in s) ≡ accepted
+  found_lent = sym e ∙ ap outcome p
+
+  pub found_within : NodeHolds (node_in s)
+  found_within = ((node_accepted 0 _).0 found_lent).within
+
+  pub found_few : s.count ≤ most_entries
+  found_few = omega (arith, found_within.few_entries, length-entries s.words 0 s.count)

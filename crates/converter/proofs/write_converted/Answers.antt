@@ -76,8 +76,8 @@ overflow_add-length c =
 pub returns-then-out-length : goal.returns-then-out-length
 returns-then-out-length c =
     let t =
-        total c.args.to _ c.requires.0 c.requires.1 _ c.other_edition.ensures _ c.node_count-nodes.ensures.0 _ c.entries_in-count.ensures _
-            c.entry_bytes.ensures in
+    total c.args.to _ c.requires.0 c.requires.1 _ c.other_edition.ensures _ c.node_count-nodes.ensures.0 _ c.entries_in-count.ensures _
+    c.entry_bytes.ensures in
     record {
       result_value = sym (room_short _ _ _ _ t c.if-out-length.true);
       out_after = refl;
@@ -98,7 +98,7 @@ put_bodies-requires c =
     let to = c.args.to in
     let n = c.node_count-nodes.ensures.0 in
     let m =
-        counted to f c.requires.0 c.requires.1 _ c.other_edition.ensures _ n _ c.entries_in-count.ensures _ c.entry_bytes.ensures in (
+    counted to f c.requires.0 c.requires.1 _ c.other_edition.ensures _ n _ c.entries_in-count.ensures _ c.entry_bytes.ensures in (
       omega (
         arith,
         ends to f c.requires.0 c.requires.1 _ c.other_edition.ensures _ n,

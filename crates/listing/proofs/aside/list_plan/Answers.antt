@@ -1,6 +1,9 @@
 use mathlib.Core.Path.{◌≡◌, ◌∙◌, ap, sym}
+use Prim.Native.Nat.{ℕ}
+use mathlib.Core.List.{List}
 use native.Mathlib.Omega.{arith}
 use lib.ListN.{length}
+use Rattle.refusals.specs.declared.Checked.{Checked}
 use Rattle.refusals.specs.declared.Checked.TheVariants.{Accepted}
 use Rattle.refusals.specs.Refusals.{outcome, accepted}
 use Rattle.refusals.specs.Answers.{gives}
@@ -11,6 +14,10 @@ use Rattle.listing.specs.Listing.{listing}
 use Rattle.listing.proofs.Lines.{upto_end}
 use Rattle.listing.proofs.Texts.{few_nodes, listing_refused, text_fits, text_same}
 use Rattle.listing.proofs.aside.list_plan.Goals as goal
+
+-- a check that accepts the file
+found : (f : List ℕ) (checked : Checked) → outcome checked ≡ file_check f → checked ≡ Accepted → file_check f ≡ accepted
+found f checked e p = sym e ∙ ap outcome p
 
 pub returns-in-Refused : goal.returns-in-Refused
 returns-in-Refused c =
@@ -25,22 +32,19 @@ returns-in-Refused c =
 
 pub node_count-nodes-requires : goal.node_count-nodes-requires
 node_count-nodes-requires c =
-    let found : c.check_file-checked.result ≡ Accepted → file_check c.args.file.now ≡ accepted = λ e. sym c.check_file-checked.ensures.result_value ∙ ap outcome e in
-    (file_holds _ (found c.in_default.is)).header.long
+    (file_holds _ (found _ _ c.check_file-checked.ensures.result_value c.in_default.is)).header.long
 
 pub put_plan-requires : goal.put_plan-requires
 put_plan-requires c =
-    let found : c.check_file-checked.result ≡ Accepted → file_check c.args.file.now ≡ accepted = λ e. sym c.check_file-checked.ensures.result_value ∙ ap outcome e in
     record {
-      fact_1 = (found c.in_default.is, c.node_count-nodes.ensures.0);
+      fact_1 = (found _ _ c.check_file-checked.ensures.result_value c.in_default.is, c.node_count-nodes.ensures.0);
       fact_2 = omega arith;
     }
 
 pub returns-then-nodes-out : goal.returns-then-nodes-out
 returns-then-nodes-out c =
-    let found : c.check_file-checked.result ≡ Accepted → file_check c.args.file.now ≡ accepted = λ e. sym c.check_file-checked.ensures.result_value ∙ ap outcome e in
     let u = c.put_plan.ensures in
-    let a = found c.in_default.is in
+    let a = found _ _ c.check_file-checked.ensures.result_value c.in_default.is in
     let n = c.node_count-nodes.ensures.0 in record {
       result_value = ap gives (upto_end u) ∙ sym (text_fits (listing _) _ (omega (arith, u.short)));
       out_after = u.wrote.buffer ∙ written_front _ (listing _);
@@ -49,14 +53,12 @@ returns-then-nodes-out c =
 
 pub list_two-requires : goal.list_two-requires
 list_two-requires c =
-    let found : c.check_file-checked.result ≡ Accepted → file_check c.args.file.now ≡ accepted = λ e. sym c.check_file-checked.ensures.result_value ∙ ap outcome e in
-    ((found c.in_default.is, c.node_count-nodes.ensures.0), omega arith)
+    ((found _ _ c.check_file-checked.ensures.result_value c.in_default.is, c.node_count-nodes.ensures.0), omega arith)
 
 pub returns-then-nodes-le2 : goal.returns-then-nodes-le2
 returns-then-nodes-le2 c =
-    let found : c.check_file-checked.result ≡ Accepted → file_check c.args.file.now ≡ accepted = λ e. sym c.check_file-checked.ensures.result_value ∙ ap outcome e in
     let l = c.list_two.ensures in
-    let a = found c.in_default.is in record {
+    let a = found _ _ c.check_file-checked.ensures.result_value c.in_default.is in record {
       result_value = l.result_value;
       out_after = l.out_after;
       file_len_bound = omega (arith, l.file_len_bound, few_nodes _ a, c.node_count-nodes.ensures.0);
@@ -64,17 +66,15 @@ returns-then-nodes-le2 c =
 
 pub list_eight-requires : goal.list_eight-requires
 list_eight-requires c =
-    let found : c.check_file-checked.result ≡ Accepted → file_check c.args.file.now ≡ accepted = λ e. sym c.check_file-checked.ensures.result_value ∙ ap outcome e in
     record {
-      fact_1 = (found c.in_default.is, c.node_count-nodes.ensures.0);
+      fact_1 = (found _ _ c.check_file-checked.ensures.result_value c.in_default.is, c.node_count-nodes.ensures.0);
       fact_2 = omega arith;
     }
 
 pub returns-then-nodes-le8 : goal.returns-then-nodes-le8
 returns-then-nodes-le8 c =
-    let found : c.check_file-checked.result ≡ Accepted → file_check c.args.file.now ≡ accepted = λ e. sym c.check_file-checked.ensures.result_value ∙ ap outcome e in
     let l = c.list_eight.ensures in
-    let a = found c.in_default.is in record {
+    let a = found _ _ c.check_file-checked.ensures.result_value c.in_default.is in record {
       result_value = l.result_value;
       out_after = l.out_after;
       file_len_bound = omega (arith, l.file_len_bound, few_nodes _ a, c.node_count-nodes.ensures.0);
@@ -82,14 +82,12 @@ returns-then-nodes-le8 c =
 
 pub list_any-requires : goal.list_any-requires
 list_any-requires c =
-    let found : c.check_file-checked.result ≡ Accepted → file_check c.args.file.now ≡ accepted = λ e. sym c.check_file-checked.ensures.result_value ∙ ap outcome e in
-    (found c.in_default.is, c.node_count-nodes.ensures.0)
+    (found _ _ c.check_file-checked.ensures.result_value c.in_default.is, c.node_count-nodes.ensures.0)
 
 pub returns : goal.returns
 returns c =
-    let found : c.check_file-checked.result ≡ Accepted → file_check c.args.file.now ≡ accepted = λ e. sym c.check_file-checked.ensures.result_value ∙ ap outcome e in
     let l = c.list_any.ensures in
-    let a = found c.in_default.is in record {
+    let a = found _ _ c.check_file-checked.ensures.result_value c.in_default.is in record {
       result_value = l.result_value;
       out_after = l.out_after;
       file_len_bound = omega (arith, l.file_len_bound, few_nodes _ a, c.node_count-nodes.ensures.0);

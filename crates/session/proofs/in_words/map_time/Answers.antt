@@ -1,16 +1,10 @@
-use Prim.Native.Nat.{◌≤◌}
-use mathlib.Core.Path.{◌≡◌, ◌∙◌, sym, ap}
+use mathlib.Core.Path.{◌∙◌, sym, ap}
 use native.Mathlib.Omega.{arith}
-use lib.ListN.{length, get_or}
-use Rattle.refusals.specs.Refusals.{outcome, accepted}
-use Rattle.task_model.specs.Limits.{most_entries, NodeHolds}
-use Rattle.task_model.specs.Checks.{node_check}
-use Rattle.task_model.proofs.Theorems.{node_accepted}
-use Rattle.node_words.proofs.Entries.{length-entries}
-use Rattle.session.specs.State.{node_in}
+use lib.ListN.{length}
+use Rattle.refusals.specs.Refusals.{outcome}
 use Rattle.session.specs.InWords.{session_in}
 use Rattle.session.proofs.InWords.{words_sized, store_lent}
-use Rattle.session.proofs.Mapping.{forged_time, asked_time}
+use Rattle.session.proofs.Mapping.{forged_time, asked_time, found_lent, found_within, found_few}
 use Rattle.session.proofs.in_words.map_time.Goals as goal
 
 pub overflow_cast-count : goal.overflow_cast-count
@@ -21,20 +15,17 @@ returns-in-Refused c = sym (forged_time _ _ (sym c.check_words-found.ensures ∙
 
 pub overflow_cast-levels : goal.overflow_cast-levels
 overflow_cast-levels c =
-    let lent : node_check 0 (node_in (session_in c.args.words.now)) ≡ accepted = sym c.check_words-found.ensures ∙ ap outcome c.in_default.is in
-    let within : NodeHolds (node_in (session_in c.args.words.now)) = ((node_accepted 0 _).0 lent).within in
-    omega (arith, (within).few_levels)
+    omega (arith, (found_within (session_in c.args.words.now) _ c.check_words-found.ensures c.in_default.is).few_levels)
 
 pub stored_time-requires : goal.stored_time-requires
 stored_time-requires c =
-    let lent : node_check 0 (node_in (session_in c.args.words.now)) ≡ accepted = sym c.check_words-found.ensures ∙ ap outcome c.in_default.is in
-    let within : NodeHolds (node_in (session_in c.args.words.now)) = ((node_accepted 0 _).0 lent).within in
-    let few : get_or c.args.words.now 1 0 ≤ most_entries = omega (arith, within.few_entries, length-entries (session_in c.args.words.now).words 0 (get_or c.args.words.now 1 0)) in
-    let w = c.args.words.now in
-    (ap length (store_lent w) ∙ (words_sized w c.requires).store, few)
+    let w = c.args.words.now in (
+      ap length (store_lent w) ∙ (words_sized w c.requires).store,
+      found_few (session_in w) _ c.check_words-found.ensures c.in_default.is,
+    )
 
 pub returns : goal.returns
 returns c =
-    let lent : node_check 0 (node_in (session_in c.args.words.now)) ≡ accepted = sym c.check_words-found.ensures ∙ ap outcome c.in_default.is in
     let w = c.args.words.now in
-    (rw (store_lent w) at c.stored_time.ensures) ∙ sym (asked_time (session_in w) (lent) _)
+    let lent = found_lent (session_in w) _ c.check_words-found.ensures c.in_default.is in
+    (rw (store_lent w) at c.stored_time.ensures) ∙ sym (asked_time (session_in w) lent _)
