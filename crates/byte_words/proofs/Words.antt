@@ -2,10 +2,11 @@
 use Prim.Native.Nat.{ℕ, zero, suc, ◌+◌, ◌*◌, ◌/◌, ◌%◌, ◌≤◌, ◌<◌}
 use mathlib.Core.Path.{◌≡◌, ◌∙◌, refl, sym, ap}
 use mathlib.Core.List.{List, [], ◌∷◌, ◌++◌, append_assoc, append-nil}
+use native.Mathlib.Nat.{add_assoc}
 use native.Mathlib.Omega.{arith}
 use native.Mathlib.Numerals.{add-one}
-use lib.ListN.{length, get_or, take}
-use lib.Seq.{length-take-le, take-suc}
+use lib.ListN.{length, get_or, take, drop}
+use lib.Seq.{length-take-le, take-suc, get_or-drop}
 use Rattle.byte_words.specs.Bytes.{low, word_at, words_from, bytes_of, Bytes}
 use Rattle.byte_words.proofs.Runs.{Run, run_length}
 
@@ -33,6 +34,17 @@ words_run f = record { none = λ k. refl; more = λ k n. refl }
 
 pub length-words : (f : List ℕ) (k n : ℕ) → length (words_from f k n) ≡ n
 length-words f = run_length (words_run f)
+
+-- words from byte `k` on are those of the bytes from there on
+pub word_behind : (f : List ℕ) (k i : ℕ) → word_at (drop k f) i ≡ word_at f (k + i)
+unfolding word_at
+word_behind f k i =
+    rw (get_or-drop k f i 0, get_or-drop k f (i + 1) 0, get_or-drop k f (i + 2) 0, get_or-drop k f (i + 3) 0, add_assoc k i 1, add_assoc k i 2, add_assoc k i 3)
+
+pub words_behind : (f : List ℕ) (k i n : ℕ) → words_from (drop k f) i n ≡ words_from f (k + i) n
+unfolding words_from
+words_behind f k i zero = refl
+words_behind f k i (suc n) = rw (word_behind f k i, words_behind f k (i + 4) n, add_assoc k i 4)
 
 -- words as bytes
 pub bytes_append : (xs ys : List ℕ) → bytes_of (xs ++ ys) ≡ bytes_of xs ++ bytes_of ys

@@ -9,5 +9,6 @@ pub mod Groups
 pub mod Alike
 pub mod Words
 pub mod Theorems
+pub mod TimedLaws
 pub mod WithoutJitter
 pub mod WithoutOverrun

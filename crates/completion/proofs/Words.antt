@@ -1,20 +1,18 @@
 -- The demand and the initial time of an entry in a named group, computed from the words of the node.
 use Prim.Native.Nat.{ℕ, ◌+◌, ◌-◌, ◌≤◌, ◌<◌}
-use mathlib.Core.Path.{◌≡◌, ◌∙◌, ap, sym}
+use mathlib.Core.Path.{◌≡◌, ◌∙◌, ap}
 use mathlib.Core.List.{List}
-use native.Mathlib.Nat.{le_trans}
 use native.Mathlib.Omega.{arith}
 use lib.ListN.{length}
 use Rattle.task_model.specs.declared.Entry.{Entry}
-use Rattle.task_model.specs.Limits.{most_ticks, most_entries, entry_at, EntryHolds, AllHold}
+use Rattle.task_model.specs.Limits.{most_ticks, most_entries, entry_at, AllHold}
 use Rattle.node_words.specs.Words.{entry_of, entries_of}
 use Rattle.node_words.proofs.Entries.{length-entries, entry_of_lem, all_at}
 use Rattle.completion.specs.Demand.{sum_to, higher_level_interference, same_level_interference, demand_with, initial_time_with}
 use Rattle.completion.specs.Group.{group_level}
 use Rattle.completion.specs.Test.{limit, test_from, test_with}
-use Rattle.completion.proofs.Bounds.{most_interference, most_interferences, most_runs, limit_most, limit_run}
+use Rattle.completion.proofs.Bounds.{most_runs}
 use Rattle.completion.proofs.Sums.{sum_to-eq, sum_to-most}
-use Rattle.completion.proofs.Releases.{higher_level_most, same_level_most}
 use Rattle.completion.proofs.Interference.{demand_up, demand_some, initial_first}
 use Rattle.completion.proofs.Groups.{same_level_in, named_group, demand_in_lem, initial_in}
 
@@ -26,19 +24,6 @@ same_level_of ws calls t j = same_level_interference (entry_of ws j) calls t
 
 abbrev pub wcet_of : List ℕ → ℕ → ℕ
 wcet_of ws j = (entry_of ws j).wcet
-
--- an entry that code reads is within the limits, and so is its own limit
-module _ (ws : List ℕ) (n : ℕ) (all : AllHold (entries_of ws n)) (i : ℕ) (h : i < n) (e : Entry) (named : e ≡ entry_of ws i) where
-  pub words_hold : EntryHolds e
-  words_hold = rw named (all_at ws n all i h)
-
-  pub words_limit : (d : ℕ) → d ≡ limit e → (1 ≤ d) × (d ≤ most_ticks)
-  words_limit d p =
-      let t = words_hold in
-      (omega (arith, limit_run e t), omega (arith, limit_most e t))
-
-  pub words_due : (d : ℕ) → d ≡ limit e → limit (entry_at (entries_of ws n) i) ≡ d
-  words_due d p = ap limit (entry_of_lem ws n i h ∙ sym named) ∙ sym p
 
 module _ (ws : List ℕ) (n : ℕ) where
   -- a sum over entries is one over their words
@@ -85,23 +70,6 @@ module _ (ws : List ℕ) (n : ℕ) where
 
   -- the sums are small
   module _ (all : AllHold (entries_of ws n)) (few : n ≤ most_entries) where
-    pub higher_level_small : (t m : ℕ) → t ≤ most_ticks → m ≤ n → sum_to (higher_level_of ws t) m ≤ most_interferences
-    higher_level_small t m h l =
-        omega (
-          arith,
-          sum_to-most (higher_level_of ws t) most_interference m (λ j p. higher_level_most _ (all_at ws n all j (omega arith)) t h),
-        )
-
-    pub same_level_small : (calls t m : ℕ) → t ≤ most_ticks → m ≤ n → sum_to (same_level_of ws calls t) m ≤ most_interferences
-    same_level_small calls t m h l =
-        omega (
-          arith,
-          sum_to-most (same_level_of ws calls t) most_interference m
-              (λ j p.
-              let k = all_at ws n all j (omega arith) in
-              le_trans (same_level_most _ k calls t) (higher_level_most _ k t h)),
-        )
-
     pub wcet_small : (m : ℕ) → m ≤ n → sum_to (wcet_of ws) m ≤ most_runs
     wcet_small m l =
         omega (

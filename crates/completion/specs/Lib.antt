@@ -1,6 +1,7 @@
 -- What a reader of the completion time test must believe.
 pub mod Demand
 pub mod Test
+pub mod Timed
 pub mod Group
 pub mod Rounds
 pub mod WithoutJitter

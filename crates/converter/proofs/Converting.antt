@@ -1,7 +1,8 @@
 -- What the converter answers, check by check, and what its stores leave in the buffer.
 use Prim.Native.Nat.{ℕ, ◌+◌, ◌*◌, ◌≤◌, ◌<◌}
-use mathlib.Core.Path.{◌≡◌, ◌∙◌, sym}
-use mathlib.Core.Bool.{true, false}
+use mathlib.Core.Path.{◌≡◌, ◌∙◌, refl, sym, ap}
+use mathlib.Core.Bool.{true, false, false≢true}
+use native.Mathlib.Omega.{arith}
 use mathlib.Core.List.{List, ◌++◌}
 use lib.ListN.{length, drop}
 use lib.Dec.{leb}
@@ -17,7 +18,11 @@ use Rattle.plan_file.specs.Encoding.{header_length, entry_length, header_bytes, 
 use Rattle.plan_file.specs.Decoding.{opening_test, edition_of, node_count, rows_from, rows_in, entries_at, entries_in, plan_in}
 use Rattle.plan_file.specs.Check.{nodes_by, file_check}
 use Rattle.plan_file.specs.Limits.{EditionFits}
-use Rattle.plan_file.proofs.Tests.{opens_hold, edition_opens}
+use denote.Enum.Bare.{sameb}
+use Rattle.plan_file.specs.contracts.Edition.{the_type}
+use Rattle.plan_file.proofs.File.{file_holds}
+use Rattle.task_model.proofs.Tests.{decided}
+use Rattle.plan_file.proofs.Tests.{opens_true, opens_hold, edition_opens}
 use Rattle.plan_file.proofs.Bodies.{nodes_accepted}
 use Rattle.plan_file.proofs.Contents.{length-rows, length-entries_at}
 use Rattle.plan_file.proofs.Encoding.{length-encoding}
@@ -29,16 +34,40 @@ use Rattle.converter.proofs.Lost.{kept_exactly}
 pub opened : (ed : Edition) (f : List ℕ) → opening_test ed f ≡ true → edition_of f ≡ ed
 opened ed f p = edition_opens f ed (opens_hold ed f p)
 
+-- two editions that are the same, by the test of the code, or not
+pub same : (a b : Edition) → sameb the_type a b ≡ true → a ≡ b
+same First First p = refl
+same First Second p = absurd (false≢true p)
+same Second First p = absurd (false≢true p)
+same Second Second p = refl
+
+pub differ : (a b : Edition) → sameb the_type a b ≡ false → a ≡ other b
+differ First First p = absurd (false≢true (sym p))
+differ First Second p = refl
+differ Second First p = refl
+differ Second Second p = absurd (false≢true (sym p))
+
+-- so an accepted file of an edition opens as that one, and not as the other
+not_other : (ed : Edition) → ed ≡ other ed → ⊥
+not_other First p = absurd (let z : ◌≡◌ {A = ℕ} 0 1 = cc in omega arith)
+not_other Second p = absurd (let z : ◌≡◌ {A = ℕ} 0 1 = cc in omega arith)
+
+pub opens_other : (to : Edition) (f : List ℕ) → file_check f ≡ accepted → edition_of f ≡ other to → opening_test (other to) f ≡ true
+opens_other to f a e = rw (← e) (opens_true (edition_of f) f (file_holds f a).header.opens)
+
+pub opens_not : (to : Edition) (f : List ℕ) → edition_of f ≡ to → opening_test (other to) f ≡ false
+opens_not to f e = decided (opening_test (other to) f) (opened (other to) f) (λ p. not_other to (sym e ∙ p))
+
 -- going forward nothing is lost
 pub forward_keeps : (f : List ℕ) → nodes_by (loss_check Second) 0 (rows_in f) (entries_in f) ≡ accepted
 forward_keeps f =
     nodes_accepted (loss_check Second) (EditionFits Second) (kept_exactly Second) 0 (rows_in f) (entries_in f) (λ i h j l. tt)
 
 -- the entries of a file of the second edition
-pub second_losses : (f : List ℕ) (n : ℕ) → n ≡ node_count f → edition_of f ≡ Second
-    → nodes_by (loss_check First) 0 (rows_from f 0 n) (entries_at Second f (bodies_start n) (entry_count (rows_from f 0 n)))
+pub second_losses : {f g : List ℕ} {n : ℕ} → ◌≡◌ {A = List ℕ × ℕ} (g, n) (f, node_count f) → edition_of f ≡ Second
+    → nodes_by (loss_check First) 0 (rows_from g 0 n) (entries_at Second g (bodies_start n) (entry_count (rows_from g 0 n)))
     ≡ nodes_by (loss_check First) 0 (rows_in f) (entries_in f)
-second_losses f n p e = rw (p, e)
+second_losses p e = rw (ap (λ q. q.0) p, ap (λ q. q.1) p, e)
 
 -- the answer for an accepted file of the right edition of which nothing is lost
 abbrev pub room_answer : Edition → List ℕ → ℕ → Answer ℕ

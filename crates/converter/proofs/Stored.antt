@@ -5,7 +5,7 @@ use mathlib.Core.List.{List, [], ◌∷◌, ◌++◌, map, append-nil}
 use native.Mathlib.Omega.{arith}
 use lib.ListN.{length, take}
 use Rattle.node_words.specs.Words.{entry_size}
-use Rattle.byte_words.specs.Bytes.{Bytes, word_at, bytes_of}
+use Rattle.byte_words.specs.Bytes.{word_at, bytes_of}
 use Rattle.byte_words.specs.Buffers.{over}
 use Rattle.byte_words.proofs.Buffers.{over_next}
 use Rattle.byte_words.proofs.Runs.{run_split}
@@ -15,6 +15,7 @@ use Rattle.plan_file.specs.Plan.{row_word, row_of}
 use Rattle.plan_file.specs.Encoding.{entry_length, bodies_start, contents_bytes, bodies_bytes}
 use Rattle.plan_file.specs.Decoding.{rows_from, file_words, entry_words_at, entry_in, entries_at}
 use Rattle.plan_file.proofs.Words.{entry_bytes_lem, words_first, words_second}
+use Rattle.plan_file.proofs.Numbering.{jitter_first, jitter_second}
 use Rattle.plan_file.proofs.Contents.{entries_run, length-row_words, length-entries_at}
 use Rattle.plan_file.proofs.Encoding.{bodies_append, length-bodies}
 use Rattle.plan_file.proofs.Fits.{rows_words}
@@ -48,16 +49,14 @@ module _ (from to : Edition) (f : List ℕ) (start i : ℕ) where
       (length-bodies to (entries_at from f start i) ∙ ap (λ n. n * entry_length to) (length-entries_at from f start i)) l
       ∙ ap (over d start) bodies_more)
 
--- the words that the loops read
-module _ (f : List ℕ) (k a b c d e : ℕ) (p : a ≡ word_at f k) (q : b ≡ word_at f (k + 4)) (r : c ≡ word_at f (k + 8))
-    (s : d ≡ word_at f (k + 12)) (t : e ≡ word_at f (k + 16)) where
-  pub read_first : a ∷ b ∷ c ∷ d ∷ e ∷ 0 ∷ [] ≡ take (file_words Second) (entry_words_at First f k)
-  read_first = rw (p, q, r, s, t, ← words_first f k)
-
-  pub read_second : a ∷ b ∷ c ∷ d ∷ e ∷ [] ≡ take (file_words First) (entry_words_at Second f k)
-  read_second = rw (p, q, r, s, t, ← words_second f k)
+-- the words that the loop reads
+pub read_words : (ed : Edition) (f : List ℕ) (k a b c d e j : ℕ) → a ≡ word_at f k → b ≡ word_at f (k + 4) → c ≡ word_at f (k + 8)
+    → d ≡ word_at f (k + 12) → e ≡ word_at f (k + 16) → j ≡ (entry_in ed f k).jitter
+    → a ∷ b ∷ c ∷ d ∷ e ∷ j ∷ [] ≡ entry_words_at ed f k
+read_words First f k a b c d e j p q r s t u = rw (p, q, r, s, t, u, ← jitter_first f k) (words_first f k)
+read_words Second f k a b c d e j p q r s t u = rw (p, q, r, s, t, u, ← jitter_second f k) (words_second f k)
 
 -- the contents, from the words of a file's rows
-pub contents_stored : (size : ℕ) (f : List ℕ) → Bytes f → (nodes : ℕ) (words : List ℕ) → words ≡ map row_word (rows_from f 0 nodes)
+pub contents_stored : (size : ℕ) (f : List ℕ) (nodes : ℕ) (words : List ℕ) → words ≡ map row_word (rows_from f 0 nodes)
     → contents_bytes size (bodies_start (length words)) (map row_of words) ≡ contents_bytes size (bodies_start nodes) (rows_from f 0 nodes)
-contents_stored size f b nodes words e = rw e (rw (length-row_words f nodes, rows_words f 0 nodes b))
+contents_stored size f nodes words e = rw e (rw (length-row_words f nodes, rows_words f 0 nodes))

@@ -5,7 +5,7 @@ use mathlib.Core.Option.{none}
 use mathlib.Core.List.{List, ◌++◌}
 use native.Mathlib.Omega.{arith}
 use lib.ListN.{length, drop}
-use Rattle.task_model.specs.Limits.{Node, NodeHolds}
+use Rattle.task_model.specs.Limits.{Node, AllHold}
 use Rattle.refusals.specs.Refusals.{at}
 use Rattle.refusals.specs.Answers.{Answer, gives, refuses, left}
 use Rattle.level_map.specs.Map.{the_map}
@@ -15,13 +15,14 @@ use Rattle.level_map.proofs.Cutting.{length-levels}
 use Rattle.level_map.proofs.Theorems.{held_short, held_map, held_none, best_map_or_none}
 
 -- The answer `a`, with the buffer `before` the call and `after` it, is right: by the definition, and so by promise 3.
-abbrev pub Right : Node → Answer ℕ → List ℕ → List ℕ → Type 0
-Right n a before after =
-    (a ≡ held_answer n (length before)) × ((after ≡ left a (map_of n) before) × NodeBestMapOrNone n before a after)
+pub record Right (n : Node) (a : Answer ℕ) (before after : List ℕ) : Type 0 where
+  pub answered : a ≡ held_answer n (length before)
+  pub written : after ≡ left a (map_of n) before
+  pub best : NodeBestMapOrNone n before a after
 
-module _ (n : Node) (holds : NodeHolds n) (before : List ℕ) where
+module _ (n : Node) (all : AllHold n.entries) (before : List ℕ) where
   right : (a : Answer ℕ) (after : List ℕ) → a ≡ held_answer n (length before) → after ≡ left a (map_of n) before → Right n a before after
-  right a after p q = (p, (q, rw (q, p) (best_map_or_none n holds.each before)))
+  right a after p q = record { answered = p; written = q; best = rw (q, p) (best_map_or_none n all before) }
 
   -- 10, and the buffer is untouched
   pub right_short : length before < length n.entries → Right n (refuses (at 10 0 0)) before before

@@ -1,29 +1,15 @@
 -- Cuts and their levels: each group between cuts has all entries of one level.
 use Prim.Native.Nat.{ℕ, zero, suc, ◌+◌, ◌-◌, ◌≤◌, ◌<◌, zero-le}
 use mathlib.Core.Path.{◌≡◌, refl, sym, ◌∙◌}
-use mathlib.Core.List.{List, [], ◌∷◌, ◌++◌, append_assoc}
+use mathlib.Core.List.{List, [], ◌∷◌}
 use mathlib.Core.Logic.{by_cases}
 use native.Mathlib.Omega.{arith}
 use native.Mathlib.Decide.{dec_le}
-use native.Mathlib.Numerals.{add-one}
-use lib.ListN.{length, get_or, drop, replicate, length-append, length-drop, length-replicate}
-use lib.Seq.{drop-cons}
+use lib.ListN.{length, get_or, replicate, length-append, length-replicate}
 use Rattle.level_map.specs.Assignments.{size_of}
 use Rattle.level_map.specs.Cuts.{Falling, levels_of_cuts}
-use Rattle.level_map.proofs.Lists.{filled_with, fill_rest}
-use Rattle.level_map.proofs.Levels.{
-  Rising,
-  before,
-  before_suc,
-  before_append,
-  before_same,
-  before_none,
-  before_all,
-  rising_wider,
-  rising_append,
-  rising_same,
-  rising_assignment,
-}
+use Rattle.level_map.specs.Cuts.{before}
+use Rattle.level_map.proofs.Levels.{Rising, before_suc, before_append, before_same, before_none, before_all, rising_wider, rising_append, rising_same, rising_assignment}
 use Rattle.level_map.proofs.Maps.{Full}
 
 -- there are no more groups than entries
@@ -109,18 +95,3 @@ full_cuts s e f =
       assignment = rising_assignment e (length s) (levels_of_cuts s e) (length-levels s e f) (rising_levels s e);
       full = full_levels s e f;
     }
-
--- levels that are written group by group: the g least urgent groups stand, and one more is written
-pub write_next : (s : List ℕ) (g end : ℕ) (out : List ℕ) → g < length s → Falling (drop g s) end → end ≤ length out
-    → (get_or s g 0 < end) × Falling (drop (g + 1) s) (get_or s g 0)
-    × (levels_of_cuts (drop (g + 1) s) (get_or s g 0) ++ drop (get_or s g 0) (filled_with out (get_or s g 0) end (length s - g))
-    ≡ levels_of_cuts (drop g s) end ++ drop end out)
-write_next s g end out h f fits =
-    let a = get_or s g 0 in
-    let c : drop g s ≡ a ∷ drop (suc g) s = drop-cons s g 0 h in
-    let f' : Falling (a ∷ drop (suc g) s) end = rw c at f in
-    let level : length s - g ≡ suc (length (drop (suc g) s)) = omega (arith, length-drop (suc g) s) in
-    let q : levels_of_cuts (drop (suc g) s) a ++ drop a (filled_with out a end (length s - g))
-    ≡ levels_of_cuts (a ∷ drop (suc g) s) end ++ drop end out =
-    rw (fill_rest out a end (length s - g) (omega arith), level, append_assoc) in
-    rw (add-one g, c) (f'.0, f'.1, q)

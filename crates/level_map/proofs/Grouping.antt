@@ -18,7 +18,8 @@ use Rattle.completion.proofs.Theorems.{alike, same_group, shrink}
 use Rattle.level_map.specs.Assignments.{level_of, Assignment, NoneLate}
 use Rattle.level_map.specs.Groups.{on_time_in}
 use Rattle.level_map.specs.Cuts.{Falling, levels_of_cuts}
-use Rattle.level_map.proofs.Levels.{before, before_length, before_in, before_out, own_low, own_high, own_level, assignment_rising}
+use Rattle.level_map.specs.Cuts.{before}
+use Rattle.level_map.proofs.Levels.{before_length, before_in, before_out, own_low, own_high, own_level, assignment_rising}
 use Rattle.level_map.proofs.Cutting.{rising_levels, full_cuts}
 use Rattle.level_map.proofs.Optimal.{InTime}
 

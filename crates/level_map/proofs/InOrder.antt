@@ -1,38 +1,51 @@
--- The groups of a map one after the other, from the most urgent on, with their cuts at the start of an array. A loop over the
--- groups starts with `first_group`, goes on with `next_group`, and ends with `last_group`.
+-- The groups of a map one after the other, from the most urgent on. A loop over the levels starts with `first_group`, and ends
+-- with `last_group`; between, each group ends where the next begins.
 use Prim.Native.Nat.{ℕ, suc, ◌+◌, ◌-◌, ◌≤◌, ◌<◌}
 use mathlib.Core.Path.{◌≡◌, ◌∙◌, sym}
-use mathlib.Core.List.{List, ◌∷◌}
 use native.Mathlib.Omega.{arith}
-use lib.ListN.{length, get_or, take}
+use lib.ListN.{length, get_or}
 use lib.Seq.{length-take-le, get_or-take}
-use Rattle.level_map.specs.Cuts.{Falling, levels_of_cuts}
-use Rattle.level_map.proofs.Levels.{before, before_suc, before_length}
-use Rattle.level_map.proofs.Cutting.{length-levels, before_top, cut_first, cut_end}
+use Rattle.level_map.specs.declared.cuts.Cuts.{Cuts}
+use Rattle.level_map.specs.Cuts.{before}
+use Rattle.level_map.specs.Found.{starts_in, levels_in}
+use Rattle.level_map.proofs.Levels.{before_suc, before_length, own_level}
+use Rattle.level_map.proofs.Cutting.{length-levels, before_top, before_levels, cut_first, cut_end, full_cuts, rising_levels}
 
-module _ (n : ℕ) (cuts : List ℕ) (groups : ℕ) (inside : groups ≤ length cuts) (f : Falling (take groups cuts) n) where
-  abbrev levels : List ℕ
-  levels = levels_of_cuts (take groups cuts) n
+module _ (c : Cuts) where
+  pub starts_count : length (starts_in c) ≡ c.groups
+  starts_count = length-take-le c.groups c.starts (omega arith)
 
-  long : length (take groups cuts) ≡ groups
-  long = length-take-le groups cuts inside
+  pub levels_count : length (levels_in c) ≡ c.count
+  levels_count = length-levels (starts_in c) c.count c.falling
 
-  pub first_group : 0 ≡ before 1 (levels_of_cuts (take groups cuts) n)
-  first_group = sym (cut_first (take groups cuts) n)
+  pub first_group : 0 ≡ before 1 (levels_in c)
+  first_group = sym (cut_first (starts_in c) c.count)
 
-  -- the group behind `level` groups is from `first` up to `end`
-  pub next_group : (level first end : ℕ) → level < groups → first ≡ before (level + 1) (levels_of_cuts (take groups cuts) n)
-      → end ≡ get_or (n ∷ cuts) (groups - 1 - level) 0
-      → (first ≤ end) × (end ≤ n) × (end ≡ before (suc (level + 1)) (levels_of_cuts (take groups cuts) n))
-  next_group level first end h p q =
-      let g = groups - 1 - level in
-      let l = level + 1 in
-      let ends : end ≡ before (suc l) levels =
-      q ∙ sym (get_or-take (suc groups) (n ∷ cuts) g 0 (omega arith)) ∙ sym (cut_end (take groups cuts) n f l g (omega (arith, long))) in (
-        omega (arith, before_suc l levels),
-        omega (arith, before_length (suc l) levels, length-levels (take groups cuts) n f),
-        ends,
-      )
+  pub last_group : before (c.groups + 1) (levels_in c) ≡ c.count
+  last_group = before_top (starts_in c) c.count (c.groups + 1) c.falling (omega (arith, starts_count))
 
-  pub last_group : (level first : ℕ) → level ≡ groups → first ≡ before (level + 1) (levels_of_cuts (take groups cuts) n) → first ≡ n
-  last_group level first h p = p ∙ before_top (take groups cuts) n (level + 1) f (omega (arith, long))
+  -- where the group on a level starts, and where it ends
+  module _ (level : ℕ) (low : 1 ≤ level) (high : level ≤ c.groups) where
+    pub group_start : get_or c.starts (c.groups - level) 0 ≡ before level (levels_in c)
+    group_start =
+        let behind = c.groups - level in
+        let back : length (starts_in c) - behind ≡ level = omega (arith, starts_count) in
+        sym (get_or-take c.groups c.starts behind 0 (omega arith)) ∙ sym (rw back at (before_levels (starts_in c) c.count c.falling behind))
+
+    pub least_end : c.groups - level ≡ 0 → c.count ≡ before (suc level) (levels_in c)
+    least_end h = sym (before_top (starts_in c) c.count (suc level) c.falling (omega (arith, starts_count)))
+
+    pub group_end : 0 < c.groups - level → get_or c.starts (c.groups - level - 1) 0 ≡ before (suc level) (levels_in c)
+    group_end h =
+        let g = c.groups - level - 1 in
+        sym (get_or-take c.groups c.starts g 0 (omega arith)) ∙ sym (cut_end (starts_in c) c.count c.falling level (suc g) (omega (arith, starts_count)))
+
+    pub group_some : before level (levels_in c) < before (suc level) (levels_in c)
+    group_some = omega (arith, before_suc level (levels_in c), (full_cuts (starts_in c) c.count c.falling).full level low (omega (arith, starts_count)))
+
+    pub group_inside : before (suc level) (levels_in c) ≤ c.count
+    group_inside = omega (arith, before_length (suc level) (levels_in c), levels_count)
+
+  -- the entries of the group have its level
+  pub group_level_at : (level k : ℕ) → before level (levels_in c) ≤ k → k < before (suc level) (levels_in c) → get_or (levels_in c) k 0 ≡ level
+  group_level_at level k = own_level 1 (length (starts_in c)) level (levels_in c) k (rising_levels (starts_in c) c.count)

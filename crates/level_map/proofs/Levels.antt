@@ -12,12 +12,8 @@ use lib.Seq.{ext_get_or}
 use lib.Dec.{ltb, eqb}
 use borrow.Author.Tests.{lt-ltb}
 use Rattle.level_map.specs.Assignments.{level_of, Assignment, one, size_of, levels_used}
+use Rattle.level_map.specs.Cuts.{before}
 use Rattle.level_map.proofs.Tests.{by-test, one_lt, one_eq, one_some}
-
--- How many entries have a level below `l`: those that are more urgent than its group.
-abbrev pub before : ℕ → List ℕ → ℕ
-before l [] = 0
-before l (x ∷ xs) = one (ltb x l) + before l xs
 
 -- How many entries have a level above `l`.
 abbrev pub above : ℕ → List ℕ → ℕ

@@ -1,6 +1,6 @@
 -- Laws of the map, one subject per file, and its theorems.
 pub mod Tests
-pub mod Lists
+pub mod Filled
 pub mod Levels
 pub mod Maps
 pub mod LastGroup

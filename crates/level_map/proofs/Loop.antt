@@ -5,12 +5,11 @@ use mathlib.Core.Bool.{Bool}
 use mathlib.Core.Option.{Option, none, some, map, none-ne-some}
 use mathlib.Core.List.{List, [], ◌∷◌, ◌++◌, append_assoc, append-nil}
 use mathlib.Core.Logic.{⊎_elim}
-use native.Mathlib.Nat.{sub-zero}
 use native.Mathlib.Numerals.{add-one}
 use native.Mathlib.Omega.{arith}
 use lib.ListN.{length, take, set}
 use lib.Seq.{take-suc-set}
-use Rattle.level_map.specs.declared.Start.TheVariants.{At, Nowhere}
+use Rattle.std.proofs.Common.{Some, None}
 use Rattle.level_map.specs.Map.{maps, first_of}
 use Rattle.level_map.specs.Groups.{LeastStart}
 use Rattle.level_map.specs.Cuts.{CutsOf}
@@ -55,9 +54,6 @@ abbrev pub Reached : (ℕ → ℕ → ℕ → Bool) → ℕ → ℕ → List ℕ
 Reached ok most n cuts end groups = greedy ok most n ≡ behind (take groups cuts) (greedy ok (most - groups) end)
 
 module _ {n : ℕ} (t : GroupTest n) (most : ℕ) (cuts : List ℕ) where
-  pub reached_first : Reached t.ok most n cuts n 0
-  reached_first = rw (sub-zero most) (past_none (greedy t.ok most n))
-
   -- no cuts, no map
   no_cuts : greedy t.ok most n ≡ none → first_of t.test (maps most n) ≡ none
   no_cuts p =
@@ -67,7 +63,7 @@ module _ {n : ℕ} (t : GroupTest n) (most : ℕ) (cuts : List ℕ) where
       (exact_cases t most)
 
   module _ (end groups : ℕ) (reached : Reached t.ok most n cuts end groups) where
-    pub reached_next : (a : ℕ) → groups < most → 0 < end → groups < length cuts → LeastStart (λ b. Passes t.ok b end) end (At a)
+    pub reached_next : (a : ℕ) → groups < most → 0 < end → groups < length cuts → LeastStart (λ b. Passes t.ok b end) end (Some a)
         → Reached t.ok most n (set cuts groups a) a (groups + 1)
     reached_next a h l u s =
         let q : most - (groups + 1) ≡ most - groups - 1 = omega arith in
@@ -84,7 +80,7 @@ module _ {n : ℕ} (t : GroupTest n) (most : ℕ) (cuts : List ℕ) where
         no_cuts (reached ∙ rw (q, greedy_full t.ok end l))
 
     -- no group passes
-    pub reached_stop : groups < most → 0 < end → LeastStart (λ b. Passes t.ok b end) end Nowhere
+    pub reached_stop : groups < most → 0 < end → LeastStart (λ b. Passes t.ok b end) end None
         → first_of t.test (maps most n) ≡ none
     reached_stop h l s =
         no_cuts (reached ∙ rw (greedy_stop t.ok (most - groups) end (omega arith) l (scan_none t.ok end s)))

@@ -15,29 +15,8 @@ use Rattle.level_map.specs.Map.{IsMap, Longer, Chosen}
 use Rattle.level_map.specs.Cuts.{Falling, levels_of_cuts}
 use Rattle.level_map.proofs.Tests.{by-test}
 use Rattle.level_map.proofs.Search.{group_ok, greedy, group_each, group_of, Cuts, greedy_cases, greedy_more, Leads, leads}
-use Rattle.level_map.proofs.Levels.{
-  before,
-  above,
-  Rising,
-  before_suc,
-  above_before,
-  before_zero,
-  before_length,
-  rising_wider,
-  before_none,
-  before_all,
-  own_low,
-  own_high,
-  own_level,
-  same_before,
-  used_levels,
-  used_le,
-  starts,
-  length-starts,
-  starts_map,
-  assignment_rising,
-  rising_assignment,
-}
+use Rattle.level_map.specs.Cuts.{before}
+use Rattle.level_map.proofs.Levels.{above, Rising, before_suc, above_before, before_zero, before_length, rising_wider, before_none, before_all, own_low, own_high, own_level, same_before, used_levels, used_le, starts, length-starts, starts_map, assignment_rising, rising_assignment}
 use Rattle.level_map.proofs.Maps.{Full, full_used, full_map, map_full}
 use Rattle.level_map.proofs.Cutting.{rising_levels, before_low, before_top, before_levels, full_cuts}
 

@@ -3,19 +3,12 @@
 use Rattle.std.specs.Prelude.{ℕ, ◌≤◌, ◌≡◌, Bool, true, false, ◌↔◌, ◌⊎◌, List, [], length, take, leb}
 use Rattle.std.proofs.Math.Option.{Option, none, some}
 use Rattle.task_model.specs.declared.Entry.{Entry}
-use Rattle.refusals.specs.Refusals.{at, numbered, Outcome, ◌and_then◌, must_hold}
+use Rattle.refusals.specs.Refusals.{at, Outcome, ◌and_then◌, must_hold}
 use Rattle.refusals.specs.Answers.{Answer, gives, refuses, giving}
 use Rattle.task_model.specs.Limits.{Node}
-use Rattle.level_map.specs.declared.MappedNode.{MappedNode}
-use Rattle.level_map.specs.declared.MappedNode.TheVariants.{Levels, Refused}
 use Rattle.level_map.specs.Assignments.{EntryTest, NoneLateUnder, PassingUnder, levels_used}
 use Rattle.completion.specs.Test.{completion_test}
 use Rattle.level_map.specs.Map.{Chosen, map_under}
-
--- What the code's answer says: the count of the map's levels, or the refusal's number, row and entry.
-abbrev pub answer : MappedNode → Answer ℕ
-answer (Levels count) = gives count
-answer (Refused r) = refuses (numbered r)
 
 -- Whether there is a map.
 abbrev pub is_some : Option (List ℕ) → Bool

@@ -1,9 +1,12 @@
 -- Where the search cuts a node into the groups of its map. No promise of an entry for users mentions it.
-use Rattle.std.specs.Prelude.{ℕ, suc, ◌-◌, ◌≤◌, ◌<◌, ◌≡◌, List, [], ◌∷◌, ◌++◌, length, take, replicate}
-use Rattle.std.proofs.Math.Option.{Option, none, some}
-use Rattle.level_map.specs.declared.Cut.{Cut}
-use Rattle.level_map.specs.declared.Cut.TheVariants.{Groups, NoMap}
-use Rattle.level_map.specs.Assignments.{levels_used}
+use Rattle.std.specs.Prelude.{ℕ, suc, ◌+◌, ◌-◌, ◌≤◌, ◌<◌, ◌≡◌, List, [], ◌∷◌, ◌++◌, length, replicate, ltb}
+use Rattle.std.proofs.Math.Option.{Option, some}
+use Rattle.level_map.specs.Assignments.{one, levels_used}
+
+-- How many entries have a level below `l`: those that are more urgent than its group.
+abbrev pub before : ℕ → List ℕ → ℕ
+before l [] = 0
+before l (x ∷ xs) = one (ltb x l) + before l xs
 
 -- The starts of groups, least urgent group first. The first group ends just before `end`. Every other group ends just
 -- before the start that precedes its own in this list. The last group starts at 0.
@@ -23,8 +26,3 @@ pub record CutsOf (found : Option (List ℕ)) (n most : ℕ) (s : List ℕ) : Ty
   pub counted : levels_used (levels_of_cuts s n) ≡ length s
   pub within : length s ≤ most
   pub falling : Falling s n
-
--- The answer of the search: the number of groups, with their starts at the front of `cuts`, or that there is no map.
-abbrev pub CutAnswer : Option (List ℕ) → ℕ → ℕ → Cut → List ℕ → Type 0
-CutAnswer found n most (Groups g) cuts = CutsOf found n most (take g cuts) × (g ≤ length cuts)
-CutAnswer found n most NoMap cuts = found ≡ none

@@ -1,11 +1,9 @@
 -- When a group passes, and where it can start: what the search computes. No promise of an entry for users mentions it.
-use Rattle.std.specs.Prelude.{ℕ, ◌+◌, ◌-◌, ◌≤◌, ◌<◌, ◌≡◌, Bool, true, List}
+use Rattle.std.specs.Prelude.{ℕ, ◌+◌, ◌-◌, ◌≤◌, ◌<◌, ◌≡◌, Bool, true, List, Option, Some, None}
 use Rattle.task_model.specs.declared.Entry.{Entry}
 use Rattle.task_model.specs.Limits.{entry_at}
 use Rattle.completion.specs.Group.{group_level}
 use Rattle.completion.specs.Test.{test_with, is_on_time}
-use Rattle.level_map.specs.declared.Start.{Start}
-use Rattle.level_map.specs.declared.Start.TheVariants.{At, Nowhere}
 
 -- What the end of a group adds to the blocking of its entries: nothing, since blocking times are given.
 abbrev pub added : ℕ → ℕ
@@ -21,6 +19,6 @@ abbrev pub GroupPasses : List Entry → ℕ → ℕ → ℕ → Type 0
 GroupPasses es more end first = (i : ℕ) → first ≤ i → i < end → on_time_in es more i first end ≡ true
 
 -- The least start of a passing group that ends just before `end`, or that there is none.
-abbrev pub LeastStart : (ℕ → Type 0) → ℕ → Start → Type 0
-LeastStart Passes end (At start) = (start < end) × Passes start × ((b : ℕ) → b < start → Passes b → ⊥)
-LeastStart Passes end Nowhere = (b : ℕ) → b < end → Passes b → ⊥
+abbrev pub LeastStart : (ℕ → Type 0) → ℕ → Option ℕ → Type 0
+LeastStart Passes end (Some start) = (start < end) × Passes start × ((b : ℕ) → b < start → Passes b → ⊥)
+LeastStart Passes end None = (b : ℕ) → b < end → Passes b → ⊥

@@ -8,3 +8,5 @@ pub mod OverrunCases
 -- A reader need not believe these: they name what the search computes about groups, and where it cuts a node.
 pub mod Groups
 pub mod Cuts
+pub mod OneProof
+pub mod Found

@@ -1,7 +1,7 @@
 -- Under levels that never fall, the entries of one level are neighbours: they are the group from the first to the last of
 -- them.
 use Prim.Native.Nat.{ℕ, zero, suc, ◌+◌, ◌-◌, ◌≤◌, ◌<◌}
-use mathlib.Core.Path.{◌≡◌, ◌∙◌, refl, ap}
+use mathlib.Core.Path.{◌≡◌, refl}
 use mathlib.Core.List.{List}
 use mathlib.Core.Logic.{by_cases}
 use native.Mathlib.Nat.{le_refl, le_trans}
@@ -62,18 +62,3 @@ time_group es n e a h i first last f l =
     (named_group first last (length es) i f.within l.within)
     (rw e (own_group n a h i first last f l))
     (λ j p. (refl, refl, refl)) refl refl
-
--- one entry more on either side
-pub more_before : (a : List ℕ) (i first : ℕ) → 0 < first → ((j : ℕ) → first ≤ j → j ≤ i → level_of a j ≡ level_of a i)
-    → level_of a (first - 1) ≡ level_of a i → (j : ℕ) → first - 1 ≤ j → j ≤ i → level_of a j ≡ level_of a i
-more_before a i first p f e j l m =
-    by_cases (dec_le first j)
-    (λ y. f j y m)
-    (λ z. let s : j ≡ first - 1 = omega arith in ap (level_of a) s ∙ e)
-
-pub more_after : (a : List ℕ) (i last : ℕ) → ((j : ℕ) → i ≤ j → j ≤ last → level_of a j ≡ level_of a i)
-    → level_of a (last + 1) ≡ level_of a i → (j : ℕ) → i ≤ j → j ≤ last + 1 → level_of a j ≡ level_of a i
-more_after a i last f e j l m =
-    by_cases (dec_le j last)
-    (λ y. f j l y)
-    (λ z. let s : j ≡ last + 1 = omega arith in ap (level_of a) s ∙ e)

@@ -2,54 +2,56 @@
 
 // Times an entry under a list of levels. Entries with equal levels are a group.
 ghost use Rattle.std.specs.Prelude.{◌≡◌, ◌≤◌, ◌<◌};
-ghost use Rattle.task_model.specs.Limits.{most_entries, AllHold};
-ghost use Rattle.node_words.specs.Words.{entries_of};
+ghost use Rattle.task_model.specs.Limits.{most_entries};
+ghost use Rattle.node_words.specs.Held.{held_entries};
 ghost use Rattle.completion.specs.Test.{completion, completion_test};
 ghost use Rattle.level_map.specs.Assignments.{level_of};
 ghost use Rattle.level_timing.specs.Levels.{NeverFalls, FirstOf, LastOf};
 
 use completion::Timing;
-use node_words::NodeWords;
+use completion::timed::TimedEntry;
+use node_words::held::HeldEntries;
 use task_model::MOST_ENTRIES;
 
-// The first position of the group of the entry at `i`.
+// The first position of the group of the entry at `i`. (It goes down and `group_last` goes up: a function of the direction
+// would need a test of it in each step.)
 fn group_first(levels: &[u8; MOST_ENTRIES], i: usize) -> usize
     requires { i < most_entries }
     ensures { FirstOf levels.now i result }
 {
-    let mut first = i;
-    while 0 < first {
-        if levels[first - 1] != levels[i] {
-            return first;
+    for before in (0..i).rev() {
+        if levels[before] != levels[i] {
+            return before + 1;
         }
-        first -= 1;
     }
-    first
+    0
 }
 
-// The last position of the group of the entry at `i`, among `count` entries.
+// The last position of the group of the entry at `i`, among `count` entries. (The levels are an array for any node: fixed
+// memory.)
 fn group_last(levels: &[u8; MOST_ENTRIES], count: usize, i: usize) -> usize
     requires { (i < count) × (count ≤ most_entries) }
     ensures { LastOf count levels.now i result }
 {
-    let mut last = i;
-    while last + 1 < count {
-        if levels[last + 1] != levels[i] {
-            return last;
+    for after in i + 1..count {
+        if levels[after] != levels[i] {
+            return after - 1;
         }
-        last += 1;
     }
-    last
+    count - 1
 }
 
 // Times the entry at `i` of a node under levels that never fall along the list.
-pub fn time_under(words: &NodeWords, count: usize, levels: &[u8; MOST_ENTRIES], i: usize) -> Timing
-    requires fact_1 { AllHold (entries_of words.now count) }
-    requires fact_2 { (i < count) × (count ≤ most_entries) }
-    requires fact_3 { NeverFalls count levels.now }
-    ensures { completion result ≡ completion_test (entries_of words.now count) (level_of levels.now) i }
+pub fn time_under(node: &HeldEntries, levels: &[u8; MOST_ENTRIES], i: usize) -> Timing
+    requires inside { i < node.now.count }
+    requires rising { NeverFalls node.now.count levels.now }
+    ensures { completion result ≡ completion_test (held_entries node.now) (level_of levels.now) i }
 {
-    let first = group_first(levels, i);
-    let last = group_last(levels, count, i);
-    completion::completion_test(words, count, first, last, i)
+    let timed = TimedEntry {
+        node: *node,
+        first: group_first(levels, i),
+        last: group_last(levels, node.count, i),
+        position: i,
+    };
+    timed.completion_test()
 }

@@ -1,37 +1,35 @@
 #![tactic(auto)]
 
 // Lists the plan file on standard input: writes its listing, or one line with the refusal, and nothing else.
-ghost use Rattle.std.specs.Prelude.{◌≡◌, List, ℕ, ◌<◌, length, take};
-ghost use Rattle.io.specs.Counts.{IsPrefixLen};
+ghost use Rattle.std.specs.Prelude.{◌≡◌, List, ℕ};
 ghost use Rattle.listing.specs.Listing.{listing};
-ghost use Rattle.plan_file.specs.Input.{ReadOf};
+ghost use Rattle.plan_file.specs.Input.{InputOf};
 
-use listing::Listed;
+use listing::MOST_TEXT;
+use plan_file::input::Input;
 
 // One byte more than an input may have. An input of this length is refused, so the rest of it need not be read.
 const READ_MOST: usize = 65537;
 
-// Lists an input of which the first `n` bytes of `array` were read. Writes the listing from the start of `text`, which has
-// room for every listing, and returns its length.
-fn list_read(array: &[u8], n: usize, text: &mut [u8; listing::MOST_TEXT]) -> usize
-    requires fact_1 { IsPrefixLen n array.now }
-    requires fact_2 { 65536 < length array.now }
-    requires fact_3 { length text.old ≡ 115625 }
-    ensures prefix_len { IsPrefixLen result text.new }
-    ensures by_index { (input : List ℕ) → ReadOf input array.now n → take result text.new ≡ listing input }
+// Lists what was read of an input, in `text`, which has room for every listing.
+fn list_read<'a>(read: &Input, text: &'a mut [u8; MOST_TEXT]) -> &'a [u8]
+    ensures { (input : List ℕ) → InputOf input read.now → result.now ≡ listing input }
 {
-    let Listed::Text(m) = listing::list_plan(&array[..n], text) else {
-        return 0;
+    let Ok(length) = listing::list_plan(read.bytes(), text) else {
+        return &[];
     };
-    m
+    &text[..length]
 }
 
 fn main() {
-    let mut file = [0u8; READ_MOST];
-    let n = io::read_full(0, &mut file);
-    let mut text = [0u8; listing::MOST_TEXT];
-    let m = list_read(&file, n, &mut text);
-    if !io::write_all(1, &text[..m]) {
+    let mut array = [0u8; READ_MOST];
+    let count = io::read_full(0, &mut array);
+    let read = Input {
+        array: &array,
+        count,
+    };
+    let mut text = [0u8; MOST_TEXT];
+    if !io::write_all(1, list_read(&read, &mut text)) {
         io::write_all(2, b"list_plan: the listing could not be written\n");
     }
 }

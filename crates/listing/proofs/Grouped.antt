@@ -1,19 +1,19 @@
 -- The lines of a node, written group by group, are its lines under the levels of its cuts.
 use Prim.Native.Nat.{ℕ, zero, suc, ◌+◌, ◌-◌, ◌≤◌, ◌<◌}
 use mathlib.Core.Path.{◌≡◌, ◌∙◌, refl, ap, ap₂, sym}
-use mathlib.Core.List.{List, [], ◌∷◌, ◌++◌, append_assoc, append-nil}
+use mathlib.Core.List.{List, [], ◌++◌, append_assoc, append-nil}
 use native.Mathlib.Numerals.{add-one}
 use native.Mathlib.Omega.{arith}
-use lib.ListN.{length, get_or, take}
+use lib.ListN.{length}
 use Rattle.task_model.specs.declared.Entry.{Entry}
 use Rattle.task_model.specs.Limits.{entry_at}
 use Rattle.completion.specs.Group.{group_level}
 use Rattle.completion.specs.Test.{completion_test}
 use Rattle.completion.proofs.Theorems.{by_answer}
 use Rattle.level_map.specs.Assignments.{level_of}
-use Rattle.level_map.specs.Cuts.{Falling, levels_of_cuts}
-use Rattle.level_map.proofs.Levels.{before}
-use Rattle.level_map.proofs.InOrder.{next_group}
+use Rattle.level_map.specs.declared.cuts.Cuts.{Cuts}
+use Rattle.level_map.specs.Cuts.{Falling, levels_of_cuts, before}
+use Rattle.level_map.specs.Found.{starts_in, levels_in}
 use Rattle.level_map.proofs.Grouping.{cut_level, cut_timed}
 use Rattle.listing.specs.Listing.{entry_text, entries_text}
 use Rattle.listing.specs.Groups.{timed_line, group_text}
@@ -66,22 +66,9 @@ module _ (es : List Entry) (s : List ℕ) (f : Falling s (length es)) (l : ℕ) 
       let e : before l m + (before (suc l) m - before l m) ≡ before (suc l) m = omega arith in
       rw (p, q) (rw e at (group_lines (before (suc l) m - before l m) (omega arith)))
 
--- the group behind `level` groups is from `first` up to `end`, and its lines follow theirs
-abbrev pub NextGroup : List Entry → ℕ → List ℕ → ℕ → ℕ → ℕ → Type 0
-NextGroup es n levels level first end =
-    (first ≤ end) × (end ≤ n) × (end ≡ before (level + 1 + 1) levels)
-    × (entries_text es levels end ≡ entries_text es levels first ++ group_text es first (end - 1) (level + 1) (end - first))
-
--- the groups of n entries one after the other, from the most urgent on, with the cuts at the start of an array
-module _ (es : List Entry) (n : ℕ) (sized : length es ≡ n) (cuts : List ℕ) (groups : ℕ) (inside : groups ≤ length cuts)
-    (f : Falling (take groups cuts) n) where
-  pub next_lines : (level first end : ℕ) → level < groups → first ≡ before (level + 1) (levels_of_cuts (take groups cuts) n)
-      → end ≡ get_or (n ∷ cuts) (groups - 1 - level) 0 → NextGroup es n (levels_of_cuts (take groups cuts) n) level first end
-  next_lines level first end h p q =
-      let l = level + 1 in
-      let g = next_group n cuts groups inside f level first end h p q in (
-        g.0,
-        g.1,
-        g.2 ∙ ap (λ k. before k (levels_of_cuts (take groups cuts) n)) (sym (add-one l)),
-        (rw sized at (group_whole es (take groups cuts) (rw sized f) l first end (rw sized p) (rw sized g.2) g.0)),
-      )
+-- the same for the groups of the cuts of a node
+module _ (es : List Entry) (c : Cuts) (sized : length es ≡ c.count) where
+  pub group_next : (l first end : ℕ) → first ≡ before l (levels_in c) → end ≡ before (suc l) (levels_in c) → first ≤ end
+      → entries_text es (levels_in c) end ≡ entries_text es (levels_in c) first ++ group_text es first (end - 1) l (end - first)
+  group_next l first end p q h =
+      rw sized at (group_whole es (starts_in c) (rw sized c.falling) l first end (rw sized p) (rw sized q) h)

@@ -6,6 +6,7 @@ pub mod Cases
 pub mod Long
 pub mod Inside
 pub mod Theorems
+pub mod Shown
 pub mod Agreeing
 pub mod WithoutJitter
 pub mod AnyOverrun

@@ -7,12 +7,14 @@ use native.Mathlib.Numerals.{add-one}
 use native.Mathlib.Omega.{arith}
 use lib.ListN.{length, drop}
 use borrow.Author.Tests.{le-leb, lt-leb}
+use Rattle.std.specs.Prelude.{Result, Ok, Err}
+use Rattle.refusals.specs.declared.Refusal.{Refusal}
 use Rattle.task_model.specs.declared.Entry.{Entry}
 use Rattle.refusals.specs.Refusals.{Numbered, at, accepted, refused}
 use Rattle.task_model.specs.Limits.{Node, entry_at}
 use Rattle.completion.specs.Test.{on_time, late, completion_test}
 use Rattle.plan_file.specs.Plan.{most_nodes, Plan}
-use Rattle.refusals.specs.Answers.{Answer, gives, refuses, left}
+use Rattle.refusals.specs.Answers.{Answer, gives, refuses, answered, left}
 use Rattle.plan_file.specs.Check.{file_check}
 use Rattle.plan_file.specs.Decoding.{node_count, plan_in}
 use Rattle.plan_file.proofs.Contents.{length-rows}
@@ -20,10 +22,8 @@ use Rattle.plan_file.proofs.File.{file_holds}
 use Rattle.plan_file.specs.Find.{row_in, node_of_row}
 use Rattle.level_map.specs.Assignments.{level_of, levels_used}
 use Rattle.level_map.specs.Map.{the_map}
-use Rattle.listing.specs.declared.Listed.{Listed}
-use Rattle.listing.specs.declared.Listed.TheVariants.{Text, Refused}
 use Rattle.listing.specs.Lines.{plan_line, node_line, no_map_line, entry_line, refused_line}
-use Rattle.listing.specs.Listing.{entry_text, entry_text_under, entries_text, entries_text_under, node_text, node_text_under, nodes_text, nodes_text_under, plan_text, plan_text_under, listing, listing_under, text_answer, list_answer, listed_gives}
+use Rattle.listing.specs.Listing.{entry_text, entry_text_under, entries_text, entries_text_under, node_text, node_text_under, nodes_text, nodes_text_under, plan_text, plan_text_under, listing, listing_under, text_answer, list_answer}
 
 module _ (es : List Entry) (m : List ℕ) where
   pub entry_on_time : (i time rounds : ℕ) → completion_test es (level_of m) i ≡ on_time time rounds
@@ -95,14 +95,14 @@ pub text_same : {s t : List ℕ} → s ≡ t → (a : Answer ℕ) (room : ℕ) (
     → new ≡ left a s old → (a ≡ text_answer t room) × (new ≡ left a t old)
 text_same e a room old p q = (p ∙ ap (λ u. text_answer u room) e, q ∙ ap (λ u. left a u old) e)
 
-only_text : (a : Listed) (n : ℕ) → listed_gives a ≡ gives n → a ≡ Text n
-only_text (Text m) n p = cc
-only_text (Refused r) n p = absurd (let z : ◌≡◌ {A = ℕ} 0 1 = cc in omega arith)
+only_text : (a : Result ℕ Refusal) (n : ℕ) → answered a ≡ gives n → a ≡ Ok n
+only_text (Ok m) n p = cc
+only_text (Err r) n p = absurd (let z : ◌≡◌ {A = ℕ} 0 1 = cc in omega arith)
 
 -- where the text fits, it is what the buffer begins with
-module _ (f old new : List ℕ) (a : Listed) (fits : length (listing f) ≤ length old) (p : listed_gives a ≡ list_answer f (length old))
-    (q : new ≡ left (listed_gives a) (listing f) old) where
-  pub listed_size : a ≡ Text (length (listing f))
+module _ (f old new : List ℕ) (a : Result ℕ Refusal) (fits : length (listing f) ≤ length old) (p : answered a ≡ list_answer f (length old))
+    (q : new ≡ left (answered a) (listing f) old) where
+  pub listed_size : a ≡ Ok (length (listing f))
   listed_size = only_text a (length (listing f)) (p ∙ text_fits (listing f) (length old) fits)
 
   pub listed_text : new ≡ listing f ++ drop (length (listing f)) old

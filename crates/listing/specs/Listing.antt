@@ -2,18 +2,16 @@
 use Rattle.std.specs.Prelude.{ℕ, zero, suc, List, [], ◌++◌, length, leb}
 use Rattle.std.proofs.Math.Option.{none, some}
 use Rattle.task_model.specs.declared.Entry.{Entry}
-use Rattle.refusals.specs.Refusals.{at, numbered, Outcome, accepted, refused, must_hold}
+use Rattle.refusals.specs.Refusals.{at, Outcome, accepted, refused, must_hold}
 use Rattle.task_model.specs.Limits.{Node, entry_at}
 use Rattle.completion.specs.Test.{on_time, late, completion_test}
 use Rattle.plan_file.specs.Plan.{Plan}
-use Rattle.refusals.specs.Answers.{Answer, gives, refuses, giving}
+use Rattle.refusals.specs.Answers.{Answer, giving}
 use Rattle.plan_file.specs.Check.{file_check}
 use Rattle.plan_file.specs.Decoding.{plan_in}
 use Rattle.plan_file.specs.Find.{row_in, node_of_row}
 use Rattle.level_map.specs.Assignments.{level_of, EntryTest, levels_used}
 use Rattle.level_map.specs.Map.{map_under}
-use Rattle.listing.specs.declared.Listed.{Listed}
-use Rattle.listing.specs.declared.Listed.TheVariants.{Text, Refused}
 use Rattle.listing.specs.Lines.{plan_line, node_line, no_map_line, entry_line, refused_line}
 
 -- From here on, `test` is the test that times the entries.
@@ -88,8 +86,3 @@ text_answer t room = giving (must_hold (leb (length t) room) (at 10 0 0)) (lengt
 -- The answer for a file: that for its listing.
 abbrev pub list_answer : List ℕ → ℕ → Answer ℕ
 list_answer f room = text_answer (listing f) room
-
--- What the code's answer says.
-abbrev pub listed_gives : Listed → Answer ℕ
-listed_gives (Text n) = gives n
-listed_gives (Refused r) = refuses (numbered r)

@@ -6,7 +6,7 @@ use mathlib.Core.Option.{none, some}
 use mathlib.Core.List.{List, ◌∷◌, ◌++◌}
 use native.Mathlib.Omega.{arith}
 use native.Mathlib.Decide.{dec_lt}
-use lib.ListN.{length, get_or, take, set, length-append, length-replicate, get_or-append, get_or-eq_default}
+use lib.ListN.{length, get_or, length-append, length-replicate, get_or-append, get_or-eq_default}
 use lib.Seq.{get_or-drop, drop_at, ext_get_or}
 use Rattle.task_model.specs.declared.Entry.{Entry}
 use Rattle.task_model.specs.Limits.{most_levels, most_entries}
@@ -15,8 +15,8 @@ use Rattle.completion.specs.Group.{group_level}
 use Rattle.completion.specs.Test.{completion_test, time_in}
 use Rattle.level_map.specs.Assignments.{EntryTest, level_of, levels_used}
 use Rattle.level_map.specs.Map.{map_under}
-use Rattle.level_map.specs.Cuts.{Falling, levels_of_cuts}
-use Rattle.level_map.proofs.Levels.{before, before_length}
+use Rattle.level_map.specs.Cuts.{Falling, levels_of_cuts, before}
+use Rattle.level_map.proofs.Levels.{before_length}
 use Rattle.level_map.proofs.Cutting.{length-levels}
 use Rattle.level_map.proofs.Grouping.{cut_level, cut_timed}
 use Rattle.map_store.specs.Store.{store_size, levels_at, times_at, padded, times_under, keeping, store_under}
@@ -32,14 +32,6 @@ module _ (test : EntryTest) (es : List Entry) where
   pub store_none : map_under test es most_levels ≡ none → store_under test es ≡ zeros store_size
   unfolding store_under keeping
   store_none p = ap (keeping test es) p
-
--- words that are cleared, and then have their first two stored
-module _ (w cleared : List ℕ) (sized : length w ≡ store_size) (p : cleared ≡ take 0 w ++ zeros (length w - 0)) where
-  pub all_clear : cleared ≡ zeros store_size
-  all_clear = let e : length w - 0 ≡ store_size = omega arith in p ∙ ap (λ n. zeros n) e
-
-  pub heads_stored : (used groups : ℕ) → groups ≡ used → set (set cleared 0 1) 1 groups ≡ 1 ∷ used ∷ zeros (2 * most_entries)
-  heads_stored used groups e = rw (all_clear, e)
 
 -- what a store with the map m has at each place
 module _ (test : EntryTest) (es : List Entry) (n : ℕ) (many : length es ≡ n) (m : List ℕ) (sized : length m ≡ n) (few : n ≤ most_entries) where

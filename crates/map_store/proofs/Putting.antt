@@ -1,19 +1,16 @@
--- Laws of words that a loop stores one by one into a store.
+-- Laws of words that are stored into a store, one by one or all with one value.
 use Prim.Native.Nat.{ℕ, ◌+◌, ◌≤◌, ◌<◌}
-use mathlib.Core.Path.{◌≡◌, ◌∙◌, refl}
+use mathlib.Core.Path.{◌≡◌, ◌∙◌}
 use mathlib.Core.Logic.{by_cases}
 use mathlib.Core.List.{List}
 use native.Mathlib.Omega.{arith}
 use native.Mathlib.Decide.{dec_lt}
 use lib.ListN.{length, set, length-set}
 use lib.Seq.{get_or-set_same, get_or-set_other}
+use Rattle.level_map.proofs.Filled.{Filled}
 use Rattle.map_store.specs.Putting.{Put}
 
 module _ (at first : ℕ) (f : ℕ → ℕ) (old : List ℕ) where
-  -- nothing yet
-  pub put_none : Put at first first f old old
-  put_none = record { sized = refl; here = λ j l u. absurd (omega arith); low = λ k h. refl; high = λ k h. refl }
-
   -- one word more
   pub put_next : (j v : ℕ) (w : List ℕ) → first ≤ j → at + j < length old → v ≡ f j → Put at first j f old w
       → Put at first (j + 1) f old (set w (at + j) v)
@@ -28,3 +25,13 @@ module _ (at first : ℕ) (f : ℕ → ℕ) (old : List ℕ) where
         low = λ k u. get_or-set_other w (at + j) k v 0 (λ q. omega arith) ∙ p.low k u;
         high = λ k u. get_or-set_other w (at + j) k v 0 (λ q. omega arith) ∙ p.high k (omega arith);
       }
+
+-- a part that is filled with one value
+pub put_filled : (at first end v : ℕ) (old new : List ℕ) → Filled (at + first) (at + end) v old new → Put at first end (λ j. v) old new
+put_filled at first end v old new f =
+    record {
+      sized = f.sized;
+      here = λ j l u. f.here (at + j) (omega arith) (omega arith);
+      low = f.low;
+      high = f.high;
+    }

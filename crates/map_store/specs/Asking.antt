@@ -1,14 +1,12 @@
 -- What is answered from a store, whatever words it has: its map, and the completion time of an entry under that map.
 use Rattle.std.specs.Prelude.{ℕ, List, length, leb, ltb}
-use Rattle.refusals.specs.Refusals.{at, numbered, Outcome, ◌and_then◌, must_hold}
-use Rattle.refusals.specs.Answers.{Answer, gives, refuses, giving}
+use Rattle.refusals.specs.Refusals.{at, Outcome, ◌and_then◌, must_hold}
+use Rattle.refusals.specs.Answers.{Answer, giving}
 use Rattle.task_model.specs.Limits.{Node}
 use Rattle.completion.specs.Test.{time_in}
 use Rattle.level_map.specs.Assignments.{EntryTest, level_of}
 use Rattle.level_map.specs.Map.{map_under}
 use Rattle.level_map.specs.Answer.{is_some, levels_under}
-use Rattle.map_store.specs.declared.StoredTime.{StoredTime}
-use Rattle.map_store.specs.declared.StoredTime.TheVariants.{At, Refused}
 use Rattle.map_store.specs.Store.{has_map, stored_used, stored_time}
 
 -- The checks of asking for the map of `count` entries on `levels` levels, into a buffer of `room` bytes: 10 if there are
@@ -29,11 +27,6 @@ time_check store levels count i = must_hold (ltb i count) (at 12 0 0) and_then m
 -- The answer: the refusal, or the completion time.
 unfoldable pub time_asked : List ℕ → ℕ → ℕ → ℕ → Answer ℕ
 time_asked store levels count i = giving (time_check store levels count i) (stored_time store i)
-
--- What the code's answer says.
-abbrev pub stored_gives : StoredTime → Answer ℕ
-stored_gives (At time) = gives time
-stored_gives (Refused r) = refuses (numbered r)
 
 -- What the store of a node is to answer, worked out afresh from the node under a test. For the map this is `held_answer_under` of
 -- level_map. For the completion time of the entry at i under that map: 12 if there is no such entry, 11 if no map passes,

@@ -1,5 +1,5 @@
 -- What the loops write into a store. No promise of an entry for users mentions it.
-use Rattle.std.specs.Prelude.{ℕ, ◌+◌, ◌≤◌, ◌<◌, ◌≡◌, List, length, get_or}
+use Rattle.std.specs.Prelude.{ℕ, ◌+◌, ◌≤◌, ◌<◌, ◌≡◌, List, length, get_or, Option, None, Some}
 use Rattle.task_model.specs.declared.Entry.{Entry}
 use Rattle.completion.specs.Demand.{demand_with}
 use Rattle.task_model.specs.Limits.{entry_at, most_entries}
@@ -25,7 +25,8 @@ pub record Agrees (due : List ℕ) (first count : ℕ) (words : List ℕ) : Type
   pub times_beyond : (j : ℕ) → count ≤ j → j < most_entries → get_or words (times_at + j) 0 ≡ get_or due (times_at + j) 0
 
 -- What is known of the entries from `first` to `last`, a group: none whose B is at least `k.blocking` ends before `k.time`.
-abbrev pub Earliest : List Entry → ℕ → ℕ → Known → Type 0
-Earliest es first last k =
+abbrev pub Earliest : List Entry → ℕ → ℕ → Option Known → Type 0
+Earliest es first last None = Unit
+Earliest es first last (Some k) =
     (i : ℕ) → first ≤ i → i ≤ last → k.blocking ≤ (entry_at es i).blocking
     → (t : ℕ) → demand_with (entry_at es i).blocking es (group_level first last) i t ≤ t → k.time ≤ t

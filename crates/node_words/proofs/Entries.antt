@@ -1,38 +1,13 @@
--- Laws of the entries that words hold, and of checking them one by one.
-use Prim.Native.Nat.{ℕ, zero, suc, ◌+◌, ◌-◌, ◌≤◌, ◌<◌}
+-- Laws of the entries that words hold.
+use Prim.Native.Nat.{ℕ, zero, suc, ◌+◌, ◌≤◌, ◌<◌}
 use mathlib.Core.Path.{◌≡◌, ◌∙◌, refl, sym, ap}
-use mathlib.Core.List.{List, ◌∷◌}
+use mathlib.Core.List.{List}
 use native.Mathlib.Nat.{zero-add}
 use native.Mathlib.Omega.{arith}
-use native.Mathlib.Numerals.{add-one}
 use lib.ListN.{length}
-use Rattle.refusals.specs.Refusals.{Numbered, Outcome, accepted, refused}
 use Rattle.task_model.specs.Limits.{entry_at, EntryHolds, AllHold}
 use Rattle.task_model.specs.declared.Entry.{Entry}
-use Rattle.task_model.specs.Checks.{entries_by}
 use Rattle.node_words.specs.Words.{entry_of, entries_from, entries_of}
-use Rattle.task_model.proofs.Laws.{entries_next, entries_stop}
-
--- the entries from position `p` on, of `n`, which begin with entry `first`, checked one by one
-module _ (check : ℕ → Entry → Outcome) (ws : List ℕ) (first p n : ℕ) where
-  entries_first : p < n → entries_from ws (first + p) (n - p) ≡ entry_of ws (first + p) ∷ entries_from ws (first + (p + 1)) (n - (p + 1))
-  unfolding entries_from
-  entries_first h =
-      let e : n - p ≡ suc (n - (p + 1)) = omega arith in
-      let e2 : first + (p + 1) ≡ suc (first + p) = omega arith in
-      rw (e, e2, entries_from)
-
-  pub from_next : p < n → check p (entry_of ws (first + p)) ≡ accepted
-      → entries_by check p (entries_from ws (first + p) (n - p)) ≡ entries_by check (p + 1) (entries_from ws (first + (p + 1)) (n - (p + 1)))
-  from_next h q = rw (entries_first h) (entries_next check p (entry_of ws (first + p)) _ q ∙ rw (← add-one p))
-
-  pub from_stop : p < n → (r : Numbered) → check p (entry_of ws (first + p)) ≡ refused r
-      → entries_by check p (entries_from ws (first + p) (n - p)) ≡ refused r
-  from_stop h r q = rw (entries_first h) (entries_stop check p (entry_of ws (first + p)) _ r q)
-
-  pub from_end : n ≤ p → entries_by check p (entries_from ws (first + p) (n - p)) ≡ accepted
-  unfolding entries_by entries_from
-  from_end h = let e : n - p ≡ 0 = omega arith in rw (e, entries_from)
 
 pub length-entries : (ws : List ℕ) (j n : ℕ) → length (entries_from ws j n) ≡ n
 unfolding entries_from

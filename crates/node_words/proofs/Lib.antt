@@ -1,8 +1,6 @@
 -- Laws for the proofs of functions, here and in other crates.
 pub mod Entries
-pub mod Marks
 pub mod Words
-pub mod Copying
 pub mod Lists
 -- A list that is changed in place, in its words.
 pub mod Changing

@@ -7,21 +7,23 @@ use lib.ListN.{length, take, drop, length-append, length-drop}
 use lib.Seq.{length-take-le}
 use Rattle.task_model.specs.declared.Entry.{Entry}
 use Rattle.task_model.specs.Limits.{entry_at}
-use Rattle.node_words.specs.Lists.{insert_at, remove_at, replace_at}
+use Rattle.node_words.specs.Lists.{insert_at, remove_at, replace_at, splice}
 
--- the sizes of changed lists
-module _ (es : List Entry) (e : Entry) (p : ℕ) where
-  pub size_inserted : p ≤ length es → length (insert_at p e es) ≡ length es + 1
-  size_inserted h =
-      length-append (take p es) (e ∷ drop p es) ∙ omega (arith, length-take-le p es h, length-drop p es)
+-- the changes of one entry, as cases of one change
+module _ (p : ℕ) (es : List Entry) where
+  pub insert_is : (e : Entry) → insert_at p e es ≡ splice p 0 (e ∷ []) es
+  insert_is e = let h : p + 0 ≡ p = omega arith in rw h
 
-  pub size_replaced : p < length es → length (replace_at p e es) ≡ length es
-  size_replaced h =
-      length-append (take p es) (e ∷ drop (suc p) es) ∙ omega (arith, length-take-le p es (omega arith), length-drop (suc p) es)
+  pub remove_is : remove_at p es ≡ splice p 1 [] es
+  remove_is = let h : p + 1 ≡ suc p = omega arith in rw h
 
-pub size_removed : (es : List Entry) (p : ℕ) → p < length es → length (remove_at p es) ≡ length es - 1
-size_removed es p h =
-    length-append (take p es) (drop (suc p) es) ∙ omega (arith, length-take-le p es (omega arith), length-drop (suc p) es)
+  pub replace_is : (e : Entry) → replace_at p e es ≡ splice p 1 (e ∷ []) es
+  replace_is e = let h : p + 1 ≡ suc p = omega arith in rw h
+
+  pub size_spliced : (gone : ℕ) (new : List Entry) → p + gone ≤ length es → length (splice p gone new es) ≡ length es - gone + length new
+  size_spliced gone new h =
+      length-append (take p es) (new ++ drop (p + gone) es)
+      ∙ omega (arith, length-append new (drop (p + gone) es), length-take-le p es (omega arith), length-drop (p + gone) es)
 
 module _ (P : Entry → Type 0) where
   abbrev pub Each : List Entry → Type 0
@@ -52,11 +54,12 @@ module _ (P : Entry → Type 0) where
   each_drop (suc p) [] a = tt
   each_drop (suc p) (e ∷ es) a = each_drop p es a.1
 
+  pub each_spliced : (p gone : ℕ) (new es : List Entry) → Each new → Each es → Each (splice p gone new es)
+  each_spliced p gone new es h a =
+      each_append (take p es) (new ++ drop (p + gone) es) (each_take p es a) (each_append new (drop (p + gone) es) h (each_drop (p + gone) es a))
+
   pub each_inserted : (p : ℕ) (e : Entry) (es : List Entry) → P e → Each es → Each (insert_at p e es)
-  each_inserted p e es h a = each_append (take p es) (e ∷ drop p es) (each_take p es a) (h, each_drop p es a)
+  each_inserted p e es h a = rw (insert_is p es e) (each_spliced p 0 (e ∷ []) es (h, tt) a)
 
   pub each_removed : (p : ℕ) (es : List Entry) → Each es → Each (remove_at p es)
-  each_removed p es a = each_append (take p es) (drop (suc p) es) (each_take p es a) (each_drop (suc p) es a)
-
-  pub each_replaced : (p : ℕ) (e : Entry) (es : List Entry) → P e → Each es → Each (replace_at p e es)
-  each_replaced p e es h a = each_append (take p es) (e ∷ drop (suc p) es) (each_take p es a) (h, each_drop (suc p) es a)
+  each_removed p es a = rw (remove_is p es) (each_spliced p 1 [] es tt a)

@@ -1,4 +1,4 @@
 -- What a reader of a node's words must believe.
 pub mod Words
 pub mod Lists
-pub mod Marks
+pub mod Held

@@ -1,5 +1,5 @@
 -- How a change alters a list of entries, and how a node's words hold the list.
-use Rattle.std.specs.Prelude.{ℕ, suc, ◌-◌, List, ◌∷◌, ◌++◌, length, take, drop, replicate}
+use Rattle.std.specs.Prelude.{ℕ, suc, ◌+◌, ◌-◌, List, ◌∷◌, ◌++◌, length, take, drop, replicate}
 use Rattle.task_model.specs.declared.Entry.{Entry}
 use Rattle.node_words.specs.Words.{node_size}
 
@@ -14,6 +14,11 @@ remove_at position es = take position es ++ drop (suc position) es
 -- The list with e in place of the entry at a position.
 abbrev pub replace_at : ℕ → Entry → List Entry → List Entry
 replace_at position e es = take position es ++ e ∷ drop (suc position) es
+
+-- The list with new entries in place of the `gone` entries from a position on. The three changes above are cases of this
+-- (`insert_is`, `remove_is`, `replace_is`).
+abbrev pub splice : ℕ → ℕ → List Entry → List Entry → List Entry
+splice position gone new es = take position es ++ (new ++ drop (position + gone) es)
 
 -- n zero words.
 abbrev pub zeros : ℕ → List ℕ

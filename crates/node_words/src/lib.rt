@@ -1,6 +1,8 @@
 #![tactic(auto)]
 
 // The entries of a node as words of 32 bits: how they are read, stored, checked, and changed in place.
+pub mod held;
+pub mod in_words;
 pub mod list;
 pub mod numbers;
 
@@ -8,13 +10,14 @@ ghost use Rattle.std.specs.Prelude.{◌≡◌, length, ◌+◌, ◌*◌, ◌<◌
 ghost use Rattle.std.proofs.lemmas.List.Edits.{sets};
 ghost use Rattle.refusals.specs.Refusals.{outcome};
 ghost use Rattle.task_model.specs.Limits.{most_entries};
-ghost use Rattle.task_model.specs.Checks.{entries_check, body_check, node_check};
-ghost use Rattle.node_words.specs.Words.{entry_size, node_size, entry_words, entry_from, entry_of, entries_from, node_of};
-ghost use Rattle.node_words.specs.Marks.{mark_count};
+ghost use Rattle.task_model.specs.Checks.{node_check};
+ghost use Rattle.node_words.specs.Words.{entry_size, node_size, entry_words, entry_from, entry_of, node_of};
 
-use numbers::{MARKS, Marks, check_numbers};
-use refusals::{Checked, Refusal};
-use task_model::{Entry, MOST_ENTRIES, MOST_LEVELS, check_entry};
+use in_words::EntriesInWords;
+use numbers::MARKS;
+use refusals::Refusal;
+use task_model::entries::{ListCheck, Whole, WithinLimits};
+use task_model::{Entry, MOST_ENTRIES, MOST_LEVELS};
 
 // Sizes in words of 32 bits: of an entry, and of a node with room for all its entries (specs/Words.antt).
 pub const ENTRY_WORDS: usize = 6;
@@ -84,63 +87,32 @@ pub fn store_entry(words: &mut [u32], k: usize, e: Entry)
     words[k + 5] = e.jitter;
 }
 
-// Checks `count` entries, from entry `first` of the words on. Refuses the first that is not within the limits (7, 8, 14).
-pub fn check_entries(row: usize, words: &[u32], first: usize, count: usize) -> Checked
-    requires { (first + count) * entry_size ≤ length words.now }
-    ensures { outcome result ≡ entries_check row 0 (entries_from words.now first count) }
-{
-    let mut position: usize = 0;
-    while position < count {
-        let e = entry_of(words, (first + position) * ENTRY_WORDS);
-        let found = check_entry(row, position, e);
-        let Checked::Accepted = found else {
-            return found;
-        };
-        position += 1;
-    }
-    Checked::Accepted
-}
-
-// Checks `count` entries, from entry `first` of the words on: each of them (7, 8, 14), then their numbers (16).
-fn check_body(
-    row: usize,
-    words: &[u32],
-    first: usize,
-    count: usize,
-    marks: &mut Marks,
-    mark: u8,
-) -> Checked
-    requires { ((first + count) * entry_size ≤ length words.now) × (length marks.old ≡ mark_count) }
-    ensures { outcome result ≡ body_check row (entries_from words.now first count) }
-{
-    let found = check_entries(row, words, first, count);
-    let Checked::Accepted = found else {
-        return found;
-    };
-    check_numbers(row, words, first, count, marks, mark)
-}
-
 // Checks a node: its counts of levels and entries (4), then each entry (7, 8, 14), then their numbers (16).
-pub fn check_node(row: usize, words: &NodeWords, count: usize, levels: u8) -> Checked
+pub fn check_node(row: usize, words: &NodeWords, count: usize, levels: u8) -> Result<(), Refusal>
     ensures { outcome result ≡ node_check row (node_of words.now count levels) }
 {
     check_words(row, words, count, levels as u32)
 }
 
-// The same for a node whose words are a slice, and whose level count has 32 bits.
-pub fn check_words(row: usize, words: &[u32], count: usize, levels: u32) -> Checked
+// The same for a node whose words are a slice, and whose level count has 32 bits. (Both counts are what a session or a file
+// says; this is the check that makes them a node's.)
+pub fn check_words(row: usize, words: &[u32], count: usize, levels: u32) -> Result<(), Refusal>
     requires { node_size ≤ length words.now }
     ensures { outcome result ≡ node_check row (node_of words.now count levels) }
 {
     if levels < 1 {
-        return Checked::Refused(Refusal::Row { row });
+        return Err(Refusal::Row { row });
     }
     if (MOST_LEVELS as u32) < levels {
-        return Checked::Refused(Refusal::Row { row });
+        return Err(Refusal::Row { row });
     }
     if MOST_ENTRIES < count {
-        return Checked::Refused(Refusal::Row { row });
+        return Err(Refusal::Row { row });
     }
-    let mut marks: Marks = [0u8; MARKS];
-    check_body(row, words, 0, count, &mut marks, 1)
+    let entries = EntriesInWords {
+        words,
+        first: 0,
+        count,
+    };
+    Whole::<WithinLimits, MARKS>::new().check_all(row, &entries)
 }

@@ -1,46 +1,23 @@
 // Changes of a node's list of entries, made in place in its words and without any check. After a change, every word beyond
 // the last entry is zero.
-ghost use Rattle.std.specs.Prelude.{◌≡◌, ◌++◌, ◌+◌, ◌-◌, ◌≤◌, ◌<◌, length, take, drop};
-ghost use Rattle.std.proofs.Math.Seq.{paste};
+// The words are a slice with a known length, for a session lends a part of its words: what it holds after such a part was
+// lent as `&mut NodeWords` could not be proved.
+ghost use Rattle.std.specs.Prelude.{◌≡◌, ◌++◌, ◌+◌, ◌-◌, ◌*◌, ◌≤◌, length, take};
+ghost use Rattle.std.specs.Option.{option_to_list};
+ghost use Rattle.std.proofs.lemmas.List.Edits.{sets};
 ghost use Rattle.task_model.specs.Limits.{most_entries};
 ghost use Rattle.node_words.specs.Words.{entry_size, node_size, words_of, entries_of};
-ghost use Rattle.node_words.specs.Lists.{zeros, zero_padded, insert_at, remove_at, replace_at};
+ghost use Rattle.node_words.specs.Lists.{zeros, zero_padded, splice};
 
 use super::{ENTRY_WORDS, store_entry};
 use task_model::Entry;
-
-// Moves the `n` words from word `at` on up by one entry. The last word moves first, so none is overwritten before it has
-// moved.
-fn move_up(words: &mut [u32], at: usize, n: usize)
-    requires { at + entry_size + n ≤ length words.old }
-    ensures { words.new ≡ paste words.old (at + entry_size) (drop at words.old) n }
-{
-    let mut j = n;
-    while 0 < j {
-        j -= 1;
-        words[at + ENTRY_WORDS + j] = words[at + j];
-    }
-}
-
-// Moves `n` words down by one entry, to word `at`. The first word moves first.
-fn move_down(words: &mut [u32], at: usize, n: usize)
-    requires { at + entry_size + n ≤ length words.old }
-    ensures { words.new ≡ paste words.old at (drop (at + entry_size) words.old) n }
-{
-    for j in 0..n {
-        words[at + j] = words[at + ENTRY_WORDS + j];
-    }
-}
 
 // Sets every word to zero, from word `at` on.
 pub fn clear_from(words: &mut [u32], at: usize)
     requires { at ≤ length words.old }
     ensures { words.new ≡ take at words.old ++ zeros (length words.old - at) }
 {
-    let n = words.len() - at;
-    for j in 0..n {
-        words[at + j] = 0;
-    }
+    words[at..].fill(0);
 }
 
 // Keeps the first `count` entries, and clears every word beyond them.
@@ -51,38 +28,38 @@ pub fn keep_list(words: &mut [u32], count: usize)
     clear_from(words, count * ENTRY_WORDS);
 }
 
-// Inserts an entry before a position of a list of `count` entries.
-pub fn insert_at(words: &mut [u32], count: usize, position: usize, e: Entry)
-    requires { (length words.old ≡ node_size) × (position ≤ count) × (count < most_entries) }
-    ensures { words.new ≡ zero_padded (words_of (insert_at position e (entries_of words.old count))) }
+// Stores the words of an entry, if there is one, from word `k` on.
+fn store_new(words: &mut [u32], k: usize, new: Option<Entry>)
+    requires { k + length (option_to_list new) * entry_size ≤ length words.old }
+    ensures { words.new ≡ sets words.old k (words_of (option_to_list new)) }
 {
-    move_up(
-        words,
-        position * ENTRY_WORDS,
-        (count - position) * ENTRY_WORDS,
-    );
-    store_entry(words, position * ENTRY_WORDS, e);
-    clear_from(words, (count + 1) * ENTRY_WORDS);
+    if let Some(e) = new {
+        store_entry(words, k, e);
+    }
 }
 
-// Removes the entry at a position of a list of `count` entries.
-pub fn remove_at(words: &mut [u32], count: usize, position: usize)
-    requires { (length words.old ≡ node_size) × (position < count) × (count ≤ most_entries) }
-    ensures { words.new ≡ zero_padded (words_of (remove_at position (entries_of words.old count))) }
+// Puts an entry, if there is one, in place of the `gone` entries from a position of a list of `count` entries on. Gives how
+// many entries there are then.
+pub fn splice(
+    words: &mut [u32],
+    count: usize,
+    position: usize,
+    gone: usize,
+    new: Option<Entry>,
+) -> usize
+    requires size { length words.old ≡ node_size }
+    requires within { (position + gone ≤ count) × (count ≤ most_entries) }
+    requires room { count - gone + length (option_to_list new) ≤ most_entries }
+    ensures left { result ≡ count - gone + length (option_to_list new) }
+    ensures list { words.new ≡
+        zero_padded (words_of (splice position gone (option_to_list new) (entries_of words.old count))) }
 {
-    move_down(
-        words,
-        position * ENTRY_WORDS,
-        (count - position - 1) * ENTRY_WORDS,
-    );
-    clear_from(words, (count - 1) * ENTRY_WORDS);
-}
-
-// Replaces the entry at a position of a list of `count` entries.
-pub fn replace_at(words: &mut [u32], count: usize, position: usize, e: Entry)
-    requires { (length words.old ≡ node_size) × (position < count) × (count ≤ most_entries) }
-    ensures { words.new ≡ zero_padded (words_of (replace_at position e (entries_of words.old count))) }
-{
-    store_entry(words, position * ENTRY_WORDS, e);
-    clear_from(words, count * ENTRY_WORDS);
+    let come = usize::from(new.is_some());
+    let at = position * ENTRY_WORDS;
+    let behind = (position + gone) * ENTRY_WORDS;
+    words.copy_within(behind..count * ENTRY_WORDS, at + come * ENTRY_WORDS);
+    store_new(words, at, new);
+    let left = count - gone + come;
+    clear_from(words, left * ENTRY_WORDS);
+    left
 }

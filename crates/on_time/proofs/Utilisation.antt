@@ -60,12 +60,6 @@ module _ (d : ℕ) (e : Entry) where
       (λ h. omega (arith, (recurs h).1))
       (λ h. omega (arith, (recurs_not (omega arith)).1))
 
-  pub recurring_utilisation_most : EntryHolds e → recurring_utilisation d e ≤ full_utilisation
-  recurring_utilisation_most ok =
-      by_cases (dec_lt e.period (d + e.jitter))
-      (λ h. omega (arith, (recurs h).0, utilisation_most e ok))
-      (λ h. omega (arith, (recurs_not (omega arith)).0))
-
   -- one job, or the utilisation times t + J, is no more than the interference
   recurring_runs : EntryHolds e → (t : ℕ) → 1 ≤ t
       → full_utilisation * e.wcet + recurring_jitter d e + recurring_utilisation d e * t

@@ -1,133 +1,25 @@
 -- Laws of checking entries one by one and node by node, by any check of one entry.
-use Prim.Native.Nat.{ℕ, zero, suc, ◌+◌, ◌*◌, ◌-◌, ◌≤◌, ◌<◌}
+use Prim.Native.Nat.{ℕ, zero, suc, ◌+◌, ◌-◌, ◌≤◌, ◌<◌}
 use mathlib.Core.Path.{◌≡◌, ◌∙◌, refl, sym, ap}
 use mathlib.Core.Logic.{◌↔◌, ⊎_elim}
-use mathlib.Core.Bool.{Bool, true, false, false≢true}
 use mathlib.Core.List.{List, [], ◌∷◌}
 use native.Mathlib.Omega.{arith}
-use native.Mathlib.Numerals.{add-one}
-use native.Mathlib.Nat.{add-zero, add_assoc, zero-mul, suc-mul}
 use lib.ListN.{length, take, drop, length-take, length-drop}
 use lib.Seq.{get_or-take, get_or-drop, drop-drop}
 use lib.Dec.{ltb}
 use borrow.Author.Tests.{ltb-true, ltb-false}
 use Rattle.task_model.specs.declared.Entry.{Entry}
-use Rattle.refusals.specs.Refusals.{Numbered, Outcome, accepted, refused, ◌and_then◌}
-use Rattle.task_model.specs.Checks.{entry_check, entries_by, each_by, entries_check}
-use Rattle.task_model.specs.Limits.{no_entry, entry_at, EntryHolds, AllHold}
+use Rattle.refusals.specs.Refusals.{Numbered, Outcome, accepted, refused}
+use Rattle.task_model.specs.Checks.{each_by}
+use Rattle.task_model.specs.Limits.{no_entry, entry_at}
 use Rattle.task_model.proofs.Tests.{true_or_false}
-use Rattle.task_model.proofs.Laws.{entries_next, entries_stop}
 use Rattle.task_model.proofs.Each.{each_refused}
 use Rattle.task_model.proofs.Theorems.{each_exactly}
 use Rattle.plan_file.specs.declared.Row.{Row}
 use Rattle.plan_file.specs.Check.{bodies_by, nodes_by}
 use Rattle.plan_file.specs.Find.{row_in}
 use Rattle.plan_file.specs.Plan.{entry_count}
-use Rattle.byte_words.proofs.Runs.{AtHand, run_length, run_get, run_hand, run_none}
-use Rattle.plan_file.specs.declared.Edition.{Edition}
-use Rattle.plan_file.specs.declared.Edition.TheVariants.{First, Second}
-use Rattle.plan_file.specs.Encoding.{entry_length}
-use Rattle.plan_file.specs.Decoding.{entry_in, entries_at}
-use Rattle.plan_file.proofs.Contents.{entries_run}
 use Rattle.refusals.proofs.Outcomes.{either, not_both, both_accepted, then_refused, then_accepted}
-
--- the entries of one body from position `j` on
-module _ (check : ℕ → Entry → Outcome) where
-  pub body_here : {es : List Entry} {j : ℕ} {e : Entry} → AtHand es j e → (o : Outcome) → check j e ≡ o
-      → entries_by check j (drop j es) ≡ o and_then entries_by check (j + 1) (drop (j + 1) es)
-  body_here {j} {e} h accepted p = rw (h.here, add-one j) (entries_next check j e _ p)
-  body_here {j} {e} h (refused r) p = rw h.here (entries_stop check j e _ r p)
-
-  pub body_end : (j : ℕ) (es : List Entry) → es ≡ [] → entries_by check j es ≡ accepted
-  unfolding entries_by
-  body_end j es e = rw e
-
--- A loop over the entries of a body in a file has come to a position, at byte `k`, and accepted those before.
-abbrev pub Come : Edition → List ℕ → ℕ → ℕ → ℕ → ℕ → ℕ → Type 0
-Come ed f row start count k position =
-    (k ≡ start + position * entry_length ed)
-    × (position ≤ count)
-    × (entries_check row position (drop position (entries_at ed f start count)) ≡ entries_check row 0 (entries_at ed f start count))
-
-pub come_first : (ed : Edition) (f : List ℕ) (row start count : ℕ) → Come ed f row start count start 0
-come_first ed f row start count = (rw (zero-mul, add-zero), omega arith, refl)
-
--- the place of the next entry
-pub next_place : (ed : Edition) (start k position : ℕ) → k ≡ start + position * entry_length ed
-    → k + entry_length ed ≡ start + (position + 1) * entry_length ed
-next_place ed start k position e =
-    ap (λ x. x + entry_length ed) e ∙ rw (add-one position, suc-mul position (entry_length ed)) (add_assoc start _ _)
-
--- the entry at a position is inside
-pub come_inside : (ed : Edition) (start count k position n : ℕ) → k ≡ start + position * entry_length ed → position < count
-    → start + count * entry_length ed ≤ n → k + entry_length ed ≤ n
-come_inside First start count k position n e h l = omega arith
-come_inside Second start count k position n e h l = omega arith
-
-module _ (ed : Edition) (f : List ℕ) (row start count k position : ℕ) (come : Come ed f row start count k position) where
-  -- the entry there
-  at_entry : (e : Entry) → position < count → e ≡ entry_in ed f k → AtHand (entries_at ed f start count) position e
-  at_entry e h q = run_hand (entries_run ed f) start count position k e h come.0 q
-
-  pub come_stop : (e : Entry) (r : Numbered) → position < count → e ≡ entry_in ed f k → entry_check row position e ≡ refused r
-      → refused r ≡ entries_check row 0 (entries_at ed f start count)
-  come_stop e r h q p = sym (body_here (entry_check row) (at_entry e h q) (refused r) p) ∙ come.2
-
-  pub come_next : (e : Entry) → position < count → e ≡ entry_in ed f k → entry_check row position e ≡ accepted
-      → Come ed f row start count (k + entry_length ed) (position + 1)
-  come_next e h q p = (
-    next_place ed start k position come.0,
-    omega arith,
-    sym (body_here (entry_check row) (at_entry e h q) accepted p) ∙ come.2,
-  )
-
-  pub come_end : count ≤ position → accepted ≡ entries_check row 0 (entries_at ed f start count)
-  come_end h = sym (body_end (entry_check row) position _ (run_none (entries_run ed f) start count position h)) ∙ come.2
-
--- a test that answers whether a fact holds
-pub says_no : {A : Type 0} → (A → ⊥) → (false ≡ true) ↔ A
-says_no n = (λ p. absurd (false≢true p), λ a. absurd (n a))
-
-pub says_yes : {A : Type 0} → A → (true ≡ true) ↔ A
-says_yes a = (λ p. a, λ q. refl)
-
-pub said_no : {A : Type 0} {b : Bool} → (b ≡ true) ↔ A → b ≡ false → A → ⊥
-said_no i p a = false≢true (sym p ∙ i.1 a)
-
--- A loop over entries in a file has come to a position, at byte `k`, and those before are within the limits.
-abbrev pub Held : Edition → List ℕ → ℕ → ℕ → ℕ → ℕ → Type 0
-Held ed f start count k position =
-    (k ≡ start + position * entry_length ed)
-    × (position ≤ count)
-    × ((j : ℕ) → j < position → EntryHolds (entry_in ed f (start + j * entry_length ed)))
-
-pub held_first : (ed : Edition) (f : List ℕ) (start count : ℕ) → Held ed f start count start 0
-held_first ed f start count = (rw (zero-mul, add-zero), omega arith, λ j h. absurd (omega arith))
-
-module _ (ed : Edition) (f : List ℕ) (start count k position : ℕ) (held : Held ed f start count k position) where
-  -- entry `j` of all
-  entry_there : (j : ℕ) → j < count → entry_at (entries_at ed f start count) j ≡ entry_in ed f (start + j * entry_length ed)
-  entry_there j h = run_get (entries_run ed f) start count j no_entry h
-
-  pub held_stop : (e : Entry) → position < count → e ≡ entry_in ed f k → (EntryHolds e → ⊥) → AllHold (entries_at ed f start count) → ⊥
-  held_stop e h q n all =
-      n (rw (q, held.0, ← entry_there position h) (all position (omega (arith, run_length (entries_run ed f) start count))))
-
-  pub held_next : (e : Entry) → position < count → e ≡ entry_in ed f k → EntryHolds e
-      → Held ed f start count (k + entry_length ed) (position + 1)
-  held_next e h q holds = (
-    next_place ed start k position held.0,
-    omega arith,
-    λ j l.
-        ⊎_elim (λ t. held.2 j (ltb-true j position t))
-        (λ t. let z : j ≡ position = omega (arith, ltb-false j position t) in rw (z, ← held.0, ← q) holds)
-        (true_or_false (ltb j position)),
-  )
-
-  pub held_end : count ≤ position → AllHold (entries_at ed f start count)
-  held_end h j l =
-      let i : j < count = omega (arith, run_length (entries_run ed f) start count) in
-      rw (entry_there j i) (held.2 j (omega arith))
 
 -- every entry of a list is as P says
 abbrev pub Each : (Entry → Type 0) → List Entry → Type 0

@@ -24,7 +24,7 @@ use Rattle.plan_file.specs.Limits.{EditionFits}
 use Rattle.refusals.proofs.Outcomes.{both_accepted, demanded}
 use Rattle.plan_file.proofs.Tests.{Opens, edition_opens, opens_known, row_holds, counted_true}
 use Rattle.byte_words.proofs.Words.{length-low}
-use Rattle.plan_file.proofs.Words.{row_bytes_lem, entry_bytes_lem}
+use Rattle.plan_file.proofs.Words.{row_of_word, row_bytes_lem, entry_bytes_lem}
 use Rattle.plan_file.proofs.Encoding.{entry_short, length-entry, length-encoding}
 use Rattle.plan_file.proofs.Bodies.{Each}
 use Rattle.plan_file.proofs.Header.{header_accepted}
@@ -51,15 +51,6 @@ module _ (f : List ℕ) (k : ℕ) where
         byte_there (low 4 w ++ rest) e 2,
         byte_there (low 4 w ++ rest) e 3,
       )
-
--- a row is that of its word
-row_same : {a b c a' b' c' : ℕ} → a ≡ a' → b ≡ b' → c ≡ c'
-    → ◌≡◌ {A = Row} (record { number = a; levels = b; count = c }) (record { number = a'; levels = b'; count = c' })
-row_same p q r = cc
-
-row_of_word : (r : Row) → RowFits r → row_of (row_word r) ≡ r
-unfolding row_of row_word
-row_of_word r h = row_same (omega arith) (omega arith) (omega arith)
 
 row_word_below : (r : Row) → RowFits r → row_word r < 4294967296
 unfolding row_word

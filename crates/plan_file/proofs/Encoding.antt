@@ -1,9 +1,10 @@
 -- Laws of the encoding: its lengths, and one more row at the end.
 use Prim.Native.Nat.{ℕ, ◌+◌, ◌-◌, ◌*◌, ◌/◌, ◌%◌, ◌≤◌}
-use mathlib.Core.Path.{◌≡◌, ◌∙◌, refl, sym}
+use mathlib.Core.Path.{◌≡◌, ◌∙◌, refl, sym, ap}
 use mathlib.Core.List.{List, [], ◌∷◌, ◌++◌, append_assoc, append-nil}
 use native.Mathlib.Omega.{arith}
-use lib.ListN.{length, get_or, length-append}
+use borrow.Rule.Slice.PartMut.{put_mid}
+use lib.ListN.{length, set, take, drop, length-append, length-set, length-take, length-drop}
 use Rattle.task_model.specs.declared.Entry.{Entry}
 use Rattle.plan_file.specs.declared.Edition.{Edition}
 use Rattle.plan_file.specs.declared.Edition.TheVariants.{First, Second}
@@ -24,6 +25,7 @@ use Rattle.plan_file.specs.Encoding.{
   encoding,
 }
 use Rattle.byte_words.specs.Bytes.{low}
+use Rattle.byte_words.specs.Buffers.{over}
 
 pub count_snoc : (rs : List Row) (r : Row) → entry_count (rs ++ (r ∷ [])) ≡ entry_count rs + r.count
 unfolding entry_count
@@ -53,12 +55,41 @@ unfolding header_bytes low
 length-header First nodes = refl
 length-header Second nodes = refl
 
--- its bytes, stored one by one
-pub header_stored : (ed : Edition) (o : List ℕ) → o ≡ opening_bytes ed → (nodes : ℕ)
-    → get_or o 0 0 ∷ get_or o 1 0 ∷ get_or o 2 0 ∷ get_or o 3 0 ∷ nodes % 256 ∷ 0 ∷ 0 ∷ 0 ∷ [] ≡ header_bytes ed nodes
-unfolding header_bytes low
-header_stored First o e nodes = rw e
-header_stored Second o e nodes = rw e
+opening_four : (ed : Edition) → length (opening_bytes ed) ≡ 4
+opening_four First = refl
+opening_four Second = refl
+
+-- its bytes, stored part by part
+pub header_stored : (ed : Edition) (nodes : ℕ) (o z d : List ℕ) → o ≡ opening_bytes ed → z ≡ 0 ∷ 0 ∷ 0 ∷ [] → 8 ≤ length d
+    → put_mid 5 3 (set (o ++ drop 4 d) 4 (nodes % 256)) z ≡ over d 0 (header_bytes ed nodes)
+unfolding over header_bytes low
+header_stored ed nodes o z [] e f h = absurd (omega arith)
+header_stored ed nodes o z (a ∷ []) e f h = absurd (omega arith)
+header_stored ed nodes o z (a ∷ b ∷ []) e f h = absurd (omega arith)
+header_stored ed nodes o z (a ∷ b ∷ c ∷ []) e f h = absurd (omega arith)
+header_stored ed nodes o z (a ∷ b ∷ c ∷ k ∷ []) e f h = absurd (omega arith)
+header_stored ed nodes o z (a ∷ b ∷ c ∷ k ∷ l ∷ []) e f h = absurd (omega arith)
+header_stored ed nodes o z (a ∷ b ∷ c ∷ k ∷ l ∷ m ∷ []) e f h = absurd (omega arith)
+header_stored ed nodes o z (a ∷ b ∷ c ∷ k ∷ l ∷ m ∷ n ∷ []) e f h = absurd (omega arith)
+header_stored First nodes o z (a ∷ b ∷ c ∷ k ∷ l ∷ m ∷ n ∷ p ∷ d) e f h = rw (e, f)
+header_stored Second nodes o z (a ∷ b ∷ c ∷ k ∷ l ∷ m ∷ n ∷ p ∷ d) e f h = rw (e, f)
+
+-- the last three
+pub header_zeros : (ed : Edition) (o d : List ℕ) (x : ℕ) → o ≡ opening_bytes ed → 8 ≤ length d
+    → length (take 3 (drop 5 (set (o ++ drop 4 d) 4 x))) ≡ 3
+header_zeros ed o d x e h =
+    let four : length (opening_bytes ed) ≡ 4 = opening_four ed in
+    let l : List ℕ = set (o ++ drop 4 d) 4 x in
+    omega (
+      arith,
+      ap length e,
+      four,
+      length-take 3 (drop 5 l),
+      length-drop 5 l,
+      length-set (o ++ drop 4 d) 4 x,
+      length-append o (drop 4 d),
+      length-drop 4 d,
+    )
 
 -- as many entries as there are, or fewer, lie inside
 pub entries_inside : (ed : Edition) (total start m n : ℕ) → total ≡ start + m * entry_length ed → n ≤ m

@@ -10,7 +10,8 @@ use Rattle.byte_words.specs.Bytes.{Bytes}
 use Rattle.plan_file.specs.declared.Edition.{Edition}
 use Rattle.plan_file.specs.Check.{file_check, words_check}
 use Rattle.plan_file.specs.Limits.{IsPlanFile, IsPlanInMemory}
-use Rattle.plan_file.specs.Answers.{Filled, ReadCall, WriteCall}
+use Rattle.plan_file.specs.declared.ReadPlan.{ReadPlan}
+use Rattle.plan_file.specs.Answers.{ReadCall, WriteCall}
 use Rattle.plan_file.specs.RoundTrips.{WrittenAgain, ReadAgain}
 use Rattle.plan_file.proofs.Theorems.{file_limits, words_limits}
 use Rattle.plan_file.proofs.RoundTrips.{written_again, read_again}
@@ -22,7 +23,7 @@ pub plan_ensures : (ed : Edition) (rs ws : List ℕ) {o : Outcome} → o ≡ wor
     → (o ≡ words_check ed rs ws) × (o ≡ accepted ↔ IsPlanInMemory ed rs ws)
 plan_ensures ed rs ws e = (e, (λ p. (words_limits ed rs ws).0 (sym e ∙ p), λ h. e ∙ (words_limits ed rs ws).1 h))
 
-pub read_ensures : {f rows words : List ℕ} {a : Answer Filled} {rowsLeft words_left : List ℕ} → Bytes f
+pub read_ensures : {f rows words : List ℕ} {a : Answer ReadPlan} {rowsLeft words_left : List ℕ} → Bytes f
     → ReadCall f rows words a rowsLeft words_left
     → ReadCall f rows words a rowsLeft words_left × WrittenAgain f a rowsLeft words_left
 read_ensures b c = (c, written_again _ _ _ _ _ _ b c)

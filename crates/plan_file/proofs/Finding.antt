@@ -1,20 +1,24 @@
 -- Laws of the search for a row by its number.
 use Prim.Native.Nat.{ℕ, zero, suc, ◌+◌, ◌≤◌, ◌<◌}
-use mathlib.Core.Path.{◌≡◌, ◌∙◌, ap}
+use mathlib.Core.Path.{◌≡◌, ◌∙◌, refl, ap}
+use mathlib.Core.Bool.{true, false}
 use mathlib.Core.Logic.{◌⊎◌, inl, inr, ⊎_elim}
 use mathlib.Core.List.{List, [], ◌∷◌}
+use Rattle.std.specs.Prelude.{Some, None}
 use native.Mathlib.Omega.{arith}
 use lib.ListN.{length, drop}
-use lib.Dec.{eqb}
-use borrow.Author.Tests.{eq-eqb, ne_eqb, eqb-true, eqb-false}
+use lib.Dec.{eqb, ltb}
+use borrow.Author.Tests.{eq-eqb, ne_eqb, eqb-true, eqb-false, lt-ltb, le-ltb, ltb-true, ltb-false}
 use Rattle.refusals.specs.Refusals.{accepted, must_hold}
 use Rattle.task_model.proofs.Tests.{true_or_false}
 use Rattle.plan_file.specs.declared.Row.{Row}
 use Rattle.plan_file.specs.Check.{row_test, rows_check}
-use Rattle.plan_file.specs.Find.{row_in, row_of_number}
+use Rattle.plan_file.specs.Find.{row_in, row_of_number, first_row}
 use Rattle.refusals.proofs.Outcomes.{both_accepted, demanded}
 use Rattle.plan_file.proofs.Tests.{RowHolds, row_holds}
 use Rattle.byte_words.proofs.Runs.{AtHand}
+use Rattle.plan_file.specs.Decoding.{node_count, rows_in}
+use Rattle.plan_file.proofs.Contents.{length-rows}
 
 pub found_here : (number : ℕ) (r : Row) (rs : List Row) → r.number ≡ number → row_of_number number (r ∷ rs) ≡ 0
 unfolding row_of_number
@@ -37,6 +41,39 @@ module _ (number : ℕ) {rows : List Row} {i : ℕ} {r : Row} (h : AtHand rows i
 pub search_end : (number i : ℕ) (rs : List Row) → rs ≡ [] → i + row_of_number number rs ≡ i
 unfolding row_of_number
 search_end number i rs e = rw e (omega arith)
+
+-- what the search gives
+pub some_row : (number : ℕ) (rs : List Row) (i : ℕ) → i ≡ row_of_number number rs → i < length rs → first_row number rs ≡ Some i
+unfolding first_row
+some_row number rs i e h = rw (lt-ltb (row_of_number number rs) (length rs) (omega (arith, e)), first_row, e)
+
+pub no_row_lem : (number : ℕ) (rs : List Row) (i : ℕ) → i ≡ row_of_number number rs → length rs ≤ i → first_row number rs ≡ None
+unfolding first_row
+no_row_lem number rs i e h = rw (le-ltb (row_of_number number rs) (length rs) (omega (arith, e)), first_row)
+
+-- and what it means, for the rows of a file
+pub found_row : (f : List ℕ) (number i : ℕ) → Some i ≡ first_row number (rows_in f) → (i ≡ row_of_number number (rows_in f)) × (i < node_count f)
+found_row f number i p =
+    let k : ℕ = row_of_number number (rows_in f) in
+    ⊎_elim
+    (λ (t : ltb k (length (rows_in f)) ≡ true).
+    let same : Some i ≡ Some k = p ∙ some_row number (rows_in f) k refl (ltb-true _ _ t) in
+    let e : i ≡ k = cc in
+    (e, omega (arith, e, ltb-true _ _ t, length-rows f 0 (node_count f))))
+    (λ (t : ltb k (length (rows_in f)) ≡ false).
+    let none : Some i ≡ None = p ∙ no_row_lem number (rows_in f) k refl (ltb-false _ _ t) in
+    absurd (let z : ◌≡◌ {A = ℕ} 0 1 = cc in omega arith))
+    (true_or_false (ltb k (length (rows_in f))))
+
+pub missing_row : (f : List ℕ) (number : ℕ) → None ≡ first_row number (rows_in f) → node_count f ≤ row_of_number number (rows_in f)
+missing_row f number p =
+    let k : ℕ = row_of_number number (rows_in f) in
+    ⊎_elim
+    (λ (t : ltb k (length (rows_in f)) ≡ true).
+    let some : None ≡ Some k = p ∙ some_row number (rows_in f) k refl (ltb-true _ _ t) in
+    absurd (let z : ◌≡◌ {A = ℕ} 0 1 = cc in omega arith))
+    (λ (t : ltb k (length (rows_in f)) ≡ false). omega (arith, ltb-false _ _ t, length-rows f 0 (node_count f)))
+    (true_or_false (ltb k (length (rows_in f))))
 
 -- each of the rows within the checks is within its limits
 pub rows_each : (k least : ℕ) (rs : List Row) → rows_check k least rs ≡ accepted → (i : ℕ) → i < length rs → RowHolds 0 (row_in rs i)

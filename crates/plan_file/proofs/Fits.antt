@@ -10,9 +10,8 @@ use Rattle.node_words.proofs.Words.{write_entries}
 use Rattle.plan_file.specs.Plan.{entry_count, row_word, row_of, RowFits, RowsFit, PlanFits}
 use Rattle.plan_file.specs.Encoding.{header_length, row_length, bodies_start}
 use Rattle.byte_words.specs.Bytes.{Bytes, word_at}
-use Rattle.plan_file.specs.Decoding.{edition_of, node_count, rows_from, rows_in, plan_in}
-use Rattle.plan_file.proofs.Words.{row_word_lem}
-use Rattle.byte_words.proofs.Words.{word_below}
+use Rattle.plan_file.specs.Decoding.{edition_of, node_count, row_at, rows_from, rows_in, plan_in}
+use Rattle.plan_file.proofs.Words.{row_word_lem, row_of_word}
 use Rattle.plan_file.proofs.Memory.{entries_at_fit}
 
 row_fits : (w : ℕ) → RowFits (row_of w)
@@ -32,15 +31,15 @@ pub entries_words : (ws : List ℕ) → WordsFit ws → (n : ℕ) → n * entry_
 entries_words ws h n e = write_entries n ws h (omega arith) ∙ take_all (n * entry_size) ws (omega arith)
 
 -- the rows that the words of rows hold
-pub rows_words : (f : List ℕ) (i n : ℕ) → Bytes f → map row_of (map row_word (rows_from f i n)) ≡ rows_from f i n
+pub rows_words : (f : List ℕ) (i n : ℕ) → map row_of (map row_word (rows_from f i n)) ≡ rows_from f i n
 unfolding rows_from
-rows_words f i zero b = refl
-rows_words f i (suc n) b = rw (row_word_lem (word_at f (header_length + i * row_length)) (word_below f b (header_length + i * row_length)), rows_words f (suc i) n b)
+rows_words f i zero = refl
+rows_words f i (suc n) = rw (row_of_word (row_at f i) (row_fits (word_at f (header_length + i * row_length))), rows_words f (suc i) n)
 
 -- in a file
 pub plan_fits : (f : List ℕ) → Bytes f → PlanFits (plan_in f)
 plan_fits f b =
     record {
-      rows = rw (← rows_words f 0 (node_count f) b) (words_fit_rows (map row_word (rows_in f)));
+      rows = rw (← rows_words f 0 (node_count f)) (words_fit_rows (map row_word (rows_in f)));
       entries = entries_at_fit (edition_of f) f b (bodies_start (node_count f)) (entry_count (rows_in f));
     }

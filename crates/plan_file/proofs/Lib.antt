@@ -15,7 +15,6 @@ pub mod Memory
 -- The parts of a plan that the writer is given, and what it stores.
 pub mod Encoding
 pub mod WriterChecks
-pub mod Quick
 -- What the reader, the finder and the writer answer.
 pub mod Finding
 pub mod Reading

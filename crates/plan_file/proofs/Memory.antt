@@ -1,11 +1,11 @@
 -- Laws of the entries of a file, taken as a plan or a node in memory.
-use Prim.Native.Nat.{ℕ, zero, suc, ◌+◌, ◌*◌, ◌≤◌, ◌<◌}
+use Prim.Native.Nat.{ℕ, zero, suc, ◌+◌, ◌-◌, ◌*◌, ◌/◌, ◌%◌, ◌≤◌, ◌<◌}
 use mathlib.Core.Path.{◌≡◌, ◌∙◌, refl, sym, ap}
 use mathlib.Core.List.{List, [], ◌∷◌, ◌++◌, append-nil}
-use native.Mathlib.Nat.{zero-add}
+use native.Mathlib.Nat.{zero-add, add-zero, add_assoc}
 use native.Mathlib.Omega.{arith}
-use lib.ListN.{length}
-use lib.Seq.{sets, take_all}
+use lib.ListN.{length, take, drop, length-drop}
+use lib.Seq.{sets, take_all, length-take-le}
 use Rattle.refusals.specs.Refusals.{accepted}
 use Rattle.task_model.specs.declared.Entry.{Entry}
 use Rattle.task_model.specs.Limits.{Node}
@@ -13,8 +13,8 @@ use Rattle.node_words.specs.Words.{entry_size, entry_words, entry_from, words_of
 use Rattle.node_words.proofs.Words.{length-entry, words_append, length-words as length-words-of, read_entries, write_entries, entries_fit}
 use Rattle.byte_words.specs.Bytes.{Bytes, words_from}
 use Rattle.byte_words.specs.Buffers.{over}
-use Rattle.byte_words.proofs.Words.{length-words, word_below}
-use Rattle.byte_words.proofs.Buffers.{over_start, stored, over_next}
+use Rattle.byte_words.proofs.Words.{length-words, word_below, words_behind}
+use Rattle.byte_words.proofs.Buffers.{over_start, stored, over_next, tail_of}
 use Rattle.byte_words.proofs.Runs.{run_split}
 use Rattle.plan_file.specs.declared.Edition.{Edition}
 use Rattle.plan_file.specs.declared.Edition.TheVariants.{First, Second}
@@ -108,3 +108,37 @@ entry_copied ed f k i d w e p q r h =
     stored w (i * entry_size) (entry_words e) (omega (arith, length-entry e))
     ∙ rw (p, more) (ap (λ j. over (over d 0 (words_of es)) j (entry_words e)) (sym (zero-add (i * entry_size)))
     ∙ over_next d 0 (i * entry_size) (words_of es) (entry_words e) l (omega arith))
+
+-- the words of whole entries
+pub words_whole : (ed : Edition) (f : List ℕ) (k m : ℕ) → m % entry_size ≡ 0 → length (words_of (entries_at ed f k (m / entry_size))) ≡ m
+words_whole ed f k m h = omega (arith, length-words-of (entries_at ed f k (m / entry_size)), length-entries_at ed f k (m / entry_size))
+
+-- entries that lie behind byte `k`
+entry_behind : (ed : Edition) (f : List ℕ) (k i : ℕ) → entry_in ed (drop k f) i ≡ entry_in ed f (k + i)
+entry_behind First f k i = ap (λ ws. entry_from (ws ++ (0 ∷ [])) 0) (words_behind f k i (file_words First))
+entry_behind Second f k i = ap (λ ws. entry_from ws 0) (words_behind f k i (file_words Second))
+
+module _ (ed : Edition) (f : List ℕ) (k : ℕ) where
+  pub entries_behind : (i n : ℕ) → entries_at ed (drop k f) i n ≡ entries_at ed f (k + i) n
+  unfolding entries_at
+  entries_behind i zero = refl
+  entries_behind i (suc n) = rw (entry_behind ed f k i, entries_behind (i + entry_length ed) n, add_assoc k i (entry_length ed))
+
+  -- `n` of them are copied to a buffer's start
+  module _ (n : ℕ) (d : List ℕ) (h : n * entry_size ≤ length d) where
+    taken : length (take (n * entry_size) d) / entry_size ≡ n
+    taken = omega (arith, length-take-le (n * entry_size) d h)
+
+    pub entries_room : k + n * entry_length ed ≤ length f
+        → (length (take (n * entry_size) d) % entry_size ≡ 0)
+        × (length (take (n * entry_size) d) / entry_size * entry_length ed ≤ length (take (length f - k) (drop k f)))
+    entries_room r = (omega (arith, length-take-le (n * entry_size) d h), rw (taken, tail_of f k, length-drop k f) (omega (arith, r)))
+
+    pub entries_filled : (new : List ℕ)
+        → new ≡ words_of (entries_at ed (take (length f - k) (drop k f)) 0 (length (take (n * entry_size) d) / entry_size))
+        → new ++ drop (n * entry_size) d ≡ over d 0 (words_of (entries_at ed f k n))
+    entries_filled new e =
+        let es = entries_at ed f k n in
+        let many : length (words_of es) ≡ n * entry_size = length-words-of es ∙ ap (λ m. m * entry_size) (length-entries_at ed f k n) in
+        let there : new ≡ words_of es = e ∙ rw (taken, tail_of f k, entries_behind 0 n, add-zero k) in
+        rw (there, over_start d (words_of es), many)

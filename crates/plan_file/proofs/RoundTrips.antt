@@ -18,7 +18,8 @@ use Rattle.plan_file.specs.Encoding.{bodies_start, encoding}
 use Rattle.byte_words.specs.Bytes.{Bytes}
 use Rattle.plan_file.specs.Decoding.{edition_of, node_count, rows_in, entries_in, plan_in}
 use Rattle.plan_file.specs.Check.{file_check, words_check}
-use Rattle.plan_file.specs.Answers.{Filled, room_test, read_answer, write_answer, ReadCall, WriteCall}
+use Rattle.plan_file.specs.declared.ReadPlan.{ReadPlan}
+use Rattle.plan_file.specs.Answers.{room_test, read_answer, write_answer, ReadCall, WriteCall}
 use Rattle.plan_file.specs.RoundTrips.{WrittenAgain, ReadAgain}
 use Rattle.task_model.proofs.Tests.{and_true}
 use Rattle.plan_file.proofs.Contents.{length-row_words, length-entries_at}
@@ -32,7 +33,7 @@ given accepted true r x y e = (refl, refl, cc)
 given accepted false r x y e = let z : ◌≡◌ {A = ℕ} 0 1 = cc in absurd (omega arith)
 given (refused q) b r x y e = let z : ◌≡◌ {A = ℕ} 0 1 = cc in absurd (omega arith)
 
-read_given : (f : List ℕ) (rows words : ℕ) (n : Filled) → gives n ≡ read_answer f rows words
+read_given : (f : List ℕ) (rows words : ℕ) (n : ReadPlan) → gives n ≡ read_answer f rows words
     → (file_check f ≡ accepted) × (room_test (plan_in f) rows words ≡ true)
     × (n ≡ record { edition = edition_of f; rows = length (plan_in f).rows; entries = length (plan_in f).entries })
 unfolding read_answer
@@ -53,12 +54,12 @@ write_same : {ed ed' : Edition} {rs rs' ws ws' old : List ℕ} {a : Answer ℕ} 
     → WriteCall ed rs ws old a new → WriteCall ed' rs' ws' old a new
 write_same ee er ew c = rw (ee, er, ew) at c
 
-read_same : {f f' rows words : List ℕ} {a : Answer Filled} {rowsLeft words_left : List ℕ} → f ≡ f'
+read_same : {f f' rows words : List ℕ} {a : Answer ReadPlan} {rowsLeft words_left : List ℕ} → f ≡ f'
     → ReadCall f rows words a rowsLeft words_left → ReadCall f' rows words a rowsLeft words_left
 read_same e c = rw e at c
 
 -- What was filled, and what was written, lies in the buffers: a caller takes those parts.
-pub filled_inside : {f rows words rowsLeft words_left : List ℕ} {n : Filled} → ReadCall f rows words (gives n) rowsLeft words_left
+pub filled_inside : {f rows words rowsLeft words_left : List ℕ} {n : ReadPlan} → ReadCall f rows words (gives n) rowsLeft words_left
     → (n.rows ≤ length rows) × (n.entries * entry_size ≤ length words)
 filled_inside c =
     let g = read_given _ _ _ _ c.answer in
@@ -99,7 +100,7 @@ module _ (ed : Edition) (f rs ws : List ℕ) (ok : file_check f ≡ accepted) (e
   sizes rows words hr hw =
       read_filled f rows words ok ed (length rs) (length ws / entry_size) (sym ee) (sym nodes) (omega (arith, counted)) hr (omega (arith, counted))
 
-  filled : (oldRows oldWords : List ℕ) (a : Answer Filled) (newRows newWords : List ℕ)
+  filled : (oldRows oldWords : List ℕ) (a : Answer ReadPlan) (newRows newWords : List ℕ)
       → length rs ≤ length oldRows → length ws ≤ length oldWords → ReadCall f oldRows oldWords a newRows newWords
       → (a ≡ gives (record { edition = ed; rows = length rs; entries = length ws / entry_size }))
       × (newRows ≡ rs ++ drop (length rs) oldRows)
@@ -113,19 +114,19 @@ module _ (ed : Edition) (f rs ws : List ℕ) (ok : file_check f ≡ accepted) (e
 
 -- What a call of the reader leaves is written again as the same file. That a file is one of bytes, the type of the slice
 -- says in a function's proof.
-pub written_again : (f rows words : List ℕ) (a : Answer Filled) (rowsLeft words_left : List ℕ) → Bytes f
+pub written_again : (f rows words : List ℕ) (a : Answer ReadPlan) (rowsLeft words_left : List ℕ) → Bytes f
     → ReadCall f rows words a rowsLeft words_left → WrittenAgain f a rowsLeft words_left
 written_again f rows words (refuses r) rowsLeft words_left b c = tt
 written_again f rows words (gives n) rowsLeft words_left b c =
     let g = read_given f _ _ n c.answer in
     let m = read_write_memory f b g.0 in
-    let en : n.rows ≡ length (map row_word (rows_in f)) = ap (λ (s : Filled). s.rows) g.2 ∙ sym (length-map (rows_in f) row_word) in
-    let ek : n.entries * entry_size ≡ length (words_of (entries_in f)) = ap (λ (s : Filled). s.entries * entry_size) g.2 ∙ sym (length-words-of (entries_in f)) in
+    let en : n.rows ≡ length (map row_word (rows_in f)) = ap (λ (s : ReadPlan). s.rows) g.2 ∙ sym (length-map (rows_in f) row_word) in
+    let ek : n.entries * entry_size ≡ length (words_of (entries_in f)) = ap (λ (s : ReadPlan). s.entries * entry_size) g.2 ∙ sym (length-words-of (entries_in f)) in
     let er : take n.rows rowsLeft ≡ map row_word (rows_in f) = ap (take n.rows) c.rows_there ∙ front _ rows n.rows en in
     let ew : take (n.entries * entry_size) words_left ≡ words_of (entries_in f) = ap (take (n.entries * entry_size)) c.words_there ∙ front _ words (n.entries * entry_size) ek in
     λ old a new h w.
     wrote (edition_of f) (map row_word (rows_in f)) (words_of (entries_in f)) f m.0 m.1 old a new h
-    (write_same (ap (λ (s : Filled). s.edition) g.2) er ew w)
+    (write_same (ap (λ (s : ReadPlan). s.edition) g.2) er ew w)
 
 -- What a call of the writer leaves is read again as the same words. That words have 32 bits, the slices' types say.
 pub read_again : (ed : Edition) (rs ws file : List ℕ) (a : Answer ℕ) (fileLeft : List ℕ) → WordsFit rs → WordsFit ws

@@ -1,6 +1,6 @@
 -- Laws of rows, whether of a file or in memory: their checks and the contents, row by row.
 use Prim.Native.Nat.{ℕ, ◌+◌, ◌*◌}
-use mathlib.Core.Path.{◌≡◌, ◌∙◌, sym, ap}
+use mathlib.Core.Path.{◌≡◌, ◌∙◌, refl, sym, ap}
 use mathlib.Core.Bool.{Bool}
 use mathlib.Core.List.{List, [], ◌∷◌, ◌++◌}
 use native.Mathlib.Omega.{arith}
@@ -9,7 +9,7 @@ use lib.ListN.{length, take, drop, length-drop}
 use lib.Seq.{take-add, length-take-le}
 use lib.Dec.{eqb}
 use Rattle.node_words.specs.Words.{entry_size}
-use Rattle.refusals.specs.Refusals.{at, Outcome, accepted, ◌and_then◌, must_hold}
+use Rattle.refusals.specs.Refusals.{Numbered, at, Outcome, accepted, refused, ◌and_then◌, must_hold}
 use Rattle.refusals.proofs.Outcomes.{then_assoc}
 use Rattle.task_model.specs.declared.Entry.{Entry}
 use Rattle.plan_file.specs.declared.Row.{Row}
@@ -89,6 +89,11 @@ module _ (check : ℕ → List Entry → Outcome) {step : ℕ} {item : ℕ → E
   bodies_here {rows} {i} {r} h k next e o p =
       let n = entry_count (drop (i + 1) rows) in
       rw h.here (rw (run_take run k r.count n, run_drop run k r.count n, p, e, add-one i))
+
+  -- a row that is refused
+  pub bodies_stop : {rows : List Row} {i : ℕ} {r : Row} → AtHand rows i r → (k : ℕ) (q : Numbered) → refused q ≡ check i (entries k r.count)
+      → {o : Outcome} → bodies check entries k i (drop i rows) ≡ o → refused q ≡ o
+  bodies_stop h k q p e = sym (bodies_here h k _ refl (refused q) (sym p)) ∙ e
 
   pub bodies_end : (k i : ℕ) (rs : List Row) → rs ≡ [] → bodies check entries k i rs ≡ accepted
   unfolding bodies_by

@@ -1,11 +1,11 @@
 -- What the tests of a file's header and of a row say about their numbers.
 use Prim.Native.Nat.{ℕ, ◌≤◌}
-use mathlib.Core.Path.{◌≡◌, ◌∙◌, sym}
+use mathlib.Core.Path.{◌≡◌, ◌∙◌, sym, ap}
 use mathlib.Core.Logic.{⊎_elim}
-use mathlib.Core.Bool.{true, false, ◌&&◌, true≢false}
-use mathlib.Core.List.{List}
+use mathlib.Core.Bool.{Bool, true, false, ◌&&◌, true≢false}
+use mathlib.Core.List.{List, [], ◌∷◌, ◌++◌}
 use native.Mathlib.Omega.{arith}
-use lib.ListN.{get_or}
+use lib.ListN.{length, get_or, drop}
 use lib.Dec.{leb, eqb}
 use borrow.Author.Tests.{leb-true, le-leb, eqb-true, eq-eqb}
 use Rattle.plan_file.specs.Plan.{most_nodes}
@@ -48,12 +48,6 @@ module _ (ed : Edition) (f : List ℕ) where
   pub opens_false : (Opens → ⊥) → opening_test ed f ≡ false
   opens_false n = decided (opening_test ed f) opens_hold n
 
-  -- the last byte decides, once the others are right
-  pub opens_rest : get_or f 0 0 ≡ get_or (opening_bytes ed) 0 0 → get_or f 1 0 ≡ get_or (opening_bytes ed) 1 0
-      → get_or f 2 0 ≡ get_or (opening_bytes ed) 2 0 → eqb (get_or f 3 0) (get_or (opening_bytes ed) 3 0) ≡ opening_test ed f
-  unfolding opening_test
-  opens_rest h1 h2 h3 = rw (eq-eqb _ _ h1, eq-eqb _ _ h2, eq-eqb _ _ h3)
-
 -- the edition, and the test of both openings
 module _ (f : List ℕ) where
   pub edition_second : opening_test Second f ≡ true → edition_of f ≡ Second
@@ -89,6 +83,39 @@ module _ (f : List ℕ) where
   pub edition_opens : (ed : Edition) → Opens ed f → edition_of f ≡ ed
   edition_opens Second h = edition_second (opens_true Second f h)
   edition_opens First h = edition_first (opens_false Second f (λ g. omega (arith, h.fourth, g.fourth)))
+
+-- a file that begins with the opening bytes opens so, and no other
+starts_opens : (ed : Edition) (f rest : List ℕ) → f ≡ opening_bytes ed ++ rest → Opens ed f
+starts_opens First f rest e = record {
+  first = ap (λ l. get_or l 0 0) e;
+  second = ap (λ l. get_or l 1 0) e;
+  third = ap (λ l. get_or l 2 0) e;
+  fourth = ap (λ l. get_or l 3 0) e;
+}
+starts_opens Second f rest e = record {
+  first = ap (λ l. get_or l 0 0) e;
+  second = ap (λ l. get_or l 1 0) e;
+  third = ap (λ l. get_or l 2 0) e;
+  fourth = ap (λ l. get_or l 3 0) e;
+}
+
+opens_starts : (ed : Edition) (f : List ℕ) → 4 ≤ length f → Opens ed f → f ≡ opening_bytes ed ++ drop 4 f
+opens_starts ed [] l h = absurd (omega arith)
+opens_starts ed (a ∷ []) l h = absurd (omega arith)
+opens_starts ed (a ∷ b ∷ []) l h = absurd (omega arith)
+opens_starts ed (a ∷ b ∷ c ∷ []) l h = absurd (omega arith)
+opens_starts First (a ∷ b ∷ c ∷ d ∷ f) l h = rw (h.first, h.second, h.third, h.fourth)
+opens_starts Second (a ∷ b ∷ c ∷ d ∷ f) l h = rw (h.first, h.second, h.third, h.fourth)
+
+pub starts_tested : (ed : Edition) (f rest : List ℕ) (r : Bool) → 4 ≤ length f
+    → (r ≡ true → f ≡ opening_bytes ed ++ rest) × ((rest : List ℕ) → f ≡ opening_bytes ed ++ rest → r ≡ true)
+    → r ≡ opening_test ed f
+starts_tested ed f rest r l s =
+    ⊎_elim
+    (λ (p : r ≡ true). p ∙ sym (opens_true ed f (starts_opens ed f rest (s.0 p))))
+    (λ (p : r ≡ false).
+    p ∙ sym (decided (opening_test ed f) (opens_hold ed f) (λ h. true≢false (sym (s.1 _ (opens_starts ed f l h)) ∙ p))))
+    (true_or_false r)
 
 -- 4
 module _ (least : ℕ) (r : Row) where

@@ -159,7 +159,7 @@ pub read_holds : (f : List ℕ) → Bytes f
 read_holds f b =
     let es = entries_in f in
     let l : length (words_of es) / entry_size ≡ length es = omega (arith, length-words-of es) in
-    plan_same (rows_words f 0 (node_count f) b)
+    plan_same (rows_words f 0 (node_count f))
     (rw l (ap (λ ws. entries_of ws (length es)) (sym (append-nil (words_of es))) ∙ read_entries es [] (plan_fits f b).entries))
 
 -- An accepted file, read into memory and written from there in its edition, is accepted by the writer and gives the same

@@ -10,7 +10,8 @@ use Rattle.node_words.specs.Words.{entry_size, entry_from, entries_from, entries
 use Rattle.node_words.proofs.Words.{entries_cons, entry_front}
 use Rattle.plan_file.specs.declared.Edition.{Edition}
 use Rattle.plan_file.specs.declared.Edition.TheVariants.{First, Second}
-use Rattle.plan_file.specs.Plan.{row_word, row_of}
+use Rattle.plan_file.specs.declared.Row.{Row}
+use Rattle.plan_file.specs.Plan.{row_word, row_of, RowFits}
 use Rattle.plan_file.specs.Encoding.{entry_length, row_bytes, field_bytes, entry_bytes, bodies_bytes}
 use Rattle.byte_words.specs.Bytes.{Bytes, low, word_at, words_from, bytes_of}
 use Rattle.byte_words.proofs.Words.{head_bytes, words_run, length-words, bytes_append}
@@ -25,6 +26,15 @@ row_bytes_lem offset w = rw head_bytes
 pub row_word_lem : (w : ℕ) → w < 4294967296 → row_word (row_of w) ≡ w
 unfolding row_word row_of
 row_word_lem w h = omega arith
+
+-- a row is that of its word
+row_same : {a b c a' b' c' : ℕ} → a ≡ a' → b ≡ b' → c ≡ c'
+    → ◌≡◌ {A = Row} (record { number = a; levels = b; count = c }) (record { number = a'; levels = b'; count = c' })
+row_same p q r = cc
+
+pub row_of_word : (r : Row) → RowFits r → row_of (row_word r) ≡ r
+unfolding row_of row_word
+row_of_word r h = row_same (omega arith) (omega arith) (omega arith)
 
 -- the bytes of an entry are those of the words that the edition holds
 pub entry_bytes_lem : (ed : Edition) (ws : List ℕ) → entry_size ≤ length ws

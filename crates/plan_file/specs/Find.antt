@@ -1,5 +1,5 @@
 -- The node of a row, and the row of a number.
-use Rattle.std.specs.Prelude.{ℕ, suc, true, false, List, [], ◌∷◌, length, get_or, take, drop, ltb, eqb}
+use Rattle.std.specs.Prelude.{ℕ, suc, true, false, Option, Some, None, List, [], ◌∷◌, length, get_or, take, drop, ltb, eqb}
 use Rattle.refusals.specs.Refusals.{at, Outcome, ◌and_then◌, must_hold}
 use Rattle.task_model.specs.Limits.{Node}
 use Rattle.plan_file.specs.declared.Row.{Row}
@@ -30,6 +30,14 @@ row_of_number number (r ∷ rs) =
     elim (eqb r.number number) [
       | true ↦ 0
       | false ↦ suc (row_of_number number rs)
+    ]
+
+-- The same, or none.
+unfoldable pub first_row : ℕ → List Row → Option ℕ
+first_row number rows =
+    elim (ltb (row_of_number number rows) (length rows)) [
+      | true ↦ Some (row_of_number number rows)
+      | false ↦ None
     ]
 
 -- The checks for finding a node in a file: all of the file's checks, then 9.

@@ -4,11 +4,12 @@ use Rattle.std.specs.Prelude.{ℕ, ◌*◌, ◌/◌, ◌≤◌, ◌≡◌, List,
 use Rattle.node_words.specs.Words.{entry_size}
 use Rattle.refusals.specs.Answers.{Answer, gives, refuses}
 use Rattle.plan_file.specs.declared.Edition.{Edition}
-use Rattle.plan_file.specs.Answers.{Filled, ReadCall, WriteCall}
+use Rattle.plan_file.specs.declared.ReadPlan.{ReadPlan}
+use Rattle.plan_file.specs.Answers.{ReadCall, WriteCall}
 
 -- The reader filled its buffers. Then any call of the writer on the edition that was given and the filled parts, with room
 -- for the file, gives the file's length. It writes the file's bytes from the start of its buffer and keeps the bytes beyond.
-abbrev pub WrittenAgain : List ℕ → Answer Filled → List ℕ → List ℕ → Type 0
+abbrev pub WrittenAgain : List ℕ → Answer ReadPlan → List ℕ → List ℕ → Type 0
 WrittenAgain f (refuses r) rows words = Unit
 WrittenAgain f (gives n) rows words =
     (old : List ℕ) (a : Answer ℕ) (new : List ℕ)
@@ -22,7 +23,7 @@ WrittenAgain f (gives n) rows words =
 abbrev pub ReadAgain : Edition → List ℕ → List ℕ → Answer ℕ → List ℕ → Type 0
 ReadAgain ed rows words (refuses r) file = Unit
 ReadAgain ed rows words (gives n) file =
-    (oldRows oldWords : List ℕ) (a : Answer Filled) (newRows newWords : List ℕ)
+    (oldRows oldWords : List ℕ) (a : Answer ReadPlan) (newRows newWords : List ℕ)
     → length rows ≤ length oldRows
     → length words ≤ length oldWords
     → ReadCall (take n file) oldRows oldWords a newRows newWords

@@ -5,35 +5,40 @@
 // In memory a plan is words of 32 bits (specs/Plan.antt). A row is one word: the first four bytes of the row in the file.
 // An entry is six words: its 24 bytes in a file of the second edition; or its 20 bytes in a file of the first, and J 0. Both
 // are low byte first, so fields have the same widths as in the file.
-mod checks;
+pub mod checked;
+pub mod checks;
 pub mod editions;
-mod numbers;
-pub mod read;
+pub mod input;
+pub mod layout;
+mod read;
+pub mod stages;
 pub mod store;
 
 ghost use Rattle.std.specs.Prelude.{◌≡◌, ◌↔◌, length, ◌+◌, ◌≤◌, ◌<◌};
 ghost use Rattle.refusals.specs.Refusals.{outcome, accepted};
 ghost use Rattle.node_words.specs.Words.{words_of};
-ghost use Rattle.plan_file.specs.Encoding.{header_length, bodies_start};
-ghost use Rattle.plan_file.specs.Decoding.{edition_of, node_count, row_at, rows_from};
+ghost use Rattle.plan_file.specs.Plan.{row_of};
 ghost use Rattle.plan_file.specs.Check.{file_check, words_check};
 ghost use Rattle.plan_file.specs.Limits.{IsPlanFile, IsPlanInMemory};
-ghost use Rattle.plan_file.specs.Find.{row_of_number, node_found};
-ghost use Rattle.plan_file.specs.Answers.{Loaded, Holding, read_gives, ReadCall, write_gives, WriteCall, find_gives, find_answer};
+ghost use Rattle.plan_file.specs.Find.{node_found};
+ghost use Rattle.plan_file.specs.Answers.{Holding, ReadCall, WriteCall, find_answer, itself};
 ghost use Rattle.plan_file.specs.RoundTrips.{WrittenAgain, ReadAgain};
-ghost use Rattle.refusals.specs.Answers.{left};
+ghost use Rattle.refusals.specs.Answers.{answer_by, answered, left};
 
-use byte_words::{wide, word_at};
-use checks::{check_bodies, check_header, check_layout, check_nodes, check_rows};
-use editions::{entries_in, entry_bytes, opens};
+pub use checked::PlanFile;
+use checks::{check_nodes, check_rows};
+use layout::{First, Second};
+use node_words::numbers::MARKS;
 use node_words::{ENTRY_WORDS, NodeWords};
-use read::{copy_entries, copy_rows, row_of};
-use refusals::{Checked, Refusal};
+use read::copy_entries;
+use refusals::Refusal;
+use stages::Contents;
 use store::{put_contents, put_entries, put_header};
 use task_model::MOST_ENTRIES;
+use task_model::entries::{Whole, WithinLimits};
 
 // The editions of a plan file. In the second, an entry has its J.
-#[derive(Clone, Copy)]
+#[derive(Clone, Copy, Debug, PartialEq, Eq)]
 pub enum Edition {
     First,
     Second,
@@ -66,203 +71,144 @@ pub const MOST_FIRST: usize = HEADER_BYTES
 pub const MOST_SECOND: usize = HEADER_BYTES
     + MOST_NODES as usize * (ROW_BYTES + MOST_ENTRIES * SECOND_ENTRY_BYTES);
 
+// The check of a file's nodes. It has more marks than that of one node; they are cleared once for all nodes.
+type FileCheck = Whole<WithinLimits, 2048>;
+
 // A row of the contents without its offset.
-#[derive(Clone, Copy)]
+#[derive(Clone, Copy, Debug, PartialEq, Eq)]
 pub struct Row {
     pub number: u16,
     pub levels: u8,
     pub count: u8,
 }
 
-// The file's edition and how many rows and entries were filled, or why none were.
-#[derive(Clone, Copy)]
-pub enum ReadPlan {
-    Filled {
-        edition: Edition,
-        rows: usize,
-        entries: usize,
-    },
-    Refused(Refusal),
-}
+// The row that a word holds.
+impl From<u32> for Row {
+    ghost from_gives = { λ word r. r ≡ row_of word };
 
-// The file's length, or why none was written.
-#[derive(Clone, Copy)]
-pub enum Written {
-    Length(usize),
-    Refused(Refusal),
-}
-
-// The levels and the entry count of the node that was found, or why none was.
-#[derive(Clone, Copy)]
-pub enum FoundNode {
-    Found { levels: u8, count: usize },
-    Refused(Refusal),
-}
-
-// The row at an index of a file's contents.
-pub fn row_at(file: &[u8], row: usize) -> Row
-    requires { bodies_start (row + 1) ≤ length file.now }
-    ensures { result ≡ row_at file.now row }
-{
-    row_of(word_at(file, HEADER_BYTES + row * ROW_BYTES))
-}
-
-// The edition of a file, by its opening bytes.
-pub fn edition_of(file: &[u8]) -> Edition
-    requires { header_length ≤ length file.now }
-    ensures { result ≡ edition_of file.now }
-{
-    if opens(Edition::Second, file) {
-        return Edition::Second;
-    }
-    Edition::First
-}
-
-// The node count, in the byte after the opening ones.
-pub fn node_count(file: &[u8]) -> usize
-    requires { header_length ≤ length file.now }
-    ensures { (result ≡ node_count file.now) × (result < 256) }
-{
-    wide(file[4]) as usize
-}
-
-// The index of the row with this number, or `nodes` if no row has it.
-fn row_of_number(file: &[u8], number: u16, nodes: usize) -> usize
-    requires { bodies_start nodes ≤ length file.now }
-    ensures { result ≡ row_of_number number (rows_from file.now 0 nodes) }
-{
-    let mut row: usize = 0;
-    while row < nodes {
-        let r = row_at(file, row);
-        if r.number == number {
-            return row;
+    fn from(word: u32) -> Row {
+        Row {
+            number: (word % 65536) as u16,
+            levels: (word / 65536 % 256) as u8,
+            count: (word / 16777216 % 256) as u8,
         }
-        row += 1;
     }
-    nodes
+}
+
+// What was read: the file's edition, and how many rows and entries were filled.
+#[derive(Clone, Copy, Debug, PartialEq, Eq)]
+pub struct ReadPlan {
+    pub edition: Edition,
+    pub rows: usize,
+    pub entries: usize,
+}
+
+// A node that was found: its levels, and how many entries it has.
+#[derive(Clone, Copy, Debug, PartialEq, Eq)]
+pub struct FoundNode {
+    pub levels: u8,
+    pub count: usize,
 }
 
 // Checks a plan file. The first check that is met gives the refusal. Accepts exactly the files of plans within the limits.
-pub fn check_file(file: &[u8]) -> Checked
-    ensures result_value { outcome result ≡ file_check file.now }
-    ensures variant { (outcome result ≡ accepted) ↔ IsPlanFile file.now }
+pub fn check_file(file: &[u8]) -> Result<(), Refusal>
+    ensures answer { outcome result ≡ file_check file.now }
+    ensures exactly { (outcome result ≡ accepted) ↔ IsPlanFile file.now }
 {
-    let header = check_header(file);
-    let Checked::Accepted = header else {
-        return header;
-    };
-    let edition = edition_of(file);
-    let nodes = node_count(file);
-    let layout = check_layout(edition, file, nodes);
-    let Checked::Accepted = layout else {
-        return layout;
-    };
-    check_bodies(edition, file, nodes)
+    let contents = Contents::check(file)?;
+    let edition = contents.edition();
+    contents.check_layout(edition)?;
+    match edition {
+        Edition::First => contents.check_bodies::<First, _>(&mut FileCheck::new()),
+        Edition::Second => contents.check_bodies::<Second, _>(&mut FileCheck::new()),
+    }
 }
 
 // Checks rows and entries that are to be written in an edition. The first check that is met gives the refusal. Accepts
 // exactly the words of plans within the limits, and in the first edition only those with every J zero.
-pub fn check_plan(edition: Edition, rows: &[u32], entries: &[u32]) -> Checked
-    ensures result_value { outcome result ≡ words_check edition rows.now entries.now }
-    ensures variant { (outcome result ≡ accepted) ↔ IsPlanInMemory edition rows.now entries.now }
+pub fn check_plan(edition: Edition, rows: &[u32], entries: &[u32]) -> Result<(), Refusal>
+    ensures answer { outcome result ≡ words_check edition rows.now entries.now }
+    ensures exactly { (outcome result ≡ accepted) ↔ IsPlanInMemory edition rows.now entries.now }
 {
     if rows.len() < 1 {
-        return Checked::Refused(Refusal::NodeCount);
+        return Err(Refusal::NodeCount);
     }
     if (MOST_NODES as usize) < rows.len() {
-        return Checked::Refused(Refusal::NodeCount);
+        return Err(Refusal::NodeCount);
     }
-    let counted = check_rows(rows, entries.len());
-    let Checked::Accepted = counted else {
-        return counted;
-    };
-    check_nodes(edition, rows, entries)
+    check_rows(rows, entries.len())?;
+    match edition {
+        Edition::First => check_nodes(rows, entries, &mut Whole::<First, MARKS>::new()),
+        Edition::Second => check_nodes(rows, entries, &mut Whole::<Second, MARKS>::new()),
+    }
 }
 
-// Writes a plan as a file of an edition, from the buffer's start. Refuses as check_plan does, then a buffer that is too
-// short (10). From the written file, read_plan reads the same edition and the same words.
-pub fn write_plan(edition: Edition, rows: &[u32], entries: &[u32], file: &mut [u8]) -> Written
-    ensures write_call { WriteCall edition rows.now entries.now file.old (write_gives result)
-        file.new }
-    ensures read_again { ReadAgain edition rows.now entries.now (write_gives result) file.new }
+// Writes a plan as a file of an edition, from the buffer's start, and gives the file's length. Refuses as check_plan does,
+// then a buffer that is too short (10). From the written file, read_plan reads the same edition and the same words.
+pub fn write_plan(
+    edition: Edition,
+    rows: &[u32],
+    entries: &[u32],
+    file: &mut [u8],
+) -> Result<usize, Refusal>
+    ensures write_call { WriteCall edition rows.now entries.now file.old (answered result) file.new }
+    ensures read_again { ReadAgain edition rows.now entries.now (answered result) file.new }
 {
-    let checked = check_plan(edition, rows, entries);
-    if let Checked::Refused(r) = checked {
-        return Written::Refused(r);
-    }
+    check_plan(edition, rows, entries)?;
     let start = HEADER_BYTES + rows.len() * ROW_BYTES;
     let count = entries.len() / ENTRY_WORDS;
-    let length = start + count * entry_bytes(edition);
+    let length = start + count * edition.entry_bytes();
     if file.len() < length {
-        return Written::Refused(Refusal::ShortBuffer);
+        return Err(Refusal::ShortBuffer);
     }
     put_header(edition, file, rows.len());
     put_contents(edition, file, rows);
-    put_entries(edition, file, start, entries, count);
-    Written::Length(length)
+    put_entries(edition, &mut file[start..], entries);
+    Ok(length)
 }
 
 // Reads a file's plan into buffers: one word per row, and six per entry. Refuses as check_file does, then a buffer that is
 // too short (10). From the filled words, write_plan writes the same bytes in the edition that this gives.
-pub fn read_plan(file: &[u8], rows: &mut [u32], entries: &mut [u32]) -> ReadPlan
-    ensures read_call { ReadCall file.now rows.old entries.old (read_gives result)
+pub fn read_plan(file: &[u8], rows: &mut [u32], entries: &mut [u32]) -> Result<ReadPlan, Refusal>
+    ensures read_call { ReadCall file.now rows.old entries.old (answer_by itself result)
         rows.new entries.new }
-    ensures written_again { WrittenAgain file.now (read_gives result) rows.new entries.new }
+    ensures written_again { WrittenAgain file.now (answer_by itself result) rows.new entries.new }
 {
-    let checked = check_file(file);
-    if let Checked::Refused(r) = checked {
-        return ReadPlan::Refused(r);
-    }
-    let edition = edition_of(file);
-    let nodes = node_count(file);
-    let start = HEADER_BYTES + nodes * ROW_BYTES;
-    let count = entries_in(edition, file.len() - start);
+    let accepted = PlanFile::check(file)?;
+    let edition = accepted.edition();
+    let nodes = accepted.nodes();
+    let count = accepted.entries();
     if rows.len() < nodes {
-        return ReadPlan::Refused(Refusal::ShortBuffer);
+        return Err(Refusal::ShortBuffer);
     }
     if entries.len() < count * ENTRY_WORDS {
-        return ReadPlan::Refused(Refusal::ShortBuffer);
+        return Err(Refusal::ShortBuffer);
     }
-    copy_rows(file, rows, nodes);
-    copy_entries(edition, file, start, entries, count);
-    ReadPlan::Filled {
+    accepted.contents().copy_rows(rows);
+    let start = HEADER_BYTES + nodes * ROW_BYTES;
+    copy_entries(edition, &file[start..], &mut entries[..count * ENTRY_WORDS]);
+    Ok(ReadPlan {
         edition,
         rows: nodes,
         entries: count,
-    }
-}
-
-// Copies the words of a row's entries from an accepted file to the start of the array, and returns the row.
-pub fn load_node(file: &[u8], row: usize, words: &mut NodeWords) -> Row
-    requires { (file_check file.now ≡ accepted) × (row < node_count file.now) }
-    ensures { Loaded file.now row result words.old words.new }
-{
-    let r = row_at(file, row);
-    let start = word_at(file, HEADER_BYTES + row * ROW_BYTES + 4) as usize;
-    copy_entries(edition_of(file), file, start, words, r.count as usize);
-    r
+    })
 }
 
 // Finds the node with this number, and copies the words of its entries to the start of the array. Refuses as check_file
 // does, then a number that no node has (9).
-pub fn find_node(file: &[u8], number: u16, words: &mut NodeWords) -> FoundNode
-    ensures result_value { find_gives result ≡ find_answer file.now number }
+pub fn find_node(file: &[u8], number: u16, words: &mut NodeWords) -> Result<FoundNode, Refusal>
+    ensures answer { answer_by itself result ≡ find_answer file.now number }
     ensures words_after { words.new ≡
-        left (find_gives result) (words_of (node_found file.now number).entries) words.old }
-    ensures holding { Holding (find_gives result) words.new (node_found file.now number) }
+        left (answer_by itself result) (words_of (node_found file.now number).entries) words.old }
+    ensures holding { Holding (answer_by itself result) words.new (node_found file.now number) }
 {
-    let checked = check_file(file);
-    if let Checked::Refused(r) = checked {
-        return FoundNode::Refused(r);
-    }
-    let nodes = node_count(file);
-    let row = row_of_number(file, number, nodes);
-    if nodes <= row {
-        return FoundNode::Refused(Refusal::NoSuchNode);
-    }
-    let r = load_node(file, row, words);
-    FoundNode::Found {
+    let plan = PlanFile::check(file)?;
+    let Some(row) = plan.contents().find(number) else {
+        return Err(Refusal::NoSuchNode);
+    };
+    let r = plan.load_node(row, words);
+    Ok(FoundNode {
         levels: r.levels,
         count: r.count as usize,
-    }
+    })
 }

@@ -1,13 +1,11 @@
 // Stores the parts of a plan file into a buffer.
-ghost use Rattle.std.specs.Prelude.{◌≡◌, map, length, ◌+◌, ◌*◌, ◌≤◌};
+ghost use Rattle.std.specs.Prelude.{◌≡◌, map, length, ◌+◌, ◌*◌, ◌/◌, ◌%◌, ◌≤◌};
 ghost use Rattle.plan_file.specs.Plan.{most_nodes, row_of};
 ghost use Rattle.node_words.specs.Words.{entry_size, entries_of};
 ghost use Rattle.plan_file.specs.Encoding.{header_length, row_length, entry_length, bodies_start, header_bytes, row_bytes, contents_bytes, bodies_bytes};
 ghost use Rattle.byte_words.specs.Buffers.{over};
 
-use super::editions::{entry_bytes, opening_of};
-use super::read::row_of;
-use super::{Edition, FIRST_ENTRY_BYTES, FIRST_ENTRY_WORDS, HEADER_BYTES, ROW_BYTES};
+use super::{Edition, FIRST_ENTRY_BYTES, HEADER_BYTES, ROW_BYTES, Row};
 use byte_words::{put_word, put_words};
 use node_words::ENTRY_WORDS;
 
@@ -25,15 +23,9 @@ pub fn put_header(edition: Edition, file: &mut [u8], nodes: usize)
     requires { header_length ≤ length file.old }
     ensures { file.new ≡ over file.old 0 (header_bytes edition nodes) }
 {
-    let opening = opening_of(edition);
-    file[0] = opening[0];
-    file[1] = opening[1];
-    file[2] = opening[2];
-    file[3] = opening[3];
+    file[..4].copy_from_slice(&edition.opening());
     file[4] = (nodes % 256) as u8;
-    file[5] = 0;
-    file[6] = 0;
-    file[7] = 0;
+    file[5..8].fill(0);
 }
 
 // Stores the contents, each row with its offset.
@@ -43,26 +35,23 @@ pub fn put_contents(edition: Edition, file: &mut [u8], rows: &[u32])
         over file.old header_length
         (contents_bytes (entry_length edition) (bodies_start (length rows.now)) (map row_of rows.now)) }
 {
-    let size = entry_bytes(edition);
+    let size = edition.entry_bytes();
     let mut offset: usize = HEADER_BYTES + rows.len() * ROW_BYTES;
-    let mut row: usize = 0;
-    while row < rows.len() {
+    for row in 0..rows.len() {
         let word = rows[row];
         put_row(file, HEADER_BYTES + row * ROW_BYTES, word, offset as u32);
-        offset += row_of(word).count as usize * size;
-        row += 1;
+        offset += Row::from(word).count as usize * size;
     }
 }
 
-// Stores entries in the first edition, from byte `k` on: the words of each but J. It reads them all before it stores them,
-// so that the compiler can store several at once.
-fn put_first(file: &mut [u8], k: usize, words: &[u32], count: usize)
-    requires { (k + count * entry_length Edition.First ≤ length file.old) × (count * entry_size ≤ length words.now) }
-    ensures { file.new ≡
-        over file.old k (bodies_bytes Edition.First (entries_of words.now count)) }
+// Stores entries in the first edition, from the start of the bytes: the words of each but J. It reads them all before it
+// stores them, so that the compiler can store several at once.
+fn put_first(bytes: &mut [u8], words: &[u32])
+    requires { length words.now / entry_size * entry_length Edition.First ≤ length bytes.old }
+    ensures { bytes.new ≡
+        over bytes.old 0 (bodies_bytes Edition.First (entries_of words.now (length words.now / entry_size))) }
 {
-    let mut i: usize = 0;
-    while i < count {
+    for i in 0..words.len() / ENTRY_WORDS {
         let from = i * ENTRY_WORDS;
         let fields = [
             words[from],
@@ -71,18 +60,18 @@ fn put_first(file: &mut [u8], k: usize, words: &[u32], count: usize)
             words[from + 3],
             words[from + 4],
         ];
-        put_words(file, k + i * FIRST_ENTRY_BYTES, &fields, FIRST_ENTRY_WORDS);
-        i += 1;
+        put_words(&mut bytes[i * FIRST_ENTRY_BYTES..], &fields);
     }
 }
 
-// Stores the first `count` entries of the words, from byte `k` on.
-pub(crate) fn put_entries(edition: Edition, file: &mut [u8], k: usize, words: &[u32], count: usize)
-    requires { (k + count * entry_length edition ≤ length file.old) × (count * entry_size ≤ length words.now) }
-    ensures { file.new ≡ over file.old k (bodies_bytes edition (entries_of words.now count)) }
+// Stores the entries of the words, which are those of whole entries, from the start of the bytes.
+pub(crate) fn put_entries(edition: Edition, bytes: &mut [u8], words: &[u32])
+    requires { (length words.now % entry_size ≡ 0) × (length words.now / entry_size * entry_length edition ≤ length bytes.old) }
+    ensures { bytes.new ≡
+        over bytes.old 0 (bodies_bytes edition (entries_of words.now (length words.now / entry_size))) }
 {
     match edition {
-        Edition::First => put_first(file, k, words, count),
-        Edition::Second => put_words(file, k, words, count * ENTRY_WORDS),
+        Edition::First => put_first(bytes, words),
+        Edition::Second => put_words(bytes, words),
     }
 }

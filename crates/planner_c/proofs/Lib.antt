@@ -2,6 +2,7 @@
 pub mod Changing
 pub mod Mapping
 pub mod Checking
+pub mod Results
 pub mod Writing
 pub mod FileMap
 pub mod Converted

@@ -3,9 +3,10 @@ use Prim.Native.Nat.{ℕ}
 use mathlib.Core.Path.{◌≡◌, ◌∙◌, ap}
 use mathlib.Core.List.{List}
 use lib.ListN.{length}
-use Rattle.refusals.specs.Answers.{left}
-use Rattle.level_map.specs.declared.MappedNode.{MappedNode}
-use Rattle.level_map.specs.Answer.{answer, NodeBestMapOrNone}
+use Rattle.std.specs.Prelude.{Result}
+use Rattle.refusals.specs.declared.Refusal.{Refusal}
+use Rattle.refusals.specs.Answers.{answered, left}
+use Rattle.level_map.specs.Answer.{NodeBestMapOrNone}
 use Rattle.map_store.specs.Store.{stored_levels}
 use Rattle.session.specs.declared.Session.{Session}
 use Rattle.session.specs.State.{node_in, Sound}
@@ -13,8 +14,8 @@ use Rattle.session.specs.Asking.{map_given}
 use Rattle.session.specs.Mapping.{Maps}
 use Rattle.planner_c.specs.Returned.{Returned, sized}
 
-module _ (s : Session) (buffer : List ℕ) {a : MappedNode} {after : List ℕ} (h : Maps s buffer a after) where
-  pub map_returned : (r : Returned) → r ≡ sized (answer a) → r ≡ sized (map_given s (length buffer))
+module _ (s : Session) (buffer : List ℕ) {a : Result ℕ Refusal} {after : List ℕ} (h : Maps s buffer a after) where
+  pub map_returned : (r : Returned) → r ≡ sized (answered a) → r ≡ sized (map_given s (length buffer))
   map_returned r p = p ∙ ap sized h.answers
 
   pub map_buffer : after ≡ left (map_given s (length buffer)) (stored_levels s.store s.count) buffer

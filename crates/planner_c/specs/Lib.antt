@@ -4,3 +4,5 @@ pub mod Changes
 pub mod Writing
 -- Only the theorems use this.
 pub mod OneRow
+-- Only functions that C does not call use this.
+pub mod Results

@@ -3,9 +3,8 @@
 use Rattle.std.specs.Prelude.{ℕ, List, [], ◌∷◌}
 use Rattle.refusals.specs.Refusals.{Numbered, Outcome, accepted, refused}
 use Rattle.completion.specs.Test.{Completion, on_time, late}
-use Rattle.plan_file.specs.declared.Edition.{Edition}
-use Rattle.plan_file.specs.declared.Edition.TheVariants.{First, Second}
-use Rattle.plan_file.specs.Answers.{Filled}
+use Rattle.plan_file.specs.Editions.{edition_number}
+use Rattle.plan_file.specs.declared.ReadPlan.{ReadPlan}
 use Rattle.refusals.specs.Answers.{Answer, gives, refuses}
 
 -- The number that is returned, and the values as the call leaves them.
@@ -30,13 +29,8 @@ abbrev pub checked : Outcome → Returned
 checked accepted = given 0 0 0
 checked (refused r) = back r
 
--- The number of an edition.
-abbrev pub edition_number : Edition → ℕ
-edition_number First = 1
-edition_number Second = 2
-
 -- The reader gives how many rows and how many entries it filled, and the edition.
-abbrev pub sized_plan : Answer Filled → Returned
+abbrev pub sized_plan : Answer ReadPlan → Returned
 sized_plan (gives s) = given s.rows s.entries (edition_number s.edition)
 sized_plan (refuses r) = back r
 

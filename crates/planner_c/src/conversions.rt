@@ -7,7 +7,7 @@ ghost use Rattle.converter.specs.Conversion.{convert_answer};
 ghost use Rattle.converter.specs.RoundTrip.{ConvertedAgain};
 ghost use Rattle.planner_c.specs.Returned.{returned, sized};
 
-use super::returned::give_written;
+use super::returned::give;
 use plan_file::Edition;
 
 // Writes the plan of a file of edition 1 in edition 2, with every J 0, from the buffer's start. Gives the new file's length.
@@ -26,8 +26,7 @@ pub extern "C" fn maiplur_convert_forward(
     ensures converted_again { ConvertedAgain Edition.Second file.now
         (convert_answer Edition.Second file.now (length out.old)) out.new }
 {
-    let written = converter::forward(file, out);
-    give_written(written, values)
+    give(converter::forward(file, out), values)
 }
 
 // Writes the plan of a file of edition 2 in edition 1, if every J is 0, from the buffer's start. Gives the new file's length.
@@ -42,6 +41,5 @@ pub extern "C" fn maiplur_convert_back(file: &[u8], out: &mut [u8], values: &mut
     ensures converted_again { ConvertedAgain Edition.First file.now
         (convert_answer Edition.First file.now (length out.old)) out.new }
 {
-    let written = converter::back(file, out);
-    give_written(written, values)
+    give(converter::back(file, out), values)
 }

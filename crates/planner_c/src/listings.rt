@@ -4,8 +4,7 @@ ghost use Rattle.refusals.specs.Answers.{left};
 ghost use Rattle.listing.specs.Listing.{listing, list_answer};
 ghost use Rattle.planner_c.specs.Returned.{returned, sized};
 
-use super::returned::{give, refuse};
-use listing::Listed;
+use super::returned::give;
 
 // Lists a plan file from the buffer's start; for a refused file, the text is one line with the refusal. Gives the text's
 // length.
@@ -17,9 +16,5 @@ pub extern "C" fn maiplur_list(file: &[u8], text: &mut [u8], values: &mut [usize
         text.old }
     ensures file_len_bound { length (listing file.now) ≤ 115625 }
 {
-    let listed = listing::list_plan(file, text);
-    match listed {
-        Listed::Text(n) => give(n, 0, 0, values),
-        Listed::Refused(r) => refuse(r, values),
-    }
+    give(listing::list_plan(file, text), values)
 }

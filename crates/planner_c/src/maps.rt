@@ -7,8 +7,7 @@ ghost use Rattle.level_map.specs.Answer.{map_of, NodeBestMapOrNone};
 ghost use Rattle.planner.specs.Mapping.{file_answer};
 ghost use Rattle.planner_c.specs.Returned.{returned, sized};
 
-use super::returned::{give, refuse};
-use level_map::MappedNode;
+use super::returned::give;
 
 // Maps the node of a plan file that has this number: one byte per entry from the buffer's start. Gives the count of levels
 // used.
@@ -28,9 +27,5 @@ pub extern "C" fn maiplur_map(
         NodeBestMapOrNone (node_found file.now number) levels.old
         (file_answer file.now number (length levels.old)) levels.new }
 {
-    let mapped = planner::map_node(file, number, levels);
-    match mapped {
-        MappedNode::Levels(used) => give(used as usize, 0, 0, values),
-        MappedNode::Refused(r) => refuse(r, values),
-    }
+    give(planner::map_node(file, number, levels), values)
 }

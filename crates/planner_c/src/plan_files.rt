@@ -1,7 +1,8 @@
 // Plan files for C: checking, reading and writing.
 ghost use Rattle.std.specs.Prelude.{◌≡◌, ◌↔◌, map, length};
-ghost use Rattle.plan_file.specs.Answers.{read_answer, write_answer};
-ghost use Rattle.refusals.specs.Answers.{left};
+ghost use Rattle.plan_file.specs.Answers.{read_answer};
+ghost use Rattle.plan_file.specs.Editions.{edition_for};
+ghost use Rattle.refusals.specs.Answers.{answered, left};
 ghost use Rattle.plan_file.specs.Check.{file_check};
 ghost use Rattle.plan_file.specs.Decoding.{plan_in};
 ghost use Rattle.plan_file.specs.Encoding.{encoding};
@@ -9,11 +10,11 @@ ghost use Rattle.plan_file.specs.Limits.{IsPlanFile};
 ghost use Rattle.plan_file.specs.RoundTrips.{WrittenAgain, ReadAgain};
 ghost use Rattle.plan_file.specs.Plan.{row_word, plan_of};
 ghost use Rattle.node_words.specs.Words.{words_of};
-ghost use Rattle.planner_c.specs.Returned.{returned, given, checked, edition_number, sized_plan, sized};
-ghost use Rattle.planner_c.specs.Writing.{edition_for, write_for};
+ghost use Rattle.planner_c.specs.Returned.{returned, given, checked, sized_plan, sized};
+ghost use Rattle.planner_c.specs.Writing.{write_for};
 
-use super::returned::{give, give_checked, give_written, refuse};
-use plan_file::{Edition, ReadPlan};
+use super::returned::give;
+use plan_file::Edition;
 use refusals::Refusal;
 
 // Checks a plan file. Returns 0 exactly for the files of plans within the limits.
@@ -22,8 +23,7 @@ pub extern "C" fn maiplur_check(file: &[u8], values: &mut [usize; 3]) -> u32
     ensures values_after { returned result values.new ≡ checked (file_check file.now) }
     ensures variant { (returned result values.new ≡ given 0 0 0) ↔ IsPlanFile file.now }
 {
-    let found = plan_file::check_file(file);
-    give_checked(found, values)
+    give(plan_file::check_file(file), values)
 }
 
 // Reads a file's plan into buffers: one word per row, and six per entry. Gives how many rows and entries it filled, and the
@@ -47,45 +47,18 @@ pub extern "C" fn maiplur_read(
         (read_answer file.now (length rows.old) (length entries.old))
         rows.new entries.new }
 {
-    let read = plan_file::read_plan(file, rows, entries);
-    match read {
-        ReadPlan::Filled {
-            edition,
-            rows: nodes,
-            entries: count,
-        } => give(nodes, count, edition_number(edition), values),
-        ReadPlan::Refused(r) => refuse(r, values),
-    }
+    give(plan_file::read_plan(file, rows, entries), values)
 }
 
-// A number of an edition, for C.
-fn edition_number(edition: Edition) -> usize
-    ensures { result ≡ edition_number edition }
-{
-    match edition {
-        Edition::First => 1,
-        Edition::Second => 2,
-    }
-}
-
-// Writes a plan in an edition.
-fn write_in(
-    edition: Edition,
-    rows: &[u32],
-    entries: &[u32],
-    file: &mut [u8],
-    values: &mut [usize; 3],
-) -> u32
-    ensures values_after { returned result values.new ≡
-        sized (write_answer edition rows.now entries.now (length file.old)) }
+// Writes a plan as a file of the edition with this number (2 if there is none).
+fn write_in(edition: u32, rows: &[u32], entries: &[u32], file: &mut [u8]) -> Result<usize, Refusal>
+    ensures answer { answered result ≡ write_for edition rows.now entries.now (length file.old) }
     ensures file_after { file.new ≡
-        left (write_answer edition rows.now entries.now (length file.old))
-        (encoding edition (plan_of rows.now entries.now)) file.old }
-    ensures read_again { ReadAgain edition rows.now entries.now
-        (write_answer edition rows.now entries.now (length file.old)) file.new }
+        left (answered result) (encoding (edition_for edition) (plan_of rows.now entries.now)) file.old }
+    ensures read_again { ReadAgain (edition_for edition) rows.now entries.now (answered result) file.new }
 {
-    let written = plan_file::write_plan(edition, rows, entries, file);
-    give_written(written, values)
+    let edition = Edition::try_from(edition)?;
+    plan_file::write_plan(edition, rows, entries, file)
 }
 
 // Writes a plan as a file of edition 1 or 2 from the buffer's start. Gives the file's length. From the written file,
@@ -106,9 +79,5 @@ pub extern "C" fn maiplur_write(
     ensures read_again { ReadAgain (edition_for edition) rows.now entries.now
         (write_for edition rows.now entries.now (length file.old)) file.new }
 {
-    match edition {
-        1 => write_in(Edition::First, rows, entries, file, values),
-        2 => write_in(Edition::Second, rows, entries, file, values),
-        _ => refuse(Refusal::OpeningBytes, values),
-    }
+    give(write_in(edition, rows, entries, file), values)
 }

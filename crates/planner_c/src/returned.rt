@@ -1,45 +1,93 @@
-// How every function returns its answer.
-ghost use Rattle.std.specs.Prelude.{◌≡◌};
-ghost use Rattle.refusals.specs.Refusals.{numbered, outcome};
-ghost use Rattle.plan_file.specs.Answers.{write_gives};
-ghost use Rattle.planner_c.specs.Returned.{returned, back, given, checked, sized};
+// How every function returns its answer: 0 and three values, or the number of a refusal with its places.
+ghost use Rattle.std.specs.Prelude.{◌≡◌, List, ℕ};
+ghost use Rattle.planner_c.specs.Returned.{returned};
+ghost use Rattle.planner_c.specs.Results.{answered_by, no_results, number_results, plan_results, timing_results};
 
-use plan_file::Written;
-use refusals::{Checked, Refusal};
+use completion::Timing;
+use plan_file::ReadPlan;
+use refusals::{Numbers, Refusal};
 
-// Returns the number of a refusal, and writes its row and its entry position to `values`.
-pub(crate) fn refuse(r: Refusal, values: &mut [usize; 3]) -> u32
-    ensures { returned result values.new ≡ back (numbered r) }
-{
-    let n = refusals::numbers_of(r);
-    *values = [n.row, n.entry, 0];
-    n.number as u32
+// A result that is given to C as three numbers.
+pub(crate) trait Results {
+    // Which numbers.
+    ghost numbers: { Self → List ℕ };
+
+    fn numbers(self) -> [usize; 3]
+        ensures { result ≡ numbers self };
 }
 
-// Returns 0, and writes the results of an accepted call to `values`.
-pub(crate) fn give(first: usize, second: usize, third: usize, values: &mut [usize; 3]) -> u32
-    ensures { returned result values.new ≡ given first second third }
-{
-    *values = [first, second, third];
-    0
-}
+// A check has no results.
+impl Results for () {
+    ghost numbers = { no_results };
 
-// Returns the outcome of a check. An accepted check has no results: all values are 0.
-pub(crate) fn give_checked(found: Checked, values: &mut [usize; 3]) -> u32
-    ensures { returned result values.new ≡ checked (outcome found) }
-{
-    match found {
-        Checked::Accepted => give(0, 0, 0, values),
-        Checked::Refused(r) => refuse(r, values),
+    fn numbers(self) -> [usize; 3] {
+        [0, 0, 0]
     }
 }
 
-// Returns the answer of a call that writes a file: the file's length, or the refusal.
-pub(crate) fn give_written(written: Written, values: &mut [usize; 3]) -> u32
-    ensures { returned result values.new ≡ sized (write_gives written) }
+// A length. (Each type of a result has an impl of its own: the trait says for each which numbers C gets.)
+impl Results for usize {
+    ghost numbers = { number_results };
+
+    fn numbers(self) -> [usize; 3] {
+        [self, 0, 0]
+    }
+}
+
+// A count of levels.
+impl Results for u8 {
+    ghost numbers = { number_results };
+
+    fn numbers(self) -> [usize; 3] {
+        usize::from(self).numbers()
+    }
+}
+
+// A completion time.
+impl Results for u32 {
+    ghost numbers = { number_results };
+
+    fn numbers(self) -> [usize; 3] {
+        (self as usize).numbers()
+    }
+}
+
+impl Results for ReadPlan {
+    ghost numbers = { plan_results };
+
+    fn numbers(self) -> [usize; 3] {
+        [self.rows, self.entries, usize::from(self.edition)]
+    }
+}
+
+// The completion time, or 0 if the entry is late, the rounds, and the overrun, or 0 if the entry is on time.
+impl Results for Timing {
+    ghost numbers = { timing_results };
+
+    fn numbers(self) -> [usize; 3] {
+        let rounds = self.rounds() as usize;
+        let overrun = self.overrun() as usize;
+        let Timing::OnTime { time, rounds: _ } = self else {
+            return [0, rounds, overrun];
+        };
+        [time as usize, rounds, 0]
+    }
+}
+
+// Returns 0 and writes the results of an accepted call to `values`; or returns the number of a refusal, and writes its row and
+// its entry position.
+pub(crate) fn give<T: Results>(answer: Result<T, Refusal>, values: &mut [usize; 3]) -> u32
+    ensures { returned result values.new ≡ answered_by T.numbers answer }
 {
-    match written {
-        Written::Length(n) => give(n, 0, 0, values),
-        Written::Refused(r) => refuse(r, values),
+    match answer {
+        Ok(found) => {
+            *values = found.numbers();
+            0
+        }
+        Err(r) => {
+            let n = Numbers::from(r);
+            *values = [n.row, n.entry, 0];
+            n.number as u32
+        }
     }
 }

@@ -1,8 +1,8 @@
 // The session for C. It is lent as words: its level count, its entry count, the words of a node, and the store of its map.
+// C names a function for each operation, so the functions here are alike, and take what C lends as numbers.
 ghost use Rattle.std.specs.Prelude.{◌≡◌, length};
 ghost use Rattle.refusals.specs.Answers.{left};
 ghost use Rattle.node_words.specs.Words.{entry_from};
-ghost use Rattle.completion.specs.Test.{completion};
 ghost use Rattle.level_map.specs.Answer.{NodeBestMapOrNone};
 ghost use Rattle.map_store.specs.Store.{stored_levels};
 ghost use Rattle.session.specs.State.{node_in, Sound};
@@ -10,15 +10,12 @@ ghost use Rattle.session.specs.Operations.{changing, opening, inserting, removin
 ghost use Rattle.session.specs.Timing.{time_answer};
 ghost use Rattle.session.specs.Asking.{map_given, map_time_given};
 ghost use Rattle.session.specs.InWords.{session_in};
-ghost use Rattle.planner_c.specs.Returned.{returned, sized, given_time, timed};
+ghost use Rattle.planner_c.specs.Returned.{returned, sized, timed};
 ghost use Rattle.planner_c.specs.Changes.{Changes};
 
-use super::returned::{give, give_checked, refuse};
-use completion::Timing;
-use level_map::MappedNode;
-use map_store::StoredTime;
+use super::returned::give;
 use node_words::EntryWords;
-use session::{SessionWords, TimeAnswer, in_words};
+use session::{SessionWords, in_words};
 
 // Opens a session, whatever the words held: an empty node with the given level count.
 #[unsafe(no_mangle)]
@@ -29,8 +26,7 @@ pub extern "C" fn maiplur_session_open(
 ) -> u32
     ensures { Changes (opening levels) words.old (returned result values.new) words.new }
 {
-    let answer = in_words::open(words, levels);
-    give_checked(answer, values)
+    give(in_words::open(words, levels), values)
 }
 
 // Sets the level count.
@@ -42,8 +38,7 @@ pub extern "C" fn maiplur_session_set_levels(
 ) -> u32
     ensures { Changes (changing (setting_levels levels)) words.old (returned result values.new) words.new }
 {
-    let answer = in_words::set_levels(words, levels);
-    give_checked(answer, values)
+    give(in_words::set_levels(words, levels), values)
 }
 
 // Inserts an entry before a position, or just after the last entry.
@@ -58,8 +53,7 @@ pub extern "C" fn maiplur_session_insert(
         (returned result values.new) words.new }
 {
     let e = node_words::entry_of(entry, 0);
-    let answer = in_words::insert(words, position, e);
-    give_checked(answer, values)
+    give(in_words::insert(words, position, e), values)
 }
 
 // Removes the entry at a position.
@@ -71,8 +65,7 @@ pub extern "C" fn maiplur_session_remove(
 ) -> u32
     ensures { Changes (changing (removing position)) words.old (returned result values.new) words.new }
 {
-    let answer = in_words::remove(words, position);
-    give_checked(answer, values)
+    give(in_words::remove(words, position), values)
 }
 
 // Replaces the entry at a position.
@@ -87,20 +80,7 @@ pub extern "C" fn maiplur_session_replace(
         (returned result values.new) words.new }
 {
     let e = node_words::entry_of(entry, 0);
-    let answer = in_words::replace(words, position, e);
-    give_checked(answer, values)
-}
-
-// Gives the completion time, or 0 if the entry is late, the rounds, and the overrun, or 0 if the entry is on time.
-fn give_time(t: Timing, values: &mut [usize; 3]) -> u32
-    ensures { returned result values.new ≡ given_time (completion t) }
-{
-    let rounds = t.rounds() as usize;
-    let overrun = t.overrun() as usize;
-    let Timing::OnTime { time, rounds: _ } = t else {
-        return give(0, rounds, overrun, values);
-    };
-    give(time as usize, rounds, 0, values)
+    give(in_words::replace(words, position, e), values)
 }
 
 // Times the entry at `i` in the group from `first` to `last`. Gives the completion time, or 0 if the entry is late, the
@@ -116,11 +96,7 @@ pub extern "C" fn maiplur_session_time(
     ensures { returned result values.new ≡
         timed (time_answer (node_in (session_in words.now)) first last i) }
 {
-    let answer = in_words::time(words, first, last, i);
-    match answer {
-        TimeAnswer::Answered(t) => give_time(t, values),
-        TimeAnswer::Refused(r) => refuse(r, values),
-    }
+    give(in_words::time(words, first, last, i), values)
 }
 
 // Maps the node: one byte per entry from the buffer's start. Gives the count of levels used. The map is the stored one.
@@ -139,11 +115,7 @@ pub extern "C" fn maiplur_session_map(
         NodeBestMapOrNone (node_in (session_in words.now)) levels.old
         (map_given (session_in words.now) (length levels.old)) levels.new }
 {
-    let mapped = in_words::map(words, levels);
-    match mapped {
-        MappedNode::Levels(used) => give(used as usize, 0, 0, values),
-        MappedNode::Refused(r) => refuse(r, values),
-    }
+    give(in_words::map(words, levels), values)
 }
 
 // Gives the completion time of the entry at `i` under the stored map.
@@ -155,9 +127,5 @@ pub extern "C" fn maiplur_session_map_time(
 ) -> u32
     ensures { returned result values.new ≡ sized (map_time_given (session_in words.now) i) }
 {
-    let answer = in_words::map_time(words, i);
-    match answer {
-        StoredTime::At(time) => give(time as usize, 0, 0, values),
-        StoredTime::Refused(r) => refuse(r, values),
-    }
+    give(in_words::map_time(words, i), values)
 }

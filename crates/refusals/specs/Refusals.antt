@@ -1,5 +1,5 @@
 -- The table of refusals (docs/SPEC.md, 'Refusals'): what a user sees of each.
-use Rattle.std.specs.Prelude.{ℕ, Bool, true, false}
+use Rattle.std.specs.Prelude.{ℕ, Bool, true, false, Result, Ok, Err}
 use Rattle.refusals.specs.declared.Refusal.{Refusal}
 use Rattle.refusals.specs.declared.Refusal.TheVariants.{
   ShortFile,
@@ -20,8 +20,6 @@ use Rattle.refusals.specs.declared.Refusal.TheVariants.{
   Repeat,
 }
 use Rattle.refusals.specs.declared.Numbers.{Numbers}
-use Rattle.refusals.specs.declared.Checked.{Checked}
-use Rattle.refusals.specs.declared.Checked.TheVariants.{Accepted, Refused}
 
 -- A refused call answers a number of the table, with a row and an entry position, both from 0.
 pub record Numbered : Type 0 where
@@ -62,9 +60,9 @@ pub data Outcome : Type 0 where
   refused : Numbered → Outcome
 
 -- What the code's answer to a check says.
-abbrev pub outcome : Checked → Outcome
-outcome Accepted = accepted
-outcome (Refused r) = refused (numbered r)
+abbrev pub outcome : Result Unit Refusal → Outcome
+outcome (Ok done) = accepted
+outcome (Err r) = refused (numbered r)
 
 infixr 20 ◌and_then◌
 -- One check after another: the first refusal that is met.

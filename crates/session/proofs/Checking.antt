@@ -1,17 +1,14 @@
 -- Laws of checks in sequence, and of the session that a call leaves after them.
-use Prim.Native.Nat.{ℕ, ◌≤◌, ◌<◌}
+use Prim.Native.Nat.{ℕ, ◌+◌, ◌-◌, ◌≤◌, ◌<◌}
 use mathlib.Core.Path.{◌≡◌, ◌∙◌, sym, ap}
 use mathlib.Core.Bool.{Bool, true, false, not, ◌&&◌}
-use mathlib.Core.List.{List}
+use mathlib.Core.List.{List, [], ◌∷◌}
 use native.Mathlib.Omega.{arith}
 use lib.ListN.{length}
 use lib.Dec.{leb, ltb}
 use borrow.Author.Tests.{le-leb, lt-leb, lt-ltb, le-ltb, leb-true, ltb-true, not-true}
 use Rattle.task_model.specs.declared.Entry.{Entry}
-use Rattle.refusals.specs.declared.Refusal.{Refusal}
-use Rattle.refusals.specs.declared.Checked.{Checked}
-use Rattle.refusals.specs.declared.Checked.TheVariants.{Accepted, Refused}
-use Rattle.refusals.specs.Refusals.{Numbered, Outcome, at, accepted, refused, outcome, ◌and_then◌, must_hold}
+use Rattle.refusals.specs.Refusals.{Numbered, Outcome, at, accepted, refused, ◌and_then◌, must_hold}
 use Rattle.task_model.specs.Limits.{most_levels, most_entries, Node, EntryHolds, AllHold}
 use Rattle.task_model.specs.Checks.{entry_check, has_number, node_check}
 use Rattle.node_words.specs.Words.{node_of}
@@ -82,14 +79,6 @@ module _ (o : Operation) (n : Node) where
   unfolding step_check_by
   step_accepted p = both_accepted _ _ p
 
--- the same, of what the checks of a lent session answered
-module _ (o : Operation) (n : Node) (lent : Checked) (p : outcome lent ≡ lent_check o n) where
-  pub lent_refused : {r : Refusal} → lent ≡ Refused r → outcome lent ≡ step_check o n
-  lent_refused e = ap outcome e ∙ sym (lent_stops o n _ (sym p ∙ ap outcome e))
-
-  pub lent_accepted : lent ≡ Accepted → {own : Outcome} → own ≡ operation_check o n → own ≡ step_check o n
-  lent_accepted e h = h ∙ sym (lent_goes_on o n (sym p ∙ ap outcome e))
-
 -- a new entry among others: its fields, and then its number
 module _ (p : ℕ) (e : Entry) (others : List Entry) where
   abbrev pub new_check : Outcome
@@ -110,16 +99,11 @@ module _ (p : ℕ) (e : Entry) (others : List Entry) where
   pub new_accepted : new_check ≡ accepted → EntryHolds e × (has_number e.number others ≡ false)
   new_accepted a = let q = both_accepted _ _ a in ((entry_accepted 0 p e).0 q.0, others_new q.1)
 
-  -- the same, of what the check of the fields answered, and then that of the number, with whether the others have it
-  module _ (fields : Checked) (q : outcome fields ≡ entry_check 0 p e) where
-    pub fields_refused : {r : Refusal} → fields ≡ Refused r → outcome fields ≡ new_check
-    fields_refused f = ap outcome f ∙ sym (then_refused _ _ _ (sym q ∙ ap outcome f))
-
-    pub fields_accepted : fields ≡ Accepted → {o : Outcome} (taken : Bool) → o ≡ must_hold (not taken) (at 16 0 p)
-        → taken ≡ has_number e.number others → o ≡ new_check
-    unfolding others_check
-    fields_accepted f taken t b =
-        t ∙ ap (λ (x : Bool). must_hold (not x) (at 16 0 p)) b ∙ sym (then_accepted _ _ (sym q ∙ ap outcome f))
+  -- the same, of whether the others have the number
+  pub new_checked : {o : Outcome} (taken : Bool) → taken ≡ has_number e.number others
+      → o ≡ (entry_check 0 p e and_then must_hold (not taken) (at 16 0 p)) → o ≡ new_check
+  unfolding others_check
+  new_checked taken q h = h ∙ ap (λ (x : Bool). entry_check 0 p e and_then must_hold (not x) (at 16 0 p)) q
 
 -- each operation's checks
 module _ (n : Node) (p : ℕ) where
@@ -219,12 +203,34 @@ module _ (n : Node) (first last i : ℕ) where
   unfolding time_answer_by
   time_given p = rw p
 
--- what an accepted operation may go by, on a list of `count` entries
-abbrev pub Ready : Change → ℕ → Type 0
-Ready (inserting p e) count = (p ≤ count) × (count < most_entries)
-Ready (removing p) count = (p < count) × (count ≤ most_entries)
-Ready (replacing p e) count = (p < count) × (count ≤ most_entries)
-Ready (setting_levels l) count = count ≤ most_entries
+-- a change puts new entries in place of those from a position on that go
+abbrev pub position_of : Change → ℕ
+position_of (inserting p e) = p
+position_of (removing p) = p
+position_of (replacing p e) = p
+position_of (setting_levels l) = 0
+
+abbrev pub gone_of : Change → ℕ
+gone_of (inserting p e) = 0
+gone_of (removing p) = 1
+gone_of (replacing p e) = 1
+gone_of (setting_levels l) = 0
+
+abbrev pub new_of : Change → List Entry
+new_of (inserting p e) = e ∷ []
+new_of (removing p) = []
+new_of (replacing p e) = e ∷ []
+new_of (setting_levels l) = []
+
+-- how many entries it leaves of `count`
+abbrev pub counted : Change → ℕ → ℕ
+counted c count = count - gone_of c + length (new_of c)
+
+-- what an accepted change may go by, on a list of `count` entries
+pub record Ready (c : Change) (count : ℕ) : Type 0 where
+  pub within : position_of c + gone_of c ≤ count
+  pub few : count ≤ most_entries
+  pub room : counted c count ≤ most_entries
 
 module _ (ws : List ℕ) (count levels : ℕ) where
   abbrev n : Node
@@ -240,10 +246,17 @@ module _ (ws : List ℕ) (count levels : ℕ) where
   unfolding lent_check_by
   change_ready (inserting p e) a =
       let q = insert_accepted n p e (step_accepted _ n a).1 in
-      (omega (arith, sized), omega (arith, sized))
-  change_ready (removing p) a = let q = step_accepted _ n a in (omega (arith, sized, remove_accepted n p q.1), few q.0)
-  change_ready (replacing p e) a = let q = step_accepted _ n a in (omega (arith, sized, (replace_accepted n p e q.1).0), few q.0)
-  change_ready (setting_levels l) a = few (step_accepted _ n a).0
+      record { within = omega (arith, sized); few = omega (arith, sized); room = omega (arith, sized) }
+  change_ready (removing p) a =
+      let q = step_accepted _ n a in
+      record { within = omega (arith, sized, remove_accepted n p q.1); few = few q.0; room = omega (arith, few q.0) }
+  change_ready (replacing p e) a =
+      let q = step_accepted _ n a in
+      let h = (replace_accepted n p e q.1).0 in
+      record { within = omega (arith, sized); few = few q.0; room = omega (arith, sized, few q.0) }
+  change_ready (setting_levels l) a =
+      let q = step_accepted _ n a in
+      record { within = omega arith; few = few q.0; room = omega (arith, few q.0) }
 
   pub time_ready : (first last i : ℕ) → step_check (asking (timing first last i)) n ≡ accepted
       → AllHold n.entries × ((first ≤ i) × (i ≤ last) × (last < count) × (count ≤ most_entries))

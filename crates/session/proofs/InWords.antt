@@ -4,24 +4,24 @@ use mathlib.Core.Path.{◌≡◌, ◌∙◌, refl, sym, ap, subst}
 use mathlib.Core.Logic.{⊎_elim}
 use mathlib.Core.List.{List, [], ◌∷◌, ◌++◌, append-nil}
 use native.Mathlib.Omega.{arith}
-use lib.ListN.{length, take, drop, get_or, set, length-append, length-drop, length-replicate, take-append-drop, drop_of_length-le}
-use lib.Seq.{paste, take_all, take_at, drop_at, drop-drop, length-take-le}
+use lib.ListN.{length, take, drop, get_or, set, length-append, length-drop, take-append-drop, drop_of_length-le}
+use lib.Seq.{take_all, take_at, drop_at, drop-drop, length-take-le}
 use borrow.Rule.Slice.PartMut.{put_mid}
 use Rattle.refusals.specs.declared.Refusal.{Refusal}
-use Rattle.refusals.specs.declared.Checked.{Checked}
-use Rattle.refusals.specs.declared.Checked.TheVariants.{Accepted, Refused}
-use Rattle.refusals.specs.Refusals.{Numbered, accepted, refused, outcome}
+use Rattle.std.specs.Prelude.{Result, Ok, Err}
+use Rattle.refusals.specs.Refusals.{Numbered, Outcome, accepted, refused, numbered}
+use Rattle.task_model.specs.declared.Entry.{Entry}
 use Rattle.task_model.specs.Limits.{most_entries, Node, AllHold, NodeHolds, NodeValid}
 use Rattle.task_model.proofs.Theorems.{node_accepted}
 use Rattle.node_words.specs.Words.{node_size, words_of, node_of}
-use Rattle.node_words.specs.Lists.{zeros, zero_padded}
+use Rattle.node_words.specs.Lists.{zeros, zero_padded, splice}
 use Rattle.node_words.proofs.Entries.{length-entries}
-use Rattle.node_words.proofs.Copying.{copy_all}
+use Rattle.node_words.proofs.Lists.{size_spliced}
 use Rattle.refusals.proofs.Outcomes.{either}
 use Rattle.map_store.specs.Store.{store_size, store_of}
 use Rattle.map_store.proofs.Theorems.{store_size_lem, store_empty}
 use Rattle.session.specs.declared.Session.{Session}
-use Rattle.session.specs.State.{node_in, session_with, session_of, remembered}
+use Rattle.session.specs.State.{node_in, session_with, session_of, spliced, remembered}
 use Rattle.session.specs.Operations.{
   rules,
   Change,
@@ -42,8 +42,8 @@ use Rattle.session.specs.Operations.{
 use Rattle.session.specs.Steps.{store_after_by, session_made, session_after, session_after_all, Follows}
 use Rattle.session.specs.InWords.{node_at, store_at, session_size, session_in, words_in, words_left, words_after, words_after_by, words_after_all, FollowsIn}
 use Rattle.session.proofs.Reading.{Kept, read_with, number_short}
-use Rattle.session.proofs.Checking.{Ready, change_ready, step_accepted, after_refused, after_accepted}
-use Rattle.session.proofs.Changing.{counted, session_made_lem, padded_size}
+use Rattle.session.proofs.Checking.{position_of, gone_of, new_of, counted, Ready, change_ready, step_accepted, after_refused, after_accepted}
+use Rattle.session.proofs.Changing.{changed_is, session_made_lem, padded_size}
 use Rattle.session.proofs.Sequences.{holds_changed, kept_changed}
 
 -- A session whose parts have as many words as their arrays.
@@ -65,8 +65,8 @@ words_sized w h =
     }
 
 -- the words from the store on, as they are lent
-pub store_lent : (w : List ℕ) → take (length w - store_at) (drop store_at w) ≡ drop store_at w
-store_lent w = take_all (length w - store_at) (drop store_at w) (omega (arith, length-drop store_at w))
+pub store_lent : (w : List ℕ) → length w ≡ session_size → take store_size (drop store_at w) ≡ drop store_at w
+store_lent w h = take_all store_size (drop store_at w) (omega (arith, length-drop store_at w))
 
 -- the session in the words of a session, if those of its node are as many as they should be, or if words held it
 pub session_back : (s : Session) → length s.words ≡ node_size → session_in (words_in s) ≡ s
@@ -81,38 +81,17 @@ module _ (s : Session) (sized : Sized s) where
   pub session_length : length (words_in s) ≡ session_size
   session_length = omega (arith, length-append s.words s.store, sized.node, sized.store)
 
--- words that are copied over all of an array, and the two parts of a session that are copied into one
-pub copied : (old from : List ℕ) → length from ≡ length old → paste old 0 from (length from) ≡ from
-copied old from h = copy_all old 0 from (length from) (omega arith) (drop_of_length-le old {i = 0 + length from} (omega arith))
-
-module _ (s : Session) (sized : Sized s) where
-  abbrev start : List ℕ
-  start = s.levels ∷ s.count ∷ zeros (node_size + store_size)
-
-  half : paste start node_at s.words (length s.words) ≡ (s.levels ∷ s.count ∷ s.words) ++ zeros store_size
-  half =
-      rw (sized.node, take_all node_size s.words (omega (arith, sized.node)))
-
-  half_long : length (s.levels ∷ s.count ∷ s.words) ≡ store_at
-  half_long = omega (arith, sized.node)
-
-  module _ (w : List ℕ) (p : w ≡ paste (s.levels ∷ s.count ∷ zeros (node_size + store_size)) node_at s.words (length s.words)) where
-    pub half_size : length w ≡ session_size
-    half_size =
-        ap length (p ∙ half)
-        ∙ omega (arith, length-append (s.levels ∷ s.count ∷ s.words) (zeros store_size), half_long, length-replicate {A = ℕ} store_size 0)
-
-    pub both_copied : paste w store_at s.store (length s.store) ≡ words_in s
-    both_copied =
-        copy_all w store_at s.store (length s.store) (omega arith) (drop_of_length-le w {i = store_at + length s.store} (omega (arith, half_size, sized.store)))
-        ∙ ap (λ l. l ++ s.store)
-        (ap (take store_at) (p ∙ half) ∙ take_at (s.levels ∷ s.count ∷ s.words) (zeros store_size) store_at half_long)
+-- the two parts of a session, once they are copied into its words
+pub both_copied : (s : Session) → Sized s → (ws st : List ℕ) → ws ≡ s.words → st ≡ s.store
+    → put_mid store_at store_size (put_mid node_at node_size (s.levels ∷ s.count ∷ zeros (node_size + store_size)) ws) st ≡ words_in s
+both_copied s sized ws st p q =
+    rw (p, q, take_at s.words (zeros store_size) node_size sized.node, drop_at s.words (zeros store_size) node_size sized.node, append-nil s.store)
 
 -- what comes back for the words of the store
 pub store_back : (w st : List ℕ) → length w ≡ session_size
-    → put_mid store_at (length w - store_at) w st ≡ get_or w 0 0 ∷ get_or w 1 0 ∷ (take node_size (drop node_at w) ++ st)
+    → put_mid store_at store_size w st ≡ get_or w 0 0 ∷ get_or w 1 0 ∷ (take node_size (drop node_at w) ++ st)
 store_back w st h =
-    rw (drop_of_length-le (drop store_at w) {i = length w - store_at} (omega (arith, length-drop store_at w)), append-nil st) (front w st h)
+    rw (drop_of_length-le (drop store_at w) {i = store_size} (omega (arith, length-drop store_at w)), append-nil st) (front w st h)
   where
     front : (l m : List ℕ) → length l ≡ session_size → take store_at l ++ m ≡ get_or l 0 0 ∷ get_or l 1 0 ∷ (take node_size (drop node_at l) ++ m)
     front [] m h = absurd (omega arith)
@@ -189,23 +168,21 @@ module _ (o : Operation) (w : List ℕ) where
       (either (step_check o (node_in (session_in w))))
 
   -- what an operation in place leaves
-  module _ (a : Checked) (p : outcome a ≡ step_check o (node_in (session_in w))) where
-    pub in_refused : (r : Numbered) → outcome a ≡ refused r → FollowsIn o w a w
-    in_refused r q = record { answer = p; words = sym (words_refused r (sym p ∙ q)) }
+  pub in_refused : (r : Refusal) → refused (numbered r) ≡ step_check o (node_in (session_in w)) → FollowsIn o w (Err r) w
+  in_refused r p = record { answer = p; words = sym (words_refused (numbered r) (sym p)) }
 
-    pub in_accepted : outcome a ≡ accepted → (t : Session) → t ≡ session_made o (session_in w) → (after : List ℕ) → after ≡ words_in t
-        → FollowsIn o w a after
-    in_accepted q t made after e = record { answer = p; words = e ∙ ap words_in made ∙ sym (words_accepted (sym p ∙ q)) }
+  pub in_accepted : accepted ≡ step_check o (node_in (session_in w)) → (t : Session) → t ≡ session_made o (session_in w) → {after : List ℕ}
+      → after ≡ words_in t → FollowsIn o w (Ok tt) after
+  in_accepted p t made e = record { answer = p; words = e ∙ ap words_in made ∙ sym (words_accepted (sym p)) }
 
 -- an operation by value, made in the words of the session
-pub by_value : (o : Operation) (s : Session) → Sized s → {a : Checked} {w after : List ℕ} {t : Session} → w ≡ words_in s → FollowsIn o w a after
-    → t ≡ session_in after → Follows o s a t
-by_value o s sized written h read =
-    let g = rw written at h in
-    let back = session_back s sized.node in
+pub by_value : (o : Operation) (s : Session) → session_in (words_in s) ≡ s → {w left after : List ℕ} {a : Result Unit Refusal} {t : Session}
+    → w ≡ words_in s → FollowsIn o w a left → left ≡ after → t ≡ session_in after → Follows o s a t
+by_value o s same written h kept read =
+    let g = rw (written, kept) at h in
     record {
-      answer = g.answer ∙ ap (λ u. step_check o (node_in u)) back;
-      session = read ∙ ap session_in g.words ∙ words_session o (words_in s) ∙ ap (session_after o) back;
+      answer = g.answer ∙ ap (λ u. step_check o (node_in u)) same;
+      session = read ∙ ap session_in g.words ∙ words_session o (words_in s) ∙ ap (session_after o) same;
     }
 
 -- opening clears every word but the first, and stores that an empty node has a map
@@ -226,87 +203,71 @@ back [] ws h = absurd (omega arith)
 back (levels ∷ []) ws h = absurd (omega arith)
 back (levels ∷ count ∷ rest) ws h = refl
 
--- the words with what a change writes before that part
-abbrev pub headed : Change → ℕ → List ℕ → List ℕ
-headed (inserting p e) count l = set l 1 (count + 1)
-headed (removing p) count l = set l 1 (count - 1)
-headed (replacing p e) count l = l
-headed (setting_levels n) count l = set l 0 n
+-- new entries in place of others in that part, with the new count before it, are those of the spliced session
+module _ (w : List ℕ) (size : length w ≡ session_size) (p gone : ℕ) (new : List Entry) (within : p + gone ≤ get_or w 1 0)
+    (room : get_or w 1 0 - gone + length new ≤ most_entries) where
+  few : length (splice p gone new (node_in (session_in w)).entries) ≤ most_entries
+  few =
+      let kept = length-entries (part w) 0 (get_or w 1 0) in
+      omega (arith, size_spliced p (node_in (session_in w)).entries gone new (omega arith), kept)
 
--- what a change may go by there, once it is accepted
-abbrev pub PartReady : Change → List ℕ → Type 0
-PartReady x w = Ready x (get_or w 1 0) × (length (part w) ≡ node_size)
+  pub splice_back : (left : ℕ) (ws : List ℕ) → left ≡ get_or w 1 0 - gone + length new
+      → ws ≡ zero_padded (words_of (splice p gone new (node_in (session_in w)).entries))
+      → session_in (set (put_mid node_at (store_at - node_at) w ws) 1 left) ≡ spliced p gone new (session_in w)
+  splice_back left ws e q =
+      ap (λ l. session_in (set l 1 left)) (back w ws size)
+      ∙ rw (e, q) (session_back (spliced p gone new (session_in w)) (padded_size _ few))
 
-module _ (w : List ℕ) (size : length w ≡ session_size) where
-  -- they come back as ws
-  put_back : (x : Change) (ws : List ℕ) → headed x (get_or w 1 0) (put_mid node_at (store_at - node_at) w ws)
-      ≡ (changed x (node_in (session_in w))).levels ∷ counted x (get_or w 1 0) ∷ (ws ++ drop store_at w)
-  unfolding changed
-  put_back (inserting p e) ws = ap (λ l. set l 1 (get_or w 1 0 + 1)) (back w ws size)
-  put_back (removing p) ws = ap (λ l. set l 1 (get_or w 1 0 - 1)) (back w ws size)
-  put_back (replacing p e) ws = back w ws size
-  put_back (setting_levels n) ws = ap (λ l. set l 0 n) (back w ws size)
+-- what the checks of the same session answered
+pub asked : (x : Change) {s t : Session} → s ≡ t → {o : Outcome} → o ≡ step_check (changing x) (node_in s) → o ≡ step_check (changing x) (node_in t)
+asked x e h = h ∙ ap (λ (s : Session). step_check (changing x) (node_in s)) e
 
-  -- a change, from the checks of the part and from what it leaves there
-  module _ (x : Change) (a : Checked) (p : outcome a ≡ step_check (changing x) (node_in (session_in w))) where
-    pub part_refused : {r : Refusal} → a ≡ Refused r → FollowsIn (changing x) w a w
-    part_refused e = in_refused (changing x) w a p _ (ap outcome e)
+-- an accepted change, from the words that were lent
+module _ (w : List ℕ) (x : Change) (a : accepted ≡ step_check (changing x) (node_in (session_in w))) where
+  abbrev made : Node
+  made = changed x (node_in (session_in w))
 
-    pub part_ready : a ≡ Accepted → PartReady x w
-    part_ready e = (change_ready (part w) (get_or w 1 0) (get_or w 0 0) x (sym p ∙ ap outcome e), (words_sized w size).node)
+  pub part_ready : Ready x (get_or w 1 0)
+  part_ready = change_ready (part w) (get_or w 1 0) (get_or w 0 0) x (sym a)
 
-    module _ (e : a ≡ Accepted) {ws : List ℕ} (written : ws ≡ zero_padded (words_of (changed x (node_in (session_in w))).entries)) where
-      abbrev made : Node
-      made = changed x (node_in (session_in w))
+  holds : NodeHolds (changed x (node_in (session_in w)))
+  holds = change_holds _ _ _ x (sym a)
 
-      abbrev after : List ℕ
-      after = headed x (get_or w 1 0) (put_mid node_at (store_at - node_at) w ws)
+  made_is : {ws : List ℕ} → ws ≡ zero_padded (words_of (changed x (node_in (session_in w))).entries) → (store : List ℕ)
+      → ◌≡◌ {A = Session} (record { levels = (changed x (node_in (session_in w))).levels; count = counted x (get_or w 1 0); words = ws; store = store })
+      (session_with store (changed x (node_in (session_in w))))
+  made_is q store = session_made_lem (part w) (get_or w 1 0) (get_or w 0 0) x part_ready _ q store
 
-      step : step_check (changing x) (node_in (session_in w)) ≡ accepted
-      step = sym p ∙ ap outcome e
+  -- with the store worked out afresh
+  module _ (call : CallableChange x) (same : (changed x (node_in (session_in w))).levels ≡ get_or w 0 0) where
+    spliced_is : spliced (position_of x) (gone_of x) (new_of x) (session_in w) ≡ session_with (drop store_at w) made
+    spliced_is =
+        ap (λ l. record (spliced (position_of x) (gone_of x) (new_of x) (session_in w)) { levels = l }) (sym same)
+        ∙ made_is (ap (λ es. zero_padded (words_of es)) (sym (changed_is x (node_in (session_in w))))) (drop store_at w)
 
-      holds : NodeHolds (changed x (node_in (session_in w)))
-      holds = change_holds _ _ _ x step
+    read_made : node_in (session_with (drop store_at w) made) ≡ made
+    read_made = read_with made (change_kept _ _ _ x (sym a) call) (drop store_at w)
 
-      sized : Sized (session_with (drop store_at w) made)
-      sized = with_sized (drop store_at w) made holds.few_entries (words_sized w size).store
+    pub splice_held : AllHold (node_in (spliced (position_of x) (gone_of x) (new_of x) (session_in w))).entries
+    splice_held = subst (λ (m : Node). AllHold m.entries) (sym (ap node_in spliced_is ∙ read_made)) holds.each
 
-      after_words : after ≡ words_in (session_with (drop store_at w) made)
-      after_words =
-          put_back x ws ∙ ap words_in (session_made_lem (part w) (get_or w 1 0) (get_or w 0 0) x (part_ready e).0 _ written (drop store_at w))
+    pub splice_follows : store_after_by rules x (session_in w) ≡ store_of (changed x (node_in (session_in w))).entries → {last : List ℕ}
+        → last ≡ words_in (remembered (spliced (position_of x) (gone_of x) (new_of x) (session_in w))) → FollowsIn (changing x) w (Ok tt) last
+    unfolding session_with
+    splice_follows q e =
+        in_accepted (changing x) w a _
+        (ap remembered spliced_is ∙ ap (λ (m : Node). session_with (store_of m.entries) made) read_made ∙ ap (λ l. session_with l made) (sym q))
+        e
 
-      -- with the store as it was
-      pub part_kept : store_after_by rules x (session_in w) ≡ drop store_at w
-          → FollowsIn (changing x) w a (headed x (get_or w 1 0) (put_mid node_at (store_at - node_at) w ws))
-      part_kept q = in_accepted (changing x) w a p (ap outcome e) _ (ap (λ l. session_with l made) (sym q)) _ after_words
-
-      -- or with the store worked out afresh, from the words that the change leaves
-      pub part_length : length (headed x (get_or w 1 0) (put_mid node_at (store_at - node_at) w ws)) ≡ session_size
-      part_length = ap length after_words ∙ session_length _ sized
-
-      whole : session_in after ≡ session_with (drop store_at w) made
-      whole = ap session_in after_words ∙ session_back _ sized.node
-
-      module _ (call : CallableChange x) where
-        read_made : node_in (session_with (drop store_at w) made) ≡ made
-        read_made = read_with made (change_kept _ _ _ x step call) (drop store_at w)
-
-        pub part_holds : (get_or (headed x (get_or w 1 0) (put_mid node_at (store_at - node_at) w ws)) 1 0 ≤ most_entries)
-            × AllHold (node_in (session_in (headed x (get_or w 1 0) (put_mid node_at (store_at - node_at) w ws)))).entries
-        unfolding session_with
-        part_holds = (
-          rw after_words holds.few_entries,
-          subst (λ (m : Node). AllHold m.entries) (sym (ap node_in whole ∙ read_made)) holds.each,
-        )
-
-        pub part_remembered : store_after_by rules x (session_in w) ≡ store_of (changed x (node_in (session_in w))).entries → {last : List ℕ}
-            → last ≡ words_in (remembered (session_in (headed x (get_or w 1 0) (put_mid node_at (store_at - node_at) w ws))))
-            → FollowsIn (changing x) w a last
-        unfolding session_with
-        part_remembered q f =
-            in_accepted (changing x) w a p (ap outcome e) _
-            (ap remembered whole ∙ ap (λ (m : Node). session_with (store_of m.entries) made) read_made ∙ ap (λ l. session_with l made) (sym q))
-            _ f
+-- setting the level count leaves the store as it was
+pub levels_set : (w : List ℕ) → length w ≡ session_size → (levels : ℕ) → accepted ≡ step_check (changing (setting_levels levels)) (node_in (session_in w))
+    → {ws : List ℕ} → ws ≡ zero_padded (words_of (node_in (session_in w)).entries)
+    → FollowsIn (changing (setting_levels levels)) w (Ok tt) (set (put_mid node_at (store_at - node_at) w ws) 0 levels)
+unfolding changed
+levels_set w size levels a {ws} q =
+    let same : get_or w 1 0 ≡ counted (setting_levels levels) (get_or w 1 0) = omega arith in
+    in_accepted (changing (setting_levels levels)) w a _ (made_is w (setting_levels levels) a q (drop store_at w))
+    (ap (λ l. set l 0 levels) (back w ws size) ∙ ap (λ n. levels ∷ n ∷ (ws ++ drop store_at w)) same)
 
 pub rows_words : (os : List Operation) (w : List ℕ) → session_in (words_after_all os w) ≡ session_after_all os (session_in w)
 unfolding words_after_all session_after_all

@@ -5,19 +5,16 @@ use mathlib.Core.Path.{◌≡◌, ◌∙◌, refl, sym, ap}
 use mathlib.Core.List.{List}
 use native.Mathlib.Omega.{arith}
 use lib.ListN.{length}
-use Rattle.refusals.specs.Refusals.{Numbered, accepted, refused, numbered, outcome}
-use Rattle.refusals.specs.declared.Checked.{Checked}
-use Rattle.refusals.specs.declared.Checked.TheVariants.{Accepted}
+use Rattle.refusals.specs.Refusals.{Numbered, accepted, refused, numbered}
 use Rattle.refusals.specs.declared.Refusal.{Refusal}
-use Rattle.refusals.specs.Answers.{Answer, refuses, left}
+use Rattle.std.specs.Prelude.{Result, Err}
+use Rattle.refusals.specs.Answers.{Answer, answered, refuses, left}
 use Rattle.task_model.specs.Limits.{most_entries, Node, NodeHolds}
 use Rattle.task_model.specs.Checks.{node_check}
 use Rattle.task_model.proofs.Theorems.{node_accepted}
 use Rattle.node_words.proofs.Entries.{length-entries}
 use Rattle.completion.specs.Test.{completion_test}
-use Rattle.level_map.specs.declared.MappedNode.{MappedNode}
-use Rattle.level_map.specs.declared.MappedNode.TheVariants.{Refused}
-use Rattle.level_map.specs.Answer.{answer, map_of, held_answer, held_answer_under, NodeBestMapOrNone}
+use Rattle.level_map.specs.Answer.{map_of, held_answer, held_answer_under, NodeBestMapOrNone}
 use Rattle.level_map.proofs.Theorems.{best_map_or_none}
 use Rattle.map_store.specs.Store.{store_of, stored_levels}
 use Rattle.map_store.specs.Asking.{map_asked, time_asked, fresh_time}
@@ -98,27 +95,24 @@ module _ (s : Session) (h : Sound s) where
       rw (q, e, sound_left (length buffer) buffer) (own_best (node_in s) lent buffer)
 
 -- what mapping does, from what it answers and writes
-pub maps : (s : Session) (buffer : List ℕ) (a : MappedNode) (after : List ℕ) → answer a ≡ map_given s (length buffer)
-    → after ≡ left (answer a) (stored_levels s.store s.count) buffer → Maps s buffer a after
-maps s buffer a after p q = record { answers = p; written = q; best = λ h. sound_best s h buffer (answer a) after p q }
+pub maps : (s : Session) (buffer : List ℕ) (a : Result ℕ Refusal) (after : List ℕ) → answered a ≡ map_given s (length buffer)
+    → after ≡ left (answered a) (stored_levels s.store s.count) buffer → Maps s buffer a after
+maps s buffer a after p q = record { answers = p; written = q; best = λ h. sound_best s h buffer (answered a) after p q }
 
 -- a session that may not be lent is refused, and the buffer kept; one that may is asked for its map
 module _ (s : Session) (buffer : List ℕ) where
-  pub maps_forged : (r : Refusal) → node_check 0 (node_in s) ≡ refused (numbered r) → Maps s buffer (Refused r) buffer
-  maps_forged r p = maps s buffer (Refused r) buffer (sym (forged_map s (numbered r) p (length buffer))) refl
+  pub maps_forged : (r : Refusal) → node_check 0 (node_in s) ≡ refused (numbered r) → Maps s buffer (Err r) buffer
+  maps_forged r p = maps s buffer (Err r) buffer (sym (forged_map s (numbered r) p (length buffer))) refl
 
-  pub maps_held : node_check 0 (node_in s) ≡ accepted → (a : MappedNode) (after : List ℕ)
-      → answer a ≡ map_asked s.store s.levels s.count (length buffer)
-      → after ≡ left (answer a) (stored_levels s.store s.count) buffer → Maps s buffer a after
+  pub maps_held : node_check 0 (node_in s) ≡ accepted → (a : Result ℕ Refusal) (after : List ℕ)
+      → answered a ≡ map_asked s.store s.levels s.count (length buffer)
+      → after ≡ left (answered a) (stored_levels s.store s.count) buffer → Maps s buffer a after
   maps_held p a after e q = maps s buffer a after (e ∙ sym (asked_map s p (length buffer))) q
 
 -- what is known of a session that the check of what it holds accepts
-module _ (s : Session) (found : Checked) (e : outcome found ≡ node_check 0 (node_in s)) (p : found ≡ Accepted) where
-  pub found_lent : node_check 0 (node_in s) ≡ accepted
-  found_lent = sym e ∙ ap outcome p
-
+module _ (s : Session) (p : accepted ≡ node_check 0 (node_in s)) where
   pub found_within : NodeHolds (node_in s)
-  found_within = ((node_accepted 0 _).0 found_lent).within
+  found_within = ((node_accepted 0 _).0 (sym p)).within
 
   pub found_few : s.count ≤ most_entries
   found_few = omega (arith, found_within.few_entries, length-entries s.words 0 s.count)

@@ -1,5 +1,5 @@
 -- Sequences of operations on the session of a node: one step, and then all of them.
-use Prim.Native.Nat.{ℕ, ◌≤◌, ◌<◌}
+use Prim.Native.Nat.{ℕ, ◌+◌, ◌≤◌, ◌<◌}
 use mathlib.Core.Path.{◌≡◌, ◌∙◌, refl, sym, ap, ap₂}
 use mathlib.Core.Logic.{⊎_elim}
 use mathlib.Core.List.{List, [], ◌∷◌}
@@ -52,10 +52,11 @@ use Rattle.session.specs.Operations.{
   step_check,
 }
 use Rattle.session.specs.Steps.{session_made, session_after, session_after_all, answers_of}
-use Rattle.node_words.proofs.Lists.{size_inserted, size_removed, size_replaced, Each, each_of, of_each, each_inserted, each_removed, each_replaced}
+use Rattle.node_words.proofs.Lists.{Each, each_of, of_each}
+use Rattle.session.proofs.Changing.{size_changed, each_changed}
 use Rattle.session.proofs.Reading.{Kept, read_back}
 use Rattle.session.proofs.Numbers.{differ_inserted, differ_removed, differ_replaced}
-use Rattle.session.proofs.Checking.{lent_goes_on, levels_accepted, insert_accepted, remove_accepted, replace_accepted, after_refused, after_accepted}
+use Rattle.session.proofs.Checking.{position_of, gone_of, new_of, counted, lent_goes_on, levels_accepted, insert_accepted, remove_accepted, replace_accepted, after_refused, after_accepted}
 
 -- a number of 16 bits
 abbrev Short : Entry → Type 0
@@ -74,26 +75,35 @@ kept_empty levels l h =
 
 -- an accepted change keeps a node within the limits,
 module _ (n : Node) (w : NodeHolds n) where
-  holds_with : (es : List Entry) → length es ≤ most_entries → Each EntryHolds es → NodeHolds (record { levels = n.levels; entries = es })
-  holds_with es few all =
-      record { some_levels = w.some_levels; few_levels = w.few_levels; few_entries = few; each = of_each EntryHolds es all }
-
   all_hold : Each EntryHolds n.entries
   all_hold = each_of EntryHolds n.entries w.each
 
-  pub holds_changed : (c : Change) → operation_check (changing c) n ≡ accepted → NodeHolds (changed c n)
+  -- its count of entries, and the limits of those that are new
+  new_held : (c : Change) → operation_check (changing c) n ≡ accepted
+      → (position_of c + gone_of c ≤ length n.entries) × (counted c (length n.entries) ≤ most_entries) × Each EntryHolds (new_of c)
+  unfolding operation_check_by change_check_by
+  new_held (inserting p e) a = let h = insert_accepted n p e a in (omega arith, omega arith, (h.2, tt))
+  new_held (removing p) a = (omega (arith, remove_accepted n p a), omega (arith, w.few_entries), tt)
+  new_held (replacing p e) a = let h = replace_accepted n p e a in (omega arith, omega (arith, w.few_entries), (h.1, tt))
+  new_held (setting_levels levels) a = (omega arith, omega (arith, w.few_entries), tt)
+
+  levels_held : (c : Change) → operation_check (changing c) n ≡ accepted → (1 ≤ (changed c n).levels) × ((changed c n).levels ≤ most_levels)
   unfolding changed operation_check_by change_check_by
-  holds_changed (inserting p e) a =
-      let h = insert_accepted n p e a in
-      holds_with _ (omega (arith, size_inserted n.entries e p h.0)) (each_inserted EntryHolds p e n.entries h.2 all_hold)
-  holds_changed (removing p) a =
-      holds_with _ (omega (arith, size_removed n.entries p (remove_accepted n p a), w.few_entries)) (each_removed EntryHolds p n.entries all_hold)
-  holds_changed (replacing p e) a =
-      let h = replace_accepted n p e a in
-      holds_with _ (omega (arith, size_replaced n.entries e p h.0, w.few_entries)) (each_replaced EntryHolds p e n.entries h.1 all_hold)
-  holds_changed (setting_levels levels) a =
-      let h = levels_accepted levels a in
-      record { some_levels = h.0; few_levels = h.1; few_entries = w.few_entries; each = w.each }
+  levels_held (inserting p e) a = (w.some_levels, w.few_levels)
+  levels_held (removing p) a = (w.some_levels, w.few_levels)
+  levels_held (replacing p e) a = (w.some_levels, w.few_levels)
+  levels_held (setting_levels levels) a = levels_accepted levels a
+
+  pub holds_changed : (c : Change) → operation_check (changing c) n ≡ accepted → NodeHolds (changed c n)
+  holds_changed c a =
+      let l = levels_held c a in
+      let h = new_held c a in
+      record {
+        some_levels = l.0;
+        few_levels = l.1;
+        few_entries = omega (arith, size_changed c n h.0, h.1);
+        each = of_each EntryHolds _ (each_changed EntryHolds c n h.2 all_hold);
+      }
 
 -- and its numbers different and of 16 bits; and so does any accepted operation
 module _ (n : Node) (k : Kept n) where
@@ -103,22 +113,25 @@ module _ (n : Node) (k : Kept n) where
   differ : NumbersDiffer n.entries
   differ = k.valid.numbers
 
-  kept_with : (c : Change) → operation_check (changing c) n ≡ accepted → NumbersDiffer (changed c n).entries → Each Short (changed c n).entries
-      → Kept (changed c n)
-  kept_with c a d s =
-      record {
-        valid = record { within = holds_changed n k.valid.within c a; numbers = d };
-        short = of_each Short (changed c n).entries s;
-      }
+  differ_changed : (c : Change) → operation_check (changing c) n ≡ accepted → NumbersDiffer (changed c n).entries
+  unfolding changed operation_check_by change_check_by
+  differ_changed (inserting p e) a = differ_inserted p e n.entries differ (insert_accepted n p e a).3
+  differ_changed (removing p) a = differ_removed p n.entries differ
+  differ_changed (replacing p e) a = differ_replaced p e n.entries differ (replace_accepted n p e a).2
+  differ_changed (setting_levels levels) a = differ
+
+  new_short : (c : Change) → CallableChange c → Each Short (new_of c)
+  new_short (inserting p e) h = (h, tt)
+  new_short (removing p) h = tt
+  new_short (replacing p e) h = (h, tt)
+  new_short (setting_levels levels) h = tt
 
   pub kept_changed : (c : Change) → CallableChange c → operation_check (changing c) n ≡ accepted → Kept (changed c n)
-  unfolding changed operation_check_by change_check_by
-  kept_changed (inserting p e) c a =
-      kept_with (inserting p e) a (differ_inserted p e n.entries differ (insert_accepted n p e a).3) (each_inserted Short p e n.entries c all_short)
-  kept_changed (removing p) c a = kept_with (removing p) a (differ_removed p n.entries differ) (each_removed Short p n.entries all_short)
-  kept_changed (replacing p e) c a =
-      kept_with (replacing p e) a (differ_replaced p e n.entries differ (replace_accepted n p e a).2) (each_replaced Short p e n.entries c all_short)
-  kept_changed (setting_levels levels) c a = kept_with (setting_levels levels) a differ all_short
+  kept_changed c h a =
+      record {
+        valid = record { within = holds_changed n k.valid.within c a; numbers = differ_changed c a };
+        short = of_each Short _ (each_changed Short c n (new_short c h) all_short);
+      }
 
   pub kept_made : (o : Operation) → Callable o → operation_check o n ≡ accepted → Kept (made o n)
   unfolding operation_check_by

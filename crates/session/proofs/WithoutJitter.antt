@@ -13,8 +13,10 @@ use Rattle.task_model.specs.declared.Entry.{Entry}
 use Rattle.task_model.specs.Limits.{most_entries, Node}
 use Rattle.task_model.specs.WithoutJitter.{Punctual}
 use Rattle.task_model.proofs.WithoutJitter.{entry_punctual, node_punctual}
-use Rattle.node_words.specs.Lists.{insert_at, remove_at, replace_at}
-use Rattle.node_words.proofs.Lists.{each_of, of_each, each_inserted, each_removed, each_replaced}
+use Rattle.node_words.specs.Lists.{remove_at}
+use Rattle.node_words.proofs.Lists.{Each, each_of, of_each}
+use Rattle.session.proofs.Checking.{new_of}
+use Rattle.session.proofs.Changing.{each_changed}
 use Rattle.completion.specs.Group.{group_level}
 use Rattle.completion.proofs.WithoutJitter.{test_punctual}
 use Rattle.level_map.specs.Assignments.{level_of, levels_used}
@@ -133,15 +135,15 @@ module _ (n : Node) where
     unfolding node_after_by
     after_punctual o z = ap (λ x. elim x [ accepted ↦ made o n | refused r ↦ n ]) (operation_punctual o z)
 
+    new_punctual : (c : Change) → PunctualChange c → Each NoJitter (new_of c)
+    new_punctual (inserting position e) z = (z, tt)
+    new_punctual (removing position) z = tt
+    new_punctual (replacing position e) z = (z, tt)
+    new_punctual (setting_levels levels) z = tt
+
     changed_punctual : (c : Change) → PunctualChange c → Punctual (changed c n).entries
-    unfolding changed
-    changed_punctual (inserting position e) z =
-        of_each NoJitter (insert_at position e n.entries) (each_inserted NoJitter position e n.entries z (each_of NoJitter n.entries punctual))
-    changed_punctual (removing position) z =
-        of_each NoJitter (remove_at position n.entries) (each_removed NoJitter position n.entries (each_of NoJitter n.entries punctual))
-    changed_punctual (replacing position e) z =
-        of_each NoJitter (replace_at position e n.entries) (each_replaced NoJitter position e n.entries z (each_of NoJitter n.entries punctual))
-    changed_punctual (setting_levels levels) z = punctual
+    changed_punctual c z =
+        of_each NoJitter _ (each_changed NoJitter c n (new_punctual c z) (each_of NoJitter n.entries punctual))
 
     made_punctual : (o : Operation) → PunctualOperation o → Punctual (made o n).entries
     made_punctual (opening levels) z = λ j h. absurd (omega arith)

@@ -1,6 +1,6 @@
 -- A session that is lent as an array of words: the level count, the entry count, the words of a node, and the store.
-use Rattle.std.specs.Prelude.{ℕ, ◌+◌, List, [], ◌∷◌, ◌++◌, ◌≡◌, get_or, take, drop}
-use Rattle.refusals.specs.declared.Checked.{Checked}
+use Rattle.std.specs.Prelude.{ℕ, ◌+◌, List, [], ◌∷◌, ◌++◌, ◌≡◌, get_or, take, drop, Result}
+use Rattle.refusals.specs.declared.Refusal.{Refusal}
 use Rattle.refusals.specs.Refusals.{Outcome, accepted, refused, outcome}
 use Rattle.node_words.specs.Words.{node_size}
 use Rattle.map_store.specs.Store.{store_size}
@@ -47,6 +47,6 @@ words_after_all [] w = w
 words_after_all (o ∷ os) w = words_after_all os (words_after o w)
 
 -- The operation o on the session in the words w answers a and leaves the words `after`.
-pub record FollowsIn (o : Operation) (w : List ℕ) (a : Checked) (after : List ℕ) : Type 0 where
+pub record FollowsIn (o : Operation) (w : List ℕ) (a : Result Unit Refusal) (after : List ℕ) : Type 0 where
   pub answer : outcome a ≡ step_check o (node_in (session_in w))
   pub words : after ≡ words_after o w

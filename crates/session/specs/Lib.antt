@@ -8,3 +8,5 @@ pub mod Mapping
 pub mod InWords
 pub mod WithoutJitter
 pub mod WithoutNumbers
+-- What the code between the functions for users cites: need no belief.
+pub mod Lent

@@ -1,13 +1,13 @@
 -- What mapping answers, and what it leaves in the lent buffer; and the same worked out afresh from a node.
-use Rattle.std.specs.Prelude.{ℕ, ◌<◌, ◌≡◌, List, length}
+use Rattle.std.specs.Prelude.{ℕ, ◌<◌, ◌≡◌, List, length, Result}
 use Rattle.std.proofs.Math.Option.{some}
-use Rattle.refusals.specs.Answers.{Answer, giving, left}
+use Rattle.refusals.specs.declared.Refusal.{Refusal}
+use Rattle.refusals.specs.Answers.{Answer, answered, giving, left}
 use Rattle.task_model.specs.Limits.{Node}
 use Rattle.completion.specs.Test.{completion_test, time_in}
-use Rattle.level_map.specs.declared.MappedNode.{MappedNode}
 use Rattle.level_map.specs.Assignments.{level_of, levels_used}
 use Rattle.level_map.specs.Map.{the_map}
-use Rattle.level_map.specs.Answer.{answer, is_some, levels_under, NodeBestMapOrNone}
+use Rattle.level_map.specs.Answer.{is_some, levels_under, NodeBestMapOrNone}
 use Rattle.map_store.specs.Store.{has_map, stored_used, stored_levels, stored_time}
 use Rattle.session.specs.declared.Session.{Session}
 use Rattle.session.specs.State.{node_in, Sound}
@@ -35,10 +35,10 @@ map_time_answer n i = map_time_answer_by rules n i
 -- start, one byte per entry, and keeps the bytes beyond; a refusal leaves the buffer untouched. If s is sound, as every
 -- session that opening and operations made, and its node fits the buffer, promise 3 of docs/SPEC.md holds: the answer is 11
 -- exactly if no assignment passes, and otherwise the map is the best.
-pub record Maps (s : Session) (buffer : List ℕ) (a : MappedNode) (after : List ℕ) : Type 0 where
-  pub answers : answer a ≡ map_given s (length buffer)
-  pub written : after ≡ left (answer a) (stored_levels s.store s.count) buffer
-  pub best : Sound s → NodeBestMapOrNone (node_in s) buffer (answer a) after
+pub record Maps (s : Session) (buffer : List ℕ) (a : Result ℕ Refusal) (after : List ℕ) : Type 0 where
+  pub answers : answered a ≡ map_given s (length buffer)
+  pub written : after ≡ left (answered a) (stored_levels s.store s.count) buffer
+  pub best : Sound s → NodeBestMapOrNone (node_in s) buffer (answered a) after
 
 -- The store of a session holds what is worked out afresh from its entries and its level count: whether there is a map, and if
 -- so, how many levels it uses, its levels, and every entry's completion time under it.

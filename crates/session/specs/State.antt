@@ -1,7 +1,8 @@
 -- What a session holds: a node, zero in every word beyond its entries, and the store of the node's entries.
-use Rattle.std.specs.Prelude.{ℕ, ◌≡◌, List, length}
+use Rattle.std.specs.Prelude.{ℕ, ◌+◌, ◌-◌, ◌≡◌, List, length}
+use Rattle.task_model.specs.declared.Entry.{Entry}
 use Rattle.task_model.specs.Limits.{Node, NodeValid}
-use Rattle.node_words.specs.Lists.{zeros, zero_padded}
+use Rattle.node_words.specs.Lists.{zeros, zero_padded, splice}
 use Rattle.node_words.specs.Words.{node_size, words_of, node_of}
 use Rattle.completion.specs.Test.{completion_test}
 use Rattle.level_map.specs.Assignments.{EntryTest}
@@ -24,6 +25,17 @@ session_under test n = session_with (store_under test n.entries) n
 -- The session of a node.
 abbrev pub session_of : Node → Session
 session_of n = session_under completion_test n
+
+-- A session with new entries in place of the `gone` entries from a position on, and its store as it was. Only the code between
+-- the functions for users cites it.
+abbrev pub spliced : ℕ → ℕ → List Entry → Session → Session
+spliced position gone new s =
+    record {
+      levels = s.levels;
+      count = s.count - gone + length new;
+      words = zero_padded (words_of (splice position gone new (node_in s).entries));
+      store = s.store;
+    }
 
 -- A session with its store worked out afresh. Only the code between the functions for users cites it.
 abbrev pub remembered : Session → Session

@@ -1,6 +1,6 @@
 -- What an operation answers, and the session that it leaves.
-use Rattle.std.specs.Prelude.{ℕ, ◌≡◌, List, [], ◌∷◌}
-use Rattle.refusals.specs.declared.Checked.{Checked}
+use Rattle.std.specs.Prelude.{ℕ, ◌≡◌, List, [], ◌∷◌, Result}
+use Rattle.refusals.specs.declared.Refusal.{Refusal}
 use Rattle.refusals.specs.Refusals.{Outcome, accepted, refused, outcome}
 use Rattle.session.specs.declared.Session.{Session}
 use Rattle.map_store.specs.Store.{store_under}
@@ -66,6 +66,6 @@ answers_of [] s = []
 answers_of (o ∷ os) s = call_check o s ∷ answers_of os (session_after o s)
 
 -- The operation o, opening or a change, answers a on the session s and leaves the session t.
-pub record Follows (o : Operation) (s : Session) (a : Checked) (t : Session) : Type 0 where
+pub record Follows (o : Operation) (s : Session) (a : Result Unit Refusal) (t : Session) : Type 0 where
   pub answer : outcome a ≡ step_check o (node_in s)
   pub session : t ≡ session_after o s

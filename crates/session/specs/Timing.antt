@@ -1,19 +1,10 @@
 -- What timing answers.
 use Rattle.std.specs.Prelude.{ℕ}
-use Rattle.refusals.specs.Refusals.{numbered}
 use Rattle.task_model.specs.Limits.{Node}
 use Rattle.completion.specs.Group.{group_level}
-use Rattle.completion.specs.Test.{Completion, completion}
-use Rattle.session.specs.declared.TimeAnswer.{TimeAnswer}
-use Rattle.session.specs.declared.TimeAnswer.TheVariants.{Answered, Refused}
+use Rattle.completion.specs.Test.{Completion}
 use Rattle.session.specs.Operations.{Rules, rules, asking, timing, step_check_by}
-use Rattle.refusals.specs.Answers.{Answer, gives, refuses, giving}
-
--- What the code's answer says: on time, with the completion time and the rounds, or late, with the rounds and the overrun; or
--- the refusal.
-abbrev pub time_gives : TimeAnswer → Answer Completion
-time_gives (Answered t) = gives (completion t)
-time_gives (Refused r) = refuses (numbered r)
+use Rattle.refusals.specs.Answers.{Answer, giving}
 
 -- The answer: the checks, then the completion time test of the entry at i, in the group from `first` to `last`. The entries
 -- before the group are on more urgent levels.

@@ -2,36 +2,40 @@
 
 // The session: one node that is changed entry by entry. Numbers in parentheses are the refusals of an operation, in the
 // order of its checks.
-mod checks;
 pub mod in_words;
+mod lent;
 
 ghost use Rattle.std.specs.Prelude.{◌≡◌};
-ghost use Rattle.map_store.specs.Asking.{stored_gives};
+ghost use Rattle.std.specs.Fn.{FnOnceReturnsAtMut};
+ghost use Rattle.refusals.specs.Answers.{answered, answer_by};
+ghost use Rattle.completion.specs.Test.{completion};
 ghost use Rattle.session.specs.State.{node_in, blank_session};
 ghost use Rattle.session.specs.Operations.{changing, opening, inserting, removing, replacing, setting_levels};
+ghost use Rattle.session.specs.Lent.{session_lent, LeftBy};
 ghost use Rattle.session.specs.Steps.{Follows};
 ghost use Rattle.session.specs.Asking.{map_time_given};
 ghost use Rattle.session.specs.Mapping.{Maps};
-ghost use Rattle.session.specs.Timing.{time_gives, time_answer};
+ghost use Rattle.session.specs.Timing.{time_answer};
 ghost use Rattle.session.specs.InWords.{session_in, words_in};
 
-use checks::check_time;
-use completion::{Timing, completion_test};
-use level_map::MappedNode;
-use map_store::{STORE_WORDS, StoreWords, StoredTime, stored_map, stored_time};
-use node_words::{NODE_WORDS, NodeWords, check_words};
-use refusals::{Checked, Refusal};
+use completion::Timing;
+use in_words::{NODE_AT, STORE_AT, lent_in};
+use lent::LentSession;
+use map_store::{STORE_WORDS, StoreWords};
+use node_words::{NODE_WORDS, NodeWords};
+use refusals::Refusal;
 use task_model::Entry;
 
 // How many words of 32 bits a session has: its level count, its entry count, the words of a node, and the store of its map.
-pub const SESSION_WORDS: usize = in_words::STORE_AT + STORE_WORDS;
+pub const SESSION_WORDS: usize = STORE_AT + STORE_WORDS;
 
 pub type SessionWords = [u32; SESSION_WORDS];
 
 // One node, with room for the most entries that it may have, and the store of its map and its times, in words of 32 bits
 // without padding.
+// The count stands beside the words, for the memory of a session is fixed, and C lends it.
 #[repr(C)]
-#[derive(Clone, Copy)]
+#[derive(Clone, Copy, Debug, PartialEq, Eq)]
 pub struct Session {
     levels: u32,
     count: u32,
@@ -40,17 +44,78 @@ pub struct Session {
 }
 
 // What an operation answers, and the session that it leaves.
-#[derive(Clone, Copy)]
+#[derive(Clone, Copy, Debug, PartialEq, Eq)]
 pub struct Changed {
-    pub answer: Checked,
+    pub answer: Result<(), Refusal>,
     pub session: Session,
 }
 
-// The timing of an entry, or why it is refused.
-#[derive(Clone, Copy)]
-pub enum TimeAnswer {
-    Answered(Timing),
-    Refused(Refusal),
+impl Session {
+    // The session, to be read.
+    fn lent(&self) -> LentSession<'_>
+        ensures { session_lent result ≡ self.now }
+    {
+        LentSession {
+            levels: self.levels,
+            count: self.count as usize,
+            words: &self.words,
+            store: &self.store,
+        }
+    }
+}
+
+// The session that words hold.
+impl From<SessionWords> for Session {
+    ghost from_gives = { λ w s. s ≡ session_in w };
+
+    fn from(w: SessionWords) -> Session {
+        let lent = lent_in(&w);
+        Session {
+            levels: w[0],
+            count: w[1],
+            words: *lent.words,
+            store: *lent.store,
+        }
+    }
+}
+
+// The words of a session.
+impl From<Session> for SessionWords {
+    ghost from_gives = { λ s w. w ≡ words_in s };
+
+    fn from(s: Session) -> SessionWords {
+        let mut w = [0u32; SESSION_WORDS];
+        w[0] = s.levels;
+        w[1] = s.count;
+        w[NODE_AT..STORE_AT].copy_from_slice(&s.words);
+        w[STORE_AT..].copy_from_slice(&s.store);
+        w
+    }
+}
+
+impl Changed {
+    // An operation on a session, made in its words.
+    fn by<F: FnOnce(&mut SessionWords) -> Result<(), Refusal>>(s: Session, operation: F) -> Changed
+        requires { F.IsAlwaysCallable operation }
+        ensures same { session_in (words_in s) ≡ s }
+        ensures left { LeftBy (FnOnceReturnsAtMut F.FnOnce operation) s result }
+    {
+        let mut words = SessionWords::from(s);
+        let answer = operation(&mut words);
+        Changed {
+            answer,
+            session: Session::from(words),
+        }
+    }
+
+    // Leaves the session in the one that is lent.
+    fn leave_in(self, s: &mut Session) -> Result<(), Refusal>
+        ensures answer { result ≡ self.answer }
+        ensures session { s.new ≡ self.session }
+    {
+        *s = self.session;
+        self.answer
+    }
 }
 
 // A session that is not open: every operation but opening refuses it.
@@ -65,182 +130,96 @@ pub fn blank() -> Session
     }
 }
 
-// Opens a session: an empty node with the given level count. Like all changes by value, it works on the session's words.
+// Opens a session: an empty node with the given level count.
 pub fn opened(s: Session, levels: u8) -> Changed
     ensures { Follows (opening levels) s result.answer result.session }
 {
-    let mut words = to_words(s);
-    let answer = in_words::open(&mut words, levels);
-    let session = from_words(words);
-    Changed { answer, session }
+    Changed::by(s, |words| in_words::open(words, levels))
 }
 
 // Inserts an entry before a position, or just after the last entry.
 pub fn inserted(s: Session, position: usize, e: Entry) -> Changed
     ensures { Follows (changing (inserting position e)) s result.answer result.session }
 {
-    let mut words = to_words(s);
-    let answer = in_words::insert(&mut words, position, e);
-    let session = from_words(words);
-    Changed { answer, session }
+    Changed::by(s, |words| in_words::insert(words, position, e))
 }
 
 // Removes the entry at a position.
 pub fn removed(s: Session, position: usize) -> Changed
     ensures { Follows (changing (removing position)) s result.answer result.session }
 {
-    let mut words = to_words(s);
-    let answer = in_words::remove(&mut words, position);
-    let session = from_words(words);
-    Changed { answer, session }
+    Changed::by(s, |words| in_words::remove(words, position))
 }
 
 // Replaces the entry at a position.
 pub fn replaced(s: Session, position: usize, e: Entry) -> Changed
     ensures { Follows (changing (replacing position e)) s result.answer result.session }
 {
-    let mut words = to_words(s);
-    let answer = in_words::replace(&mut words, position, e);
-    let session = from_words(words);
-    Changed { answer, session }
+    Changed::by(s, |words| in_words::replace(words, position, e))
 }
 
 // Sets the level count. The store stays as it is.
 pub fn with_levels(s: Session, levels: u8) -> Changed
     ensures { Follows (changing (setting_levels levels)) s result.answer result.session }
 {
-    let mut words = to_words(s);
-    let answer = in_words::set_levels(&mut words, levels);
-    let session = from_words(words);
-    Changed { answer, session }
+    Changed::by(s, |words| in_words::set_levels(words, levels))
 }
 
-// Times the entry at `i` in the group from `first` to `last`. The entries before the group are on higher levels.
-pub fn timed(s: Session, first: usize, last: usize, i: usize) -> TimeAnswer
-    ensures { time_gives result ≡ time_answer (node_in s) first last i }
-{
-    let count = s.count as usize;
-    let found = check_time(s.levels, count, &s.words, first, last, i);
-    if let Checked::Refused(r) = found {
-        return TimeAnswer::Refused(r);
-    }
-    TimeAnswer::Answered(completion_test(&s.words, count, first, last, i))
-}
-
-// Maps the node: gives the stored map, one byte per entry from the start of `out`. A refusal leaves `out` untouched.
-pub fn mapped(s: Session, out: &mut [u8]) -> MappedNode
-    ensures { Maps s out.old result out.new }
-{
-    let count = s.count as usize;
-    let found = check_words(0, &s.words, count, s.levels);
-    if let Checked::Refused(r) = found {
-        return MappedNode::Refused(r);
-    }
-    stored_map(&s.store, s.levels as u8, count, out)
-}
-
-// The completion time of the entry at `i` under the stored map.
-pub fn map_timed(s: Session, i: usize) -> StoredTime
-    ensures { stored_gives result ≡ map_time_given s i }
-{
-    let count = s.count as usize;
-    let found = check_words(0, &s.words, count, s.levels);
-    if let Checked::Refused(r) = found {
-        return StoredTime::Refused(r);
-    }
-    stored_time(&s.store, s.levels as u8, count, i)
-}
+// The functions from here on are lent a session. Those that change it are thin over the ones by value above, which is a rule of
+// the project.
 
 // Opens the lent session, whatever it held: an empty node with the given level count (4).
-pub fn open(s: &mut Session, levels: u8) -> Checked
+pub fn open(s: &mut Session, levels: u8) -> Result<(), Refusal>
     ensures { Follows (opening levels) s.old result s.new }
 {
-    let c = opened(*s, levels);
-    *s = c.session;
-    c.answer
+    opened(*s, levels).leave_in(s)
 }
 
 // Sets the level count (4).
-pub fn set_levels(s: &mut Session, levels: u8) -> Checked
+pub fn set_levels(s: &mut Session, levels: u8) -> Result<(), Refusal>
     ensures { Follows (changing (setting_levels levels)) s.old result s.new }
 {
-    let c = with_levels(*s, levels);
-    *s = c.session;
-    c.answer
+    with_levels(*s, levels).leave_in(s)
 }
 
 // Inserts an entry before a position, or just after the last entry (12, 13, 7, 8, 14, 16).
-pub fn insert(s: &mut Session, position: usize, e: Entry) -> Checked
+pub fn insert(s: &mut Session, position: usize, e: Entry) -> Result<(), Refusal>
     ensures { Follows (changing (inserting position e)) s.old result s.new }
 {
-    let c = inserted(*s, position, e);
-    *s = c.session;
-    c.answer
+    inserted(*s, position, e).leave_in(s)
 }
 
 // Removes the entry at a position (12).
-pub fn remove(s: &mut Session, position: usize) -> Checked
+pub fn remove(s: &mut Session, position: usize) -> Result<(), Refusal>
     ensures { Follows (changing (removing position)) s.old result s.new }
 {
-    let c = removed(*s, position);
-    *s = c.session;
-    c.answer
+    removed(*s, position).leave_in(s)
 }
 
 // Replaces the entry at a position (12, 7, 8, 14, 16).
-pub fn replace(s: &mut Session, position: usize, e: Entry) -> Checked
+pub fn replace(s: &mut Session, position: usize, e: Entry) -> Result<(), Refusal>
     ensures { Follows (changing (replacing position e)) s.old result s.new }
 {
-    let c = replaced(*s, position, e);
-    *s = c.session;
-    c.answer
+    replaced(*s, position, e).leave_in(s)
 }
 
-// Times the entry at `i` in the group from `first` to `last` (12). The session is only read.
-pub fn time(s: &Session, first: usize, last: usize, i: usize) -> TimeAnswer
-    ensures { time_gives result ≡ time_answer (node_in s.now) first last i }
+// Times the entry at `i` in the group from `first` to `last` (12). The entries before the group are on higher levels.
+pub fn time(s: &Session, first: usize, last: usize, i: usize) -> Result<Timing, Refusal>
+    ensures { answer_by completion result ≡ time_answer (node_in s.now) first last i }
 {
-    timed(*s, first, last, i)
+    s.lent().time(first, last, i)
 }
 
-// Maps the node into `out`, one byte per entry (10, 11): the stored map. The session is only read.
-pub fn map(s: &Session, out: &mut [u8]) -> MappedNode
+// Maps the node: gives the stored map, one byte per entry from the start of `out` (10, 11). A refusal leaves `out` untouched.
+pub fn map(s: &Session, out: &mut [u8]) -> Result<u8, Refusal>
     ensures { Maps s.now out.old result out.new }
 {
-    mapped(*s, out)
+    s.lent().map(out)
 }
 
-// The completion time of the entry at `i` under the stored map (12, 11). The session is only read.
-pub fn map_time(s: &Session, i: usize) -> StoredTime
-    ensures { stored_gives result ≡ map_time_given s.now i }
+// The completion time of the entry at `i` under the stored map (12, 11).
+pub fn map_time(s: &Session, i: usize) -> Result<u32, Refusal>
+    ensures { answered result ≡ map_time_given s.now i }
 {
-    map_timed(*s, i)
-}
-
-// The session that words hold.
-pub fn from_words(w: SessionWords) -> Session
-    ensures { result ≡ session_in w }
-{
-    let words = in_words::node_part(&w);
-    let store = in_words::store_part(&w);
-    Session {
-        levels: w[0],
-        count: w[1],
-        words,
-        store,
-    }
-}
-
-// The words of a session.
-pub fn to_words(s: Session) -> SessionWords
-    ensures { result ≡ words_in s }
-{
-    let words = s.words;
-    let store = s.store;
-    let mut w = [0u32; SESSION_WORDS];
-    w[0] = s.levels;
-    w[1] = s.count;
-    in_words::copy_into(&mut w, in_words::NODE_AT, &words);
-    in_words::copy_into(&mut w, in_words::STORE_AT, &store);
-    w
+    s.lent().map_time(i)
 }

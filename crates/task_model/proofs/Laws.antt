@@ -11,7 +11,7 @@ use borrow.Author.Tests.{leb-true, ltb-true, ltb-false, le-leb, lt-leb, ne_eqb}
 use Rattle.task_model.proofs.Tests.{and_true, true_or_false, decided}
 use Rattle.task_model.specs.declared.Entry.{Entry}
 use Rattle.refusals.specs.Refusals.{Numbered, at, Outcome, accepted, refused}
-use Rattle.refusals.proofs.Outcomes.{either, then_refused, then_accepted, both_accepted}
+use Rattle.refusals.proofs.Outcomes.{then_refused, then_accepted, both_accepted}
 use Rattle.task_model.specs.Limits.{most_ticks, most_levels, most_entries, Node, TimesHold, JitterHolds}
 use Rattle.task_model.specs.Checks.{kind_test, times_test, jitter_test, entry_test, entry_check, entries_by, numbers_check, body_by, size_test, node_check_by, node_check, body_check}
 
@@ -165,10 +165,6 @@ module _ (check : ℕ → ℕ → Entry → Outcome) (row : ℕ) (es : List Entr
   pub body_entries : (r : Numbered) → entries_by (check row) 0 es ≡ refused r → body_by check row es ≡ refused r
   unfolding body_by
   body_entries r p = then_refused _ _ r p
-
-  -- entries that are not all accepted give their refusal
-  pub body_stops : (entries_by (check row) 0 es ≡ accepted → ⊥) → body_by check row es ≡ entries_by (check row) 0 es
-  body_stops n = ⊎_elim (λ p. absurd (n p)) (λ q. body_entries q.0 q.1 ∙ sym q.1) (either (entries_by (check row) 0 es))
 
   pub body_numbers : entries_by (check row) 0 es ≡ accepted → body_by check row es ≡ numbers_check row es
   unfolding body_by

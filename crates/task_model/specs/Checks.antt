@@ -1,8 +1,8 @@
 -- The checks of an entry and of a node, in their order, and which refusal each gives.
-use Rattle.std.specs.Prelude.{ℕ, suc, ◌-◌, Bool, false, not, ◌&&◌, ◌||◌, List, [], ◌∷◌, length, take, leb, eqb}
+use Rattle.std.specs.Prelude.{ℕ, suc, ◌-◌, ◌<◌, ◌≡◌, Bool, false, not, ◌&&◌, ◌||◌, List, [], ◌∷◌, length, take, leb, eqb}
 use Rattle.task_model.specs.declared.Entry.{Entry}
 use Rattle.refusals.specs.Refusals.{at, Outcome, accepted, ◌and_then◌, must_hold}
-use Rattle.task_model.specs.Limits.{most_ticks, most_levels, most_entries, Node}
+use Rattle.task_model.specs.Limits.{most_ticks, most_levels, most_entries, entry_at, Node}
 
 -- Kind 1 with up to 15 calls, or kind 2 with none.
 unfoldable pub kind_test : ℕ → ℕ → Bool
@@ -76,3 +76,11 @@ node_check_by check row n =
 -- The same, each entry by the check of an entry.
 abbrev pub node_check : ℕ → Node → Outcome
 node_check row n = node_check_by entry_check row n
+
+-- A check of one entry accepts it, wherever it stands.
+abbrev pub Passes : (ℕ → ℕ → Entry → Outcome) → Entry → Type 0
+Passes check e = (row position : ℕ) → check row position e ≡ accepted
+
+-- And every entry of a list.
+abbrev pub AllPass : (ℕ → ℕ → Entry → Outcome) → List Entry → Type 0
+AllPass check es = (j : ℕ) → j < length es → Passes check (entry_at es j)

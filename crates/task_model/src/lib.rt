@@ -1,12 +1,14 @@
 #![tactic(auto)]
 
 // The task model: the fields of an entry, and their limits.
+pub mod entries;
+
 ghost use Rattle.std.specs.Prelude.{◌≡◌, ℕ, ltb};
 ghost use Rattle.task_model.specs.Limits.{TimesHold};
 ghost use Rattle.refusals.specs.Refusals.{outcome};
 ghost use Rattle.task_model.specs.Checks.{kind_test, times_test, jitter_test, entry_test, entry_check};
 
-use refusals::{Checked, Refusal};
+use refusals::Refusal;
 
 // Upper limits: of T and B in ticks, of a node's levels, and of a node's entries.
 pub const MOST_TICKS: u32 = 1000000000;
@@ -17,10 +19,11 @@ pub const MOST_ENTRIES: usize = 64;
 
 // An entry of a node: a task, or a global critical section that runs here for a remote task. (docs/SPEC.md, 'Terms', has
 // the usual scheduling terms beside these.)
-#[derive(Clone, Copy)]
+#[derive(Clone, Copy, Debug, PartialEq, Eq)]
 pub struct Entry {
     pub number: u16,
-    // 1 is a task, 2 a global critical section.
+    // 1 is a task, 2 a global critical section. It is the byte of the file and no enum, since an entry may be one that is
+    // still to be checked.
     pub kind: u8,
     // r: how many remote sections it calls in a period.
     pub calls: u8,
@@ -34,7 +37,8 @@ pub struct Entry {
     pub jitter: u32,
 }
 
-// Whether the kind is 1 with at most 15 remote calls, or 2 with none.
+// Whether the kind is 1 with at most 15 remote calls, or 2 with none. The form, a match on the byte with ranges of r, is a
+// rule of the project.
 fn kind_holds(kind: u8, calls: u8) -> bool
     ensures { result ≡ kind_test kind calls }
 {
@@ -79,19 +83,20 @@ fn jitter_holds(e: Entry) -> bool
 }
 
 // Checks an entry: its kind and calls (7), its times (8), then its jitter (14). A refusal has the given row and position.
-pub fn check_entry(row: usize, position: usize, e: Entry) -> Checked
+// (They stay two numbers, those of the caller's loops: a struct of both would be made anew for each entry.)
+pub fn check_entry(row: usize, position: usize, e: Entry) -> Result<(), Refusal>
     ensures { outcome result ≡ entry_check row position e }
 {
     if !kind_holds(e.kind, e.calls) {
-        return Checked::Refused(Refusal::Kind { row, position });
+        return Err(Refusal::Kind { row, position });
     }
     if !times_hold(e) {
-        return Checked::Refused(Refusal::Times { row, position });
+        return Err(Refusal::Times { row, position });
     }
     if !jitter_holds(e) {
-        return Checked::Refused(Refusal::Jitter { row, position });
+        return Err(Refusal::Jitter { row, position });
     }
-    Checked::Accepted
+    Ok(())
 }
 
 // The first count of remote calls that a kind does not allow; an unknown kind allows none, not even 0.

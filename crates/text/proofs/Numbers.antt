@@ -1,6 +1,6 @@
 -- Decimal numbers: the digits one by one; reading gives back the number that was printed; no leading zero; how many digits
 -- there are.
-use Prim.Native.Nat.{ℕ, zero, suc, ◌+◌, ◌-◌, ◌*◌, ◌/◌, ◌%◌, ◌^◌, ◌≤◌, ◌<◌}
+use Prim.Native.Nat.{ℕ, zero, suc, max, ◌+◌, ◌-◌, ◌*◌, ◌/◌, ◌%◌, ◌^◌, ◌≤◌, ◌<◌}
 use mathlib.Core.Path.{◌≡◌, ◌∙◌, refl, ap, sym}
 use mathlib.Core.Logic.{by_cases}
 use mathlib.Core.List.{List, [], ◌∷◌, ◌++◌}
@@ -9,6 +9,8 @@ use native.Mathlib.Decide.{dec_lt}
 use native.Mathlib.Omega.{arith}
 use lib.ListN.{length, get_or, length-append, get_or-append}
 use borrow.Author.Tests.{lt-ltb, le-ltb}
+use Rattle.std.specs.Fmt.{decimal as printed}
+use Rattle.std.proofs.lemmas.Fmt.{decimal_from_appends, length-decimal-le_succ}
 use Rattle.text.specs.Decimal.{digits, decimal, read_on, number}
 
 digits_one : (k n : ℕ) → n < 10 → digits (suc k) n ≡ (48 + n) ∷ []
@@ -30,6 +32,13 @@ digits_enough (suc k) (suc m) n h l =
     digits_more k n (omega arith)
     ∙ ap (λ ds. ds ++ (48 + n % 10) ∷ []) (digits_enough k m (n / 10) (omega arith) (omega arith))
     ∙ sym (digits_more m n (omega arith)))
+
+-- these are the digits that the library prints
+pub decimal_printed : (n : ℕ) → n < 2 ^ 64 → printed n ≡ decimal n
+unfolding decimal
+decimal_printed n h =
+    sym (decimal_from_appends digits (record { one = digits_one; more = digits_more }) (suc n) n h
+    (omega (arith, length-decimal-le_succ n h)))
 
 pub decimal_one : (n : ℕ) → n < 10 → decimal n ≡ (48 + n) ∷ []
 unfolding decimal
@@ -100,6 +109,25 @@ decimal_length (suc k) n h =
       length-append (decimal (n / 10)) ((48 + n % 10) ∷ []),
       decimal_length k (n / 10) ((div-lt_iff_lt-mul (omega arith)).1 (rw pow-suc at h)),
     )))
+
+ten_some : (k : ℕ) → 0 < 10 ^ k
+ten_some zero = omega arith
+ten_some (suc k) = rw pow-suc (omega (arith, ten_some k))
+
+-- One that is at least 10 ^ k has more than k digits, and 0 has one.
+decimal_least : (k n : ℕ) → 10 ^ k ≤ max n 1 → k < length (decimal n)
+decimal_least zero n h = omega (arith, decimal_some n)
+decimal_least (suc k) n h =
+    let large : 10 ^ k * 10 ≤ max n 1 = rw pow-suc at h in
+    let some : 0 < 10 ^ k = ten_some k in
+    let l : 10 ≤ n = omega arith in
+    rw (decimal_more n l)
+    (omega (arith, length-append (decimal (n / 10)) ((48 + n % 10) ∷ []), decimal_least k (n / 10) (omega arith)))
+
+pub decimal_exact : (k n : ℕ) → 10 ^ k ≤ max n 1 → max n 1 < 10 * 10 ^ k → length (decimal n) ≡ k + 1
+decimal_exact k n p q =
+    let below : n < 10 ^ suc k = rw pow-suc (omega arith) in
+    omega (arith, decimal_least k n p, decimal_length k n below)
 
 -- The numbers of a byte, of 16, 32 and 64 bits.
 pub decimal_8 : (n : ℕ) → n < 256 → length (decimal n) ≤ 3

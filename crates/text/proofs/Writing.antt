@@ -1,12 +1,13 @@
 -- Writing one text after another.
-use Prim.Native.Nat.{ℕ, suc, ◌+◌, ◌≤◌, ◌<◌}
-use mathlib.Core.Path.{◌≡◌, ◌∙◌, refl, ap, sym}
-use mathlib.Core.List.{List, [], ◌∷◌, ◌++◌, append_assoc, append-nil}
+use Prim.Native.Nat.{ℕ, ◌+◌, ◌≤◌}
+use mathlib.Core.Path.{◌≡◌, ◌∙◌, refl, ap, ap₂, sym}
+use mathlib.Core.List.{List, [], ◌++◌, append_assoc, append-nil}
 use native.Mathlib.Nat.{add_assoc, add-zero, zero-add}
-use native.Mathlib.Numerals.{add-one}
 use native.Mathlib.Omega.{arith}
-use lib.ListN.{length, take, drop, set, length-append, length-drop, take-append-drop}
-use lib.Seq.{take_at, drop_at, drop-drop, length-take-le, set_split, append_snoc}
+use borrow.Rule.Slice.PartMut.{put_mid}
+use lib.ListN.{length, take, drop, length-append, length-drop, take-append-drop}
+use lib.Seq.{take_at, drop_at, drop-drop, length-take-le}
+use Rattle.text.specs.declared.Cursor.{Cursor}
 use Rattle.text.specs.Text.{written, Wrote}
 
 -- nothing written
@@ -36,24 +37,27 @@ module _ (o : List ℕ) (at : ℕ) (t : List ℕ) (fits : at + length t ≤ leng
       ∙ ap (λ n. drop n o) (add_assoc at (length t) (length s) ∙ ap (λ n. at + n) (sym (length-append t s))) in
       rw (head, tail) (ap (λ l. l ++ drop (at + length (t ++ s)) o) (append_assoc (take at o) t s))
 
--- one byte stored
-pub written_one : (o : List ℕ) (at x : ℕ) → at < length o → set o at x ≡ written o at (x ∷ [])
-written_one o at x h = set_split o at x h ∙ sym (append_snoc (take at o) x (drop (suc at) o)) ∙ ap (λ n. take at o ++ (x ∷ []) ++ drop n o) (sym (add-one at))
+-- a part of the buffer that was filled anew
+pub written_part : (o : List ℕ) (at n : ℕ) (s t : List ℕ) → s ≡ t → length t ≡ n → put_mid at n o s ≡ written o at t
+written_part o at n s t e l = rw (e, ← l, drop-drop (length t) at o) (sym (append_assoc (take at o) t (drop (at + length t) o)))
+
+-- what comes before the text, and the text with what comes after it
+pub written_whole : (o n t : List ℕ) (at : ℕ) → take at n ≡ take at o → drop at n ≡ t ++ drop (at + length t) o → n ≡ written o at t
+written_whole o n t at p q =
+    sym (take-append-drop at n) ∙ rw (p, q) (sym (append_assoc (take at o) t (drop (at + length t) o)))
 
 -- nothing, and one text after another
-pub wrote_none : (o : List ℕ) (at : ℕ) → Wrote o at [] o at
-wrote_none o at = record { buffer = sym (written_none o at); after = sym (add-zero at) }
+pub wrote_none : (o : Cursor) → Wrote o [] o
+wrote_none o = record { same = refl; buffer = sym (written_none o.out.now o.at); kept = refl; after = sym (add-zero o.at) }
 
-module _ {o : List ℕ} {at : ℕ} {t n : List ℕ} {end : ℕ} (w : Wrote o at t n end) (fits : at + length t ≤ length o) where
-  pub wrote_kept : length n ≡ length o
-  wrote_kept = ap length w.buffer ∙ length-written o at t fits
-
-  pub wrote_then : {s m : List ℕ} {next : ℕ} → Wrote n end s m next → Wrote o at (t ++ s) m next
-  wrote_then {s} {m} {next} v =
-      record {
-        buffer = v.buffer ∙ rw (w.buffer, w.after) (written_after o at t fits s);
-        after = omega (arith, v.after, w.after, length-append t s);
-      }
+pub wrote_then : {o n m : Cursor} {t s : List ℕ} → Wrote o t n → n.at ≤ length n.out.now → Wrote n s m → Wrote o (t ++ s) m
+wrote_then {o} {n} {m} {t} {s} w inside v =
+    record {
+      same = v.same ∙ w.same;
+      buffer = v.buffer ∙ rw (w.buffer, w.after) (written_after o.out.now o.at t (omega (arith, w.after, w.kept, inside)) s);
+      kept = v.kept ∙ w.kept;
+      after = omega (arith, v.after, w.after, length-append t s);
+    }
 
 -- a text at the start of a buffer
 pub written_front : (o t : List ℕ) → written o 0 t ≡ t ++ drop (length t) o
@@ -61,3 +65,6 @@ written_front o t = ap (λ n. t ++ drop n o) (zero-add (length t))
 
 pub front_text : (o t : List ℕ) → take (length t) (written o 0 t) ≡ t
 front_text o t = ap (take (length t)) (written_front o t) ∙ take_at t (drop (length t) o) (length t) refl
+
+pub shown_front : (o : List ℕ) {new t : List ℕ} {n : ℕ} → n ≡ length t → new ≡ written o 0 t → take n new ≡ t
+shown_front o {t = t} size e = ap₂ take size e ∙ front_text o t

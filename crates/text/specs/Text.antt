@@ -1,5 +1,6 @@
 -- Text as bytes, and a buffer that text was written into.
 use Rattle.std.specs.Prelude.{ℕ, ◌+◌, ◌≤◌, ◌≡◌, List, [], ◌∷◌, ◌++◌, length, take, drop}
+use Rattle.text.specs.declared.Cursor.{Cursor}
 use Prim.Native.Char.{code}
 use Prim.Native.String.{String, [] as «empty», ◌∷◌ as «then»}
 
@@ -12,12 +13,15 @@ text («then» c s) = code c ∷ text s
 abbrev pub written : List ℕ → ℕ → List ℕ → List ℕ
 written buffer at t = take at buffer ++ t ++ drop (at + length t) buffer
 
--- A call wrote `t` into the buffer `old` from `at` on, left it as `new`, and returned the position after the text.
-pub record Wrote (old : List ℕ) (at : ℕ) (t new : List ℕ) (end : ℕ) : Type 0 where
-  pub buffer : new ≡ written old at t
-  pub after : end ≡ at + length t
+-- `t` was written into the buffer of `old` from its position on, which left the cursor as `new`: in the same buffer, which
+-- keeps its length, right after the text.
+pub record Wrote (old : Cursor) (t : List ℕ) (new : Cursor) : Type 0 where
+  pub same : new.out.ghost_name ≡ old.out.ghost_name
+  pub buffer : new.out.now ≡ written old.out.now old.at t
+  pub kept : length new.out.now ≡ length old.out.now
+  pub after : new.at ≡ old.at + length t
 
 -- The same for a text of at most `most` bytes.
-pub record Upto (old : List ℕ) (at most : ℕ) (t new : List ℕ) (end : ℕ) : Type 0 where
-  pub wrote : Wrote old at t new end
+pub record Upto (old : Cursor) (most : ℕ) (t : List ℕ) (new : Cursor) : Type 0 where
+  pub wrote : Wrote old t new
   pub short : length t ≤ most

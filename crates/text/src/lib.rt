@@ -1,39 +1,57 @@
 #![tactic(auto)]
 
-// Writes text into a lent buffer. Each function writes from position `at` on, and returns the position after the text.
-ghost use Rattle.std.specs.Prelude.{◌+◌, ◌≤◌, ◌++◌, length};
-ghost use Rattle.text.specs.Text.{Wrote};
+// Text in a lent buffer, one piece after another.
+ghost use Rattle.std.specs.Prelude.{◌≡◌, ◌+◌, ◌≤◌, ◌++◌, length};
+ghost use Rattle.text.specs.Text.{written, Wrote};
 ghost use Rattle.text.specs.Decimal.{decimal};
 
-pub fn put_bytes(out: &mut [u8], at: usize, bytes: &[u8]) -> usize
-    requires { at + length bytes.now ≤ length out.old }
-    ensures { Wrote out.old at bytes.now out.new result }
-{
-    for k in 0..bytes.len() {
-        out[at + k] = bytes[k];
-    }
-    at + bytes.len()
+use itoa::write_digits;
+
+// A lent buffer, and the position in it that the next text is written at. Text is not written by `write!`: its contract says
+// what is written where it answers `Ok`, but not that it does so where there is room, so no listing would be complete.
+#[derive(Drop)]
+pub struct Cursor<'a> {
+    pub out: &'a mut [u8],
+    pub at: usize,
 }
 
-// Writes a number in decimal digits.
-pub fn put_number(out: &mut [u8], at: usize, n: u64) -> usize
+impl<'a> Cursor<'a> {
+    pub fn put_bytes(&mut self, bytes: &[u8])
+        requires { self.old.at + length bytes.now ≤ length self.old.out.now }
+        ensures { Wrote self.old bytes.now self.new }
+    {
+        let end = self.at + bytes.len();
+        self.out[self.at..end].copy_from_slice(bytes);
+        self.at = end;
+    }
+
+    // Writes a number in decimal digits.
+    pub fn put_number(&mut self, n: u64)
+        requires { self.old.at + length (decimal n) ≤ length self.old.out.now }
+        ensures { Wrote self.old (decimal n) self.new }
+    {
+        self.at = put_digits(self.out, self.at, n);
+    }
+
+    // Writes a label and a number.
+    pub fn put_field(&mut self, label: &[u8], n: u64)
+        requires { self.old.at + (length label.now + length (decimal n)) ≤ length self.old.out.now }
+        ensures { Wrote self.old (label.now ++ decimal n) self.new }
+    {
+        self.put_bytes(label);
+        self.put_number(n);
+    }
+}
+
+// Writes a number's digits from position `at` on, and returns the position after them. It takes no cursor and is not
+// inlined, so that a cursor stays in registers and the code of a line stays short: listings are up to 9 % slower otherwise.
+#[inline(never)]
+fn put_digits(out: &mut [u8], at: usize, n: u64) -> usize
     requires { at + length (decimal n) ≤ length out.old }
-    ensures { Wrote out.old at (decimal n) out.new result }
+    ensures digits { out.new ≡ written out.old at (decimal n) }
+    ensures after { result ≡ at + length (decimal n) }
 {
-    if n < 10 {
-        out[at] = 48 + (n % 10) as u8;
-        return at + 1;
-    }
-    let end = put_number(out, at, n / 10);
-    out[end] = 48 + (n % 10) as u8;
-    end + 1
-}
-
-// Writes a label and a number.
-pub fn put_field(out: &mut [u8], at: usize, label: &[u8], n: u64) -> usize
-    requires { at + (length label.now + length (decimal n)) ≤ length out.old }
-    ensures { Wrote out.old at (label.now ++ decimal n) out.new result }
-{
-    let next = put_bytes(out, at, label);
-    put_number(out, next, n)
+    let end = at + n.max(1).ilog10() as usize + 1;
+    write_digits(n, out, end);
+    end
 }

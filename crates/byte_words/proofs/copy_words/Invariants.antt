@@ -1,4 +1,3 @@
-use Prim.Native.Nat.{◌≤◌, ◌-◌}
 use mathlib.Core.Path.{◌≡◌}
 use lib.ListN.{length}
 use Rattle.byte_words.specs.Bytes.{words_from}
@@ -6,7 +5,4 @@ use Rattle.byte_words.specs.Buffers.{over}
 use Rattle.byte_words.proofs.copy_words.Given as goal
 
 abbrev pub invariant-loop-i : goal.invariant-loop-i
-invariant-loop-i l = (l.i ≤ l.count) × (length l.words ≡ length l.initial.words) × (l.words ≡ over l.initial.words 0 (words_from l.file l.k l.i))
-
-abbrev pub decreases-loop-i : goal.decreases-loop-i
-decreases-loop-i l = l.count - l.i
+invariant-loop-i l = (length l.words ≡ length l.initial.words) × (l.words ≡ over l.initial.words 0 (words_from l.bytes 0 l.i))

@@ -1,19 +1,8 @@
-use mathlib.Core.Path.{◌∙◌, ap}
+use mathlib.Core.Path.{◌∙◌}
 use native.Mathlib.Omega.{arith}
-use lib.ListN.{length-set}
-use Rattle.byte_words.specs.Buffers.{over}
-use Rattle.byte_words.proofs.Words.{low_four}
-use Rattle.byte_words.proofs.Buffers.{stored_four}
+use Rattle.byte_words.proofs.Words.{length-low, low_four}
+use Rattle.byte_words.proofs.Buffers.{over_part}
 use Rattle.byte_words.proofs.put_word.Goals as goal
 
-pub bounds-file-k-2 : goal.bounds-file-k-2
-bounds-file-k-2 c = simp length-set (omega arith)
-
-pub bounds-file-k-3 : goal.bounds-file-k-3
-bounds-file-k-3 c = simp length-set (omega arith)
-
-pub bounds-file-k-4 : goal.bounds-file-k-4
-bounds-file-k-4 c = simp length-set (omega arith)
-
 pub returns : goal.returns
-returns c = stored_four _ _ _ _ _ _ c.requires ∙ ap (over _ _) (low_four _)
+returns c = over_part _ _ _ _ _ (c.copy_from_slice.ensures.after ∙ c.to_le_bytes.ensures ∙ low_four _) (omega (arith, length-low 4 c.args.word))

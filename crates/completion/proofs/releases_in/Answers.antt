@@ -4,10 +4,6 @@ use Rattle.completion.specs.Demand.{ceil_div, releases}
 use Rattle.completion.proofs.Releases.{releases_one}
 use Rattle.completion.proofs.releases_in.Goals as goal
 
--- t, J and T are at most 10^9 each
-pub overflow_add-span : goal.overflow_add-span
-overflow_add-span c = omega (arith, c.requires.fact_1.times, c.requires.fact_1.jitter)
-
 pub returns-then-span-e : goal.returns-then-span-e
 returns-then-span-e c = sym (releases_one _ (omega arith) _ (omega arith) c.if-span-e.true)
 

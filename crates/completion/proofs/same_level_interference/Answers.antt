@@ -10,17 +10,14 @@ product : (x y : ℕ) → x ≤ most_ticks → y ≤ 256 → x * y ≤ most_tick
 product x y p q = mul-le-mul p q
 
 pub overflow_mul-e : goal.overflow_mul-e
-overflow_mul-e c = omega (arith, product c.args.e.period c.args.calls (omega arith) (omega arith))
-
-pub overflow_add-t : goal.overflow_add-t
-overflow_add-t c = let h = c.requires.fact_1 in omega (arith, h.times, h.jitter)
+overflow_mul-e c = omega (arith, product c.args.held.entry.period c.args.calls (omega arith) (omega arith))
 
 pub overflow_mul-result : goal.overflow_mul-result
 overflow_mul-result c = let a = c.args in
-    omega (arith, product a.e.wcet (a.calls + 1) (omega arith) (omega arith))
+    omega (arith, product a.held.entry.wcet (a.calls + 1) (omega arith) (omega arith))
 
 pub returns-then-e-calls : goal.returns-then-e-calls
-returns-then-e-calls c = sym (same_level_limit _ c.requires.fact_1 _ _ c.if-e-calls.true)
+returns-then-e-calls c = sym (same_level_limit _ c.args.held.holds _ _ c.if-e-calls.true)
 
 pub returns : goal.returns
-returns c = c.higher_level_interference.ensures ∙ sym (same_level_all _ c.requires.fact_1 _ _ c.if-e-calls.false)
+returns c = c.higher_level_interference.ensures ∙ sym (same_level_all _ c.args.held.holds _ _ c.if-e-calls.false)

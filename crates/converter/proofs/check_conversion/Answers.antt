@@ -1,64 +1,76 @@
 use Prim.Native.Nat.{ℕ, ◌*◌}
 use mathlib.Core.Path.{◌≡◌, ◌∙◌, sym, ap}
-use mathlib.Core.Bool.{Bool}
+use mathlib.Core.Bool.{true}
 use mathlib.Core.List.{List}
 use native.Mathlib.Omega.{arith}
-use borrow.Author.Tests.{not-true, not-false}
-use Rattle.refusals.specs.Refusals.{outcome, accepted}
-use Rattle.refusals.specs.declared.Checked.{Checked}
-use Rattle.refusals.specs.declared.Checked.TheVariants.{Accepted}
+use Rattle.std.proofs.lemmas.Result.{err_from_is_err_and}
+use Rattle.refusals.specs.Refusals.{accepted}
+use Rattle.refusals.proofs.Outcomes.{giving_refuses, giving_gives}
 use Rattle.plan_file.specs.declared.Edition.{Edition}
-use Rattle.plan_file.specs.declared.Edition.TheVariants.{Second}
+use Rattle.plan_file.specs.declared.Edition.TheVariants.{First, Second}
 use Rattle.plan_file.specs.Plan.{entry_count}
 use Rattle.plan_file.specs.Encoding.{entry_length}
 use Rattle.plan_file.specs.Decoding.{opening_test, edition_of, rows_in}
 use Rattle.plan_file.specs.Check.{file_check}
 use Rattle.plan_file.proofs.File.{file_holds}
 use Rattle.converter.specs.Conversion.{other}
-use Rattle.converter.proofs.Converting.{opened, forward_keeps, second_losses, check_own, check_edition, check_rest}
+use Rattle.converter.proofs.Converting.{same, differ, opens_other, opens_not, forward_keeps, second_losses, check_own, check_edition, check_rest}
 use Rattle.converter.proofs.check_conversion.Goals as goal
 
--- a check that accepts the file, and how the file opens, by what the calls answer
-told : (f : List ℕ) (found : Checked) → outcome found ≡ file_check f → found ≡ Accepted → file_check f ≡ accepted
-told f found e p = sym e ∙ ap outcome p
+pub returns-in_err-plan : goal.returns-in_err-plan
+returns-in_err-plan c =
+    let p = err_from_is_err_and c.from_residual.result c.from_residual.ensures.1 in
+    let r = giving_refuses _ _ _ c.in_err-plan.ensures in
+    rw (p.1, p.2, check_own c.args.to _ _ r)
 
-opened_as : (to from : Edition) (f : List ℕ) (r o : Bool) → from ≡ other to → r ≡ opening_test from f → r ≡ o → opening_test (other to) f ≡ o
-opened_as to from f r o t e p = rw (← t) (sym e ∙ p)
+pub returns-then-eq : goal.returns-then-eq
+returns-then-eq c =
+    let told = giving_gives _ _ _ c.in_ok-plan.ensures in
+    let e = rw told.1 at c.edition.ensures in
+    let not = opens_not c.args.to c.args.file.now (sym e ∙ same _ _ (sym c.if-eq.ensures)) in
+    rw (check_edition c.args.to _ told.0 not)
 
-pub returns-in_default : goal.returns-in_default
-returns-in_default c = let t = ap outcome c.in_default.is in t ∙ sym (check_own _ _ _ (sym c.check_file-checked.ensures.result_value ∙ t))
+-- the file opens as one of the other edition
+opens : (to from : Edition) (f g : List ℕ) → file_check f ≡ accepted → g ≡ f → from ≡ edition_of g → from ≡ other to → opening_test (other to) f ≡ true
+opens to from f g a p q e = opens_other to f a (ap edition_of (sym p) ∙ sym q ∙ e)
 
-pub opens-requires : goal.opens-requires
-opens-requires c = (file_holds _ (told _ _ c.check_file-checked.ensures.result_value c.in-Accepted.is)).header.long
+pub returns-then-eq-2 : goal.returns-then-eq-2
+returns-then-eq-2 c =
+    let told = giving_gives _ _ _ c.in_ok-plan.ensures in
+    let opened = opens c.args.to _ _ _ told.0 told.1 c.edition.ensures (differ _ c.args.to (sym c.if-eq.ensures)) in
+    let e = same c.args.to Second (sym c.if-eq-2.ensures) in
+    rw (told.1, check_rest c.args.to _ told.0 opened, e, forward_keeps c.args.file.now)
 
-pub returns-then-not-opens : goal.returns-then-not-opens
-returns-then-not-opens c =
-    let opens = opened_as c.args.to _ _ _ _ c.other_edition.ensures c.opens.ensures (not-true _ c.if-not-opens.true-raw) in
-    sym (check_edition _ _ (told _ _ c.check_file-checked.ensures.result_value c.in-Accepted.is) opens)
-
-pub node_count-requires : goal.node_count-requires
-node_count-requires c = (file_holds _ (told _ _ c.check_file-checked.ensures.result_value c.in-Accepted.is)).header.long
-
-pub check_losses-requires : goal.check_losses-requires
-check_losses-requires c =
+pub check_bodies-requires : goal.check_bodies-requires
+check_bodies-requires c =
     let f = c.args.file.now in
-    let accepts = told _ _ c.check_file-checked.ensures.result_value c.in-Accepted.is in
-    let opens = opened_as c.args.to _ _ _ _ c.other_edition.ensures c.opens.ensures (not-false _ c.if-not-opens.false-raw) in
-    let second : edition_of f ≡ Second = opened _ _ opens ∙ ap other c.in-First.is in
+    let told = giving_gives _ _ _ c.in_ok-plan.ensures in
+    let at_hand = rw told.1 at c.contents.ensures in
+    let first : c.args.to ≡ First = differ _ Second (sym c.if-eq-2.ensures) in
+    let second : edition_of c.args.file.now ≡ Second =
+    ap edition_of (sym told.1) ∙ sym c.edition.ensures ∙ differ _ c.args.to (sym c.if-eq.ensures) ∙ ap other first in
     let e = ap (λ ed. entry_count (rows_in f) * entry_length ed) second in
-    rw c.node_count.ensures.0 (omega (arith, (file_holds f accepts).ends, e))
+    rw (ap (λ p. p.0) at_hand, ap (λ p. p.1) at_hand) (omega (arith, (file_holds f told.0).ends, e))
 
-pub returns-in-First : goal.returns-in-First
-returns-in-First c =
-    let accepts = told _ _ c.check_file-checked.ensures.result_value c.in-Accepted.is in
-    let opens = opened_as c.args.to _ _ _ _ c.other_edition.ensures c.opens.ensures (not-false _ c.if-not-opens.false-raw) in
-    let second : edition_of c.args.file.now ≡ Second = opened _ _ opens ∙ ap other c.in-First.is in
-    let lost = c.check_losses.ensures ∙ second_losses _ _ c.node_count.ensures.0 second in
-    sym (check_rest _ _ accepts opens ∙ rw c.in-First.is (sym lost))
+pub returns-in_err-check_bodies : goal.returns-in_err-check_bodies
+returns-in_err-check_bodies c =
+    let p = err_from_is_err_and c.from_residual-in_err-check_bodies.result c.from_residual-in_err-check_bodies.ensures.1 in
+    let told = giving_gives _ _ _ c.in_ok-plan.ensures in
+    let at_hand = rw told.1 at c.contents.ensures in
+    let first : c.args.to ≡ First = differ _ Second (sym c.if-eq-2.ensures) in
+    let second : edition_of c.args.file.now ≡ Second =
+    ap edition_of (sym told.1) ∙ sym c.edition.ensures ∙ differ _ c.args.to (sym c.if-eq.ensures) ∙ ap other first in
+    let opened = opens c.args.to _ _ _ told.0 told.1 c.edition.ensures (differ _ c.args.to (sym c.if-eq.ensures)) in
+    let lost = c.in_err-check_bodies.ensures ∙ second_losses at_hand second in
+    rw (p.1, p.2, check_rest c.args.to _ told.0 opened, first, ← lost)
 
--- forward: nothing is lost
-pub returns-in-Second : goal.returns-in-Second
-returns-in-Second c =
-    let accepts = told _ _ c.check_file-checked.ensures.result_value c.in-Accepted.is in
-    let opens = opened_as c.args.to _ _ _ _ c.other_edition.ensures c.opens.ensures (not-false _ c.if-not-opens.false-raw) in
-    sym (check_rest _ _ accepts opens ∙ rw c.in-Second.is (forward_keeps _))
+pub returns : goal.returns
+returns c =
+    let told = giving_gives _ _ _ c.in_ok-plan.ensures in
+    let at_hand = rw told.1 at c.contents.ensures in
+    let first : c.args.to ≡ First = differ _ Second (sym c.if-eq-2.ensures) in
+    let second : edition_of c.args.file.now ≡ Second =
+    ap edition_of (sym told.1) ∙ sym c.edition.ensures ∙ differ _ c.args.to (sym c.if-eq.ensures) ∙ ap other first in
+    let opened = opens c.args.to _ _ _ told.0 told.1 c.edition.ensures (differ _ c.args.to (sym c.if-eq.ensures)) in
+    let kept = c.in_ok-check_bodies.ensures ∙ second_losses at_hand second in
+    rw (told.1, check_rest c.args.to _ told.0 opened, first, ← kept)

@@ -1,29 +1,28 @@
-use mathlib.Core.Path.{◌≡◌, ◌∙◌, refl, sym, ap}
-use Rattle.refusals.specs.Refusals.{outcome, accepted}
-use Rattle.converter.specs.Conversion.{convert_check}
+use mathlib.Core.Path.{◌∙◌, refl, sym}
+use Rattle.std.proofs.lemmas.Result.{err_from_is_err_and}
+use Rattle.refusals.proofs.Outcomes.{giving_refuses, giving_gives}
 use Rattle.converter.proofs.Converting.{convert_refused, convert_accepted}
-use Rattle.converter.proofs.RoundTrip.{Passes, passes, convert_ensures}
+use Rattle.converter.proofs.RoundTrip.{passes, convert_ensures}
 use Rattle.converter.proofs.convert.Goals as goal
 
-pub returns-in-Refused : goal.returns-in-Refused
-returns-in-Refused c = record {
-  convert_call = record {
-    answer = sym (convert_refused _ _ _ _ (sym c.check_conversion-checked.ensures ∙ ap outcome c.in-Refused.is));
-    there = refl;
-  };
-  converted_again = tt;
-}
+pub returns-in_err-plan : goal.returns-in_err-plan
+returns-in_err-plan c =
+    let p = err_from_is_err_and c.from_residual.result c.from_residual.ensures.1 in
+    rw (p.1, p.2)
+    (record {
+      convert_call = record { answer = sym (convert_refused _ _ _ _ (giving_refuses _ _ _ c.in_err-plan.ensures)); there = refl };
+      converted_again = tt;
+    })
 
 pub write_converted-requires : goal.write_converted-requires
 write_converted-requires c =
-    let told : convert_check c.args.to c.args.file.now ≡ accepted = sym c.check_conversion-checked.ensures ∙ ap outcome c.in_default.is in
-    let held : Passes c.args.to c.args.file.now = passes _ _ (told) in
-    let h = held in (h.file, h.opens)
+    let told = giving_gives _ _ _ c.in_ok-plan.ensures in
+    rw told.1 (passes _ _ told.0).opens
 
 pub returns : goal.returns
 returns c =
-    let told : convert_check c.args.to c.args.file.now ≡ accepted = sym c.check_conversion-checked.ensures ∙ ap outcome c.in_default.is in
-    let written = c.write_converted in
-    let both = convert_ensures (λ i. (c.shared_slice_known-1.given i).fits)
-    (record { answer = written.ensures.result_value ∙ sym (convert_accepted _ _ _ (told)); there = written.ensures.out_after }) in
+    let told = giving_gives _ _ _ c.in_ok-plan.ensures in
+    let written = rw told.1 at c.write_converted.ensures in
+    let both = convert_ensures {f = c.args.file.now} (λ i. (c.type_inv.file i).fits)
+    (record { answer = written.answer ∙ sym (convert_accepted _ _ _ told.0); there = written.out_after }) in
     record { convert_call = both.0; converted_again = both.1 }

@@ -15,24 +15,24 @@ use Rattle.converter.proofs.put_rows.Goals as goal
 
 pub slice_bounds-put_contents-end : goal.slice_bounds-put_contents-end
 slice_bounds-put_contents-end c =
-    let nodes : ℕ = c.args.nodes in
-    let words : take nodes c.copy_rows.new.rows ≡ map row_word (rows_from c.args.file.now 0 nodes) = ap (take nodes) (c.copy_rows.ensures ∙ over_start _ _)
+    let nodes : ℕ = c.args.contents.now.nodes in
+    let words : take nodes c.copy_rows.new.rows ≡ map row_word (rows_from c.args.contents.now.file.now 0 nodes) = ap (take nodes) (c.copy_rows.ensures ∙ over_start _ _)
     ∙ take_at _ _ nodes (length-row_words _ nodes) in
     let many : length (take nodes c.copy_rows.new.rows) ≡ nodes = ap length words ∙ length-row_words _ nodes in
     sym (many)
 
 pub put_contents-requires : goal.put_contents-requires
 put_contents-requires c =
-    let nodes : ℕ = c.args.nodes in
-    let words : take nodes c.copy_rows.new.rows ≡ map row_word (rows_from c.args.file.now 0 nodes) = ap (take nodes) (c.copy_rows.ensures ∙ over_start _ _)
+    let nodes : ℕ = c.args.contents.now.nodes in
+    let words : take nodes c.copy_rows.new.rows ≡ map row_word (rows_from c.args.contents.now.file.now 0 nodes) = ap (take nodes) (c.copy_rows.ensures ∙ over_start _ _)
     ∙ take_at _ _ nodes (length-row_words _ nodes) in
     let many : length (take nodes c.copy_rows.new.rows) ≡ nodes = ap length words ∙ length-row_words _ nodes in
     rw (many) (omega arith, omega arith)
 
 pub returns : goal.returns
 returns c =
-    let nodes : ℕ = c.args.nodes in
-    let words : take nodes c.copy_rows.new.rows ≡ map row_word (rows_from c.args.file.now 0 nodes) = ap (take nodes) (c.copy_rows.ensures ∙ over_start _ _)
+    let nodes : ℕ = c.args.contents.now.nodes in
+    let words : take nodes c.copy_rows.new.rows ≡ map row_word (rows_from c.args.contents.now.file.now 0 nodes) = ap (take nodes) (c.copy_rows.ensures ∙ over_start _ _)
     ∙ take_at _ _ nodes (length-row_words _ nodes) in
     c.put_contents.ensures
-    ∙ ap (over _ header_length) (contents_stored _ _ (λ i. (c.shared_slice_known-1.given i).fits) (nodes) _ (words))
+    ∙ ap (over _ header_length) (contents_stored _ _ (nodes) _ (words))

@@ -1,68 +1,60 @@
-use mathlib.Core.Path.{◌≡◌, ◌∙◌, subst}
-use native.Mathlib.Omega.{arith}
+use Rattle.std.proofs.Common.{◌≡◌, ℕ, ◌∙◌, refl, arith}
 use lib.ListN.{length-set}
-use Rattle.node_words.specs.Words.{entries_of}
+use Rattle.node_words.specs.declared.held.HeldEntries.{HeldEntries}
+use Rattle.node_words.specs.Held.{held_entries}
 use Rattle.node_words.proofs.Entries.{length-entries}
-use Rattle.level_map.specs.declared.Start.{Start}
-use Rattle.level_map.specs.declared.Start.TheVariants.{At, Nowhere}
 use Rattle.completion.specs.Test.{completion_test}
 use Rattle.level_map.specs.Map.{maps, first_of, pass_test, the_map}
-use Rattle.level_map.specs.Groups.{added, GroupPasses, LeastStart}
 use Rattle.level_map.proofs.Exact.{GroupTest}
 use Rattle.level_map.proofs.Theorems.{node_test, map_first}
-use Rattle.level_map.proofs.Loop.{reached_first, reached_next, reached_full, reached_stop, reached_end}
+use Rattle.level_map.proofs.Loop.{reached_next, reached_full, reached_stop, reached_end}
 use Rattle.level_map.proofs.find_cuts.Goals as goal
 
-pub loop-end-init : goal.loop-end-init
-loop-end-init c =
-    let test : GroupTest c.args.count = node_test (entries_of c.args.words.now c.args.count) c.requires.fact_1 c.args.count (length-entries _ 0 _) in
-    (reached_first (test) c.args.most c.args.cuts.now, omega arith, omega arith, c.requires.fact_2.1)
+-- the test of groups of a node's entries, and their map by it
+abbrev test_of : (n : HeldEntries) → GroupTest n.count
+test_of n = node_test (held_entries n) n.held n.count (length-entries _ 0 _)
+
+map_of : (n : HeldEntries) (most : ℕ) → the_map (held_entries n) most ≡ first_of (pass_test completion_test (held_entries n)) (maps most n.count)
+map_of n most = map_first _ _ (length-entries _ 0 _) most
 
 pub returns-then-most-groups : goal.returns-then-most-groups
 returns-then-most-groups c =
-    let test : GroupTest c.args.count = node_test (entries_of c.args.words.now c.args.count) c.requires.fact_1 c.args.count (length-entries _ 0 _) in
-    let first : the_map (entries_of c.args.words.now c.args.count) c.args.most ≡ first_of (pass_test completion_test (entries_of c.args.words.now c.args.count)) (maps c.args.most c.args.count) = map_first _ _ (length-entries _ 0 _) _ in
+    let n = c.args.node.now in
     let l = c.loop-end in
-    first ∙ reached_full (test) _ l.cuts l.end l.groups l.invariant.0 (omega arith) (omega arith)
+    map_of n c.args.most ∙ reached_full (test_of n) _ l.starts l.end l.groups l.invariant.reached (omega arith) (omega arith)
 
-pub returns-in_default : goal.returns-in_default
-returns-in_default c =
-    let test : GroupTest c.args.count = node_test (entries_of c.args.words.now c.args.count) c.requires.fact_1 c.args.count (length-entries _ 0 _) in
-    let first : the_map (entries_of c.args.words.now c.args.count) c.args.most ≡ first_of (pass_test completion_test (entries_of c.args.words.now c.args.count)) (maps c.args.most c.args.count) = map_first _ _ (length-entries _ 0 _) _ in
-    let told : (o : Start) → c.least_start.result ≡ o → LeastStart (GroupPasses (entries_of c.args.words.now c.args.count) (added c.loop-end.end) c.loop-end.end) c.loop-end.end o = λ o p. subst (LeastStart _ _) p c.least_start.ensures in
+pub returns-in_err-start : goal.returns-in_err-start
+returns-in_err-start c =
+    let n = c.args.node.now in
     let l = c.loop-end in
-    first ∙ reached_stop (test) _ l.cuts l.end l.groups l.invariant.0 (omega arith) (omega arith)
-    (told Nowhere c.in_default.is)
-
-pub overflow_cast-cuts : goal.overflow_cast-cuts
-overflow_cast-cuts c =
-    let told : (o : Start) → c.least_start.result ≡ o → LeastStart (GroupPasses (entries_of c.args.words.now c.args.count) (added c.loop-end.end) c.loop-end.end) c.loop-end.end o = λ o p. subst (LeastStart _ _) p c.least_start.ensures in
-    let least : LeastStart (GroupPasses (entries_of c.args.words.now c.args.count) (added c.loop-end.end) c.loop-end.end) c.loop-end.end (At c.in-At.start) = told _ c.in-At.is in
-    let s = least in omega arith
-
-pub loop-end-smaller : goal.loop-end-smaller
-loop-end-smaller c =
-    let told : (o : Start) → c.least_start.result ≡ o → LeastStart (GroupPasses (entries_of c.args.words.now c.args.count) (added c.loop-end.end) c.loop-end.end) c.loop-end.end o = λ o p. subst (LeastStart _ _) p c.least_start.ensures in
-    let least : LeastStart (GroupPasses (entries_of c.args.words.now c.args.count) (added c.loop-end.end) c.loop-end.end) c.loop-end.end (At c.in-At.start) = told _ c.in-At.is in
-    let s = least in omega arith
+    rw c.from_residual.ensures
+    (map_of n c.args.most ∙ reached_stop (test_of n) _ l.starts l.end l.groups l.invariant.reached (omega arith) (omega arith) c.in_err-start.ensures)
 
 pub loop-end-preserved : goal.loop-end-preserved
 loop-end-preserved c =
-    let test : GroupTest c.args.count = node_test (entries_of c.args.words.now c.args.count) c.requires.fact_1 c.args.count (length-entries _ 0 _) in
-    let told : (o : Start) → c.least_start.result ≡ o → LeastStart (GroupPasses (entries_of c.args.words.now c.args.count) (added c.loop-end.end) c.loop-end.end) c.loop-end.end o = λ o p. subst (LeastStart _ _) p c.least_start.ensures in
-    let least : LeastStart (GroupPasses (entries_of c.args.words.now c.args.count) (added c.loop-end.end) c.loop-end.end) c.loop-end.end (At c.in-At.start) = told _ c.in-At.is in
+    let n = c.args.node.now in
     let l = c.loop-end in
-    let s = least in (
-      reached_next (test) _ l.cuts l.end l.groups l.invariant.0 _ (omega arith) (omega arith)
-          (omega (arith, l.invariant.3)) s,
-      omega arith,
-      omega arith,
-      length-set l.cuts l.groups c.in-At.start ∙ l.invariant.3,
-    )
+    let least = c.in_ok-start.ensures in
+    record {
+      reached = reached_next (test_of n) _ l.starts l.end l.groups l.invariant.reached _ (omega arith) (omega arith)
+          (omega (arith, l.invariant.sized)) least;
+      within = omega arith;
+      few = omega (arith, least.0);
+      sized = length-set l.starts l.groups c.in_ok-start.start ∙ l.invariant.sized;
+    }
+
+pub invariant_of-result : goal.invariant_of-result
+invariant_of-result c =
+    let n = c.args.node.now in
+    let l = c.loop-end in
+    record {
+      few = n.few;
+      inside = omega (arith, l.invariant.sized, n.few);
+      falling = (reached_end (test_of n) c.args.most l.starts l.end l.groups l.invariant.reached (omega arith)).falling;
+    }
 
 pub returns : goal.returns
 returns c =
-    let test : GroupTest c.args.count = node_test (entries_of c.args.words.now c.args.count) c.requires.fact_1 c.args.count (length-entries _ 0 _) in
-    let first : the_map (entries_of c.args.words.now c.args.count) c.args.most ≡ first_of (pass_test completion_test (entries_of c.args.words.now c.args.count)) (maps c.args.most c.args.count) = map_first _ _ (length-entries _ 0 _) _ in
+    let n = c.args.node.now in
     let l = c.loop-end in
-    (rw (first) (reached_end (test) _ l.cuts l.end l.groups l.invariant.0 (omega arith)), omega (arith, l.invariant.3))
+    (rw (map_of n c.args.most) (reached_end (test_of n) c.args.most l.starts l.end l.groups l.invariant.reached (omega arith)), refl)

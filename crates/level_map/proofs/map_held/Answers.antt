@@ -1,61 +1,37 @@
-use Prim.Native.Nat.{◌≤◌}
-use mathlib.Core.Path.{◌≡◌, refl}
-use native.Mathlib.Omega.{arith}
-use lib.ListN.{length}
-use lib.Seq.{length-take-le}
-use Rattle.task_model.specs.Limits.{most_entries, Node}
+use Rattle.std.proofs.Common.{◌≡◌, Some, None, arith}
+use Rattle.refusals.specs.declared.Refusal.TheVariants.{NoMap}
+use Rattle.node_words.specs.Held.{held_entries}
+use Rattle.level_map.specs.Map.{the_map}
+use Rattle.level_map.specs.Found.{starts_in, CutAnswer}
+use Rattle.std.proofs.lemmas.Result.{err_from_is_err_and}
 use Rattle.node_words.specs.Words.{node_of}
 use Rattle.node_words.proofs.Entries.{length-entries}
-use Rattle.level_map.specs.declared.Cut.{Cut}
-use Rattle.level_map.specs.declared.Cut.TheVariants.{Groups, NoMap}
-use Rattle.level_map.specs.Map.{the_map}
-use Rattle.level_map.specs.Cuts.{CutAnswer}
 use Rattle.level_map.proofs.Answers.{right_short, right_none, right_map}
 use Rattle.level_map.proofs.map_held.Goals as goal
 
-pub returns-then-out-count : goal.returns-then-out-count
-returns-then-out-count c =
-    let n : Node = node_of c.args.words.now c.args.count c.args.levels in
-    let sized : length n.entries ≡ c.args.count = length-entries c.args.words.now 0 c.args.count in
-    let all = right_short (n) c.requires c.args.out.now (omega (arith, sized)) in
-    record { answered = all.0; written = all.1.0; best = all.1.1 }
+pub returns-then-out-node : goal.returns-then-out-node
+returns-then-out-node c =
+    let n = c.args.node.now in
+    let right = right_short (node_of n.words.now n.count c.args.levels) n.held c.args.out.now
+    (omega (arith, c.if-out-node.true, length-entries n.words.now 0 n.count)) in
+    record { answered = right.answered; written = right.written; best = right.best }
 
-pub find_cuts-requires : goal.find_cuts-requires
-find_cuts-requires c =
-    let n : Node = node_of c.args.words.now c.args.count c.args.levels in
-    let sized : length n.entries ≡ c.args.count = length-entries c.args.words.now 0 c.args.count in
-    let few : c.args.count ≤ most_entries = omega (arith, c.requires.few_entries, sized) in
-    record {
-      fact_1 = c.requires.each;
-      fact_2 = (few, refl);
-    }
-
-pub returns-in_default : goal.returns-in_default
-returns-in_default c =
-    let n : Node = node_of c.args.words.now c.args.count c.args.levels in
-    let sized : length n.entries ≡ c.args.count = length-entries c.args.words.now 0 c.args.count in
-    let cut : (o : Cut) → c.find_cuts.result ≡ o → CutAnswer (the_map (n).entries (n).levels) c.args.count c.args.levels o c.find_cuts.new.cuts = λ o p. rw p at c.find_cuts.ensures in
-    let all = right_none (n) c.requires c.args.out.now (omega (arith, sized)) (cut NoMap c.in_default.is) in
-    record { answered = all.0; written = all.1.0; best = all.1.1 }
-
-pub write_levels-requires : goal.write_levels-requires
-write_levels-requires c =
-    let n : Node = node_of c.args.words.now c.args.count c.args.levels in
-    let sized : length n.entries ≡ c.args.count = length-entries c.args.words.now 0 c.args.count in
-    let few : c.args.count ≤ most_entries = omega (arith, c.requires.few_entries, sized) in
-    let cut : (o : Cut) → c.find_cuts.result ≡ o → CutAnswer (the_map (n).entries (n).levels) c.args.count c.args.levels o c.find_cuts.new.cuts = λ o p. rw p at c.find_cuts.ensures in
-    let r = cut (Groups c.in-Groups.groups) c.in-Groups.is in record {
-      fact_1 = (r.1, few, omega arith);
-      fact_2 = r.0.falling;
-    }
+pub returns-in_err-cuts : goal.returns-in_err-cuts
+returns-in_err-cuts c =
+    let n = c.args.node.now in
+    let p = err_from_is_err_and c.from_residual.result c.from_residual.ensures.1 in
+    let none : c.find_cuts.result ≡ None = grind arith in
+    let eleven : c.in_err-cuts.field-0.0 ≡ NoMap = grind arith in
+    let right = right_none (node_of n.words.now n.count c.args.levels) n.held c.args.out.now
+    (omega (arith, c.if-out-node.false, length-entries n.words.now 0 n.count)) (rw none at c.find_cuts.ensures) in
+    rw (p.1, p.2, eleven) (record { answered = right.answered; written = right.written; best = right.best })
 
 pub returns : goal.returns
 returns c =
-    let n : Node = node_of c.args.words.now c.args.count c.args.levels in
-    let sized : length n.entries ≡ c.args.count = length-entries c.args.words.now 0 c.args.count in
-    let cut : (o : Cut) → c.find_cuts.result ≡ o → CutAnswer (the_map (n).entries (n).levels) c.args.count c.args.levels o c.find_cuts.new.cuts = λ o p. rw p at c.find_cuts.ensures in
-    let r = cut (Groups c.in-Groups.groups) c.in-Groups.is in
-    let all =
-    rw (length-take-le _ _ r.1)
-    at (right_map n c.requires c.args.out.now c.args.count _ _ sized (omega arith) r.0 c.write_levels.ensures) in
-    record { answered = all.0; written = all.1.0; best = all.1.1 }
+    let n = c.args.node.now in
+    let cuts = c.in_ok-cuts.cuts in
+    let some : c.find_cuts.result ≡ Some cuts = grind arith in
+    let found : CutAnswer (the_map (held_entries n) c.args.levels) n.count c.args.levels (Some cuts) = rw some at c.find_cuts.ensures in
+    let right = right_map (node_of n.words.now n.count c.args.levels) n.held c.args.out.now n.count (starts_in cuts) c.write_levels.new.out
+    (length-entries n.words.now 0 n.count) (omega (arith, c.if-out-node.false)) found.0 (rw found.1 at c.write_levels.ensures) in
+    rw c.groups.ensures (record { answered = right.answered; written = right.written; best = right.best })

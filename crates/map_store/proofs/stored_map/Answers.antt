@@ -1,4 +1,4 @@
-use mathlib.Core.Path.{◌≡◌, ◌∙◌, refl, sym}
+use mathlib.Core.Path.{◌≡◌, ◌∙◌, sym}
 use mathlib.Core.Bool.{true}
 use native.Mathlib.Omega.{arith}
 use borrow.Author.Tests.{not-true, not-false}
@@ -7,17 +7,12 @@ use Rattle.map_store.proofs.Lists.{length-stored}
 use Rattle.map_store.proofs.Asking.{asked_short, asked_none, asked_given, has_few}
 use Rattle.map_store.proofs.stored_map.Goals as goal
 
-pub returns-then-out-count : goal.returns-then-out-count
-returns-then-out-count c = record {
-  answered = sym (asked_short _ _ _ _ c.if-out-count.true);
-  written = refl;
-}
+pub returns-then-out-count-clause-answered : goal.returns-then-out-count-clause-answered
+returns-then-out-count-clause-answered c = sym (asked_short _ _ _ _ c.if-out-count.true)
 
-pub returns-then-not-has_map : goal.returns-then-not-has_map
-returns-then-not-has_map c = record {
-  answered = sym (asked_none _ _ _ _ (omega arith) (sym c.has_map.ensures ∙ not-true _ c.if-not-has_map.true-raw));
-  written = refl;
-}
+pub returns-then-not-has_map-clause-answered : goal.returns-then-not-has_map-clause-answered
+returns-then-not-has_map-clause-answered c =
+    sym (asked_none _ _ _ _ (omega arith) (sym c.has_map.ensures ∙ not-true _ c.if-not-has_map.true-raw))
 
 pub overflow_cast-result : goal.overflow_cast-result
 overflow_cast-result c =

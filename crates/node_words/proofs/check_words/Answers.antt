@@ -16,5 +16,5 @@ returns-then-count-gt-MOST_ENTRIES c = let a = c.args in
 
 pub returns : goal.returns
 returns c = let a = c.args in
-    c.check_body.ensures
+    c.check_all.ensures
     ∙ sym (node_entries _ _ (omega arith) (omega arith) (omega (arith, length-entries a.words.now 0 a.count)))

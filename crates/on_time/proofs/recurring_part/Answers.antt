@@ -11,20 +11,23 @@ use Rattle.on_time.proofs.recurring_part.Goals as goal
 product : (u j : ℕ) → u ≤ full_utilisation → j ≤ most_ticks → u * j ≤ full_utilisation * most_ticks
 product u j p q = mul-le-mul p q
 
-pub overflow_add-limit : goal.overflow_add-limit
-overflow_add-limit c = let h = c.requires.fact_1 in omega (arith, h.times, h.jitter)
-
-pub returns-then-limit-e : goal.returns-then-limit-e
-returns-then-limit-e c = let r = recurs_not c.args.limit c.args.e c.if-limit-e.true in
+pub returns-then-limit-e-clause-parts : goal.returns-then-limit-e-clause-parts
+returns-then-limit-e-clause-parts c = let r = recurs_not c.args.limit c.args.held.entry c.if-limit-e.true in
     (sym r.0, sym r.1, sym r.2)
 
 pub overflow_mul-result : goal.overflow_mul-result
 unfolding utilisation
-overflow_mul-result c = let e = c.args.e in
-    let h = c.requires.fact_1 in
+overflow_mul-result c = let e = c.args.held.entry in
+    let h = c.args.held.holds in
     omega (arith, product (utilisation e) e.jitter (utilisation_most e h) (omega (arith, h.times, h.jitter)))
 
-pub returns : goal.returns
+pub returns-clause-small : goal.returns-clause-small
 unfolding utilisation
-returns c = let r = recurs c.args.limit c.args.e (omega arith) in
+returns-clause-small c =
+    let h = c.args.held.holds in
+    (omega (arith, utilisation_most c.args.held.entry h), omega (arith, h.times))
+
+pub returns-clause-parts : goal.returns-clause-parts
+unfolding utilisation
+returns-clause-parts c = let r = recurs c.args.limit c.args.held.entry (omega arith) in
     (sym r.0, sym r.1, sym r.2)

@@ -1,12 +1,8 @@
-use Prim.Native.Nat.{◌-◌, ◌≤◌}
-use mathlib.Core.Path.{◌≡◌}
-use Rattle.node_words.specs.Words.{entries_of}
+use Rattle.std.proofs.Common.{◌≡◌}
+use Rattle.node_words.specs.Held.{held_entries}
 use Rattle.on_time.specs.StartBound.{late_by_runs, past_last}
-use Rattle.completion.proofs.Bounds.{most_runs}
 use Rattle.on_time.proofs.start_bound.Given as goal
 
-abbrev pub invariant-loop-i : goal.invariant-loop-i
-invariant-loop-i l = (l.bound ≡ past_last (late_by_runs (entries_of l.words l.count) l.end) l.i) × (l.i ≤ l.end) × (l.runs ≤ most_runs)
-
-abbrev pub decreases-loop-i : goal.decreases-loop-i
-decreases-loop-i l = l.end - l.i
+-- the entries from the position on rule out no start
+abbrev pub invariant-loop-position : goal.invariant-loop-position
+invariant-loop-position l = past_last (late_by_runs (held_entries l.node) l.end) l.end ≡ past_last (late_by_runs (held_entries l.node) l.end) l.position

@@ -1,54 +1,49 @@
-use mathlib.Core.Path.{◌≡◌, ◌∙◌, refl, sym, ap}
-use native.Mathlib.Omega.{arith}
-use Rattle.refusals.specs.Refusals.{outcome, accepted}
-use Rattle.plan_file.specs.Find.{row_of_number}
-use Rattle.plan_file.specs.Decoding.{rows_in}
-use Rattle.plan_file.specs.Check.{file_check}
+use mathlib.Core.Path.{◌∙◌, refl, sym, ap}
+use Rattle.std.proofs.lemmas.Result.{err_from_is_err_and}
+use Rattle.refusals.proofs.Outcomes.{giving_refuses, giving_gives}
+use Rattle.plan_file.specs.Find.{first_row}
+use Rattle.plan_file.proofs.Finding.{found_row, missing_row}
 use Rattle.plan_file.proofs.Reading.{find_refused, find_missing, find_found}
-use Rattle.plan_file.proofs.File.{file_holds}
+use Rattle.plan_file.proofs.File.{rows_listed}
 use Rattle.plan_file.proofs.find_node.Goals as goal
 
-pub returns-in-Refused : goal.returns-in-Refused
-returns-in-Refused c = record {
-  result_value = sym (find_refused _ _ _ (sym c.check_file-checked.ensures.result_value ∙ ap outcome c.in-Refused.is));
-  words_after = refl;
-  holding = tt;
-}
+pub returns-in_err-plan : goal.returns-in_err-plan
+returns-in_err-plan c =
+    let p = err_from_is_err_and c.from_residual.result c.from_residual.ensures.1 in
+    rw (p.1, p.2)
+    (record {
+      answer = sym (find_refused _ _ _ (giving_refuses _ _ _ c.in_err-plan.ensures));
+      words_after = refl;
+      holding = tt;
+    })
 
-pub node_count-nodes-requires : goal.node_count-nodes-requires
-node_count-nodes-requires c =
-    let told : file_check c.args.file.now ≡ accepted = sym c.check_file-checked.ensures.result_value ∙ ap outcome c.in_default.is in
-    (file_holds _ (told)).header.long
-
-pub row_of_number-row-requires : goal.row_of_number-row-requires
-row_of_number-row-requires c =
-    let told : file_check c.args.file.now ≡ accepted = sym c.check_file-checked.ensures.result_value ∙ ap outcome c.in_default.is in
-    rw c.node_count-nodes.ensures.0 (file_holds _ (told)).header.contents
-
-pub returns-then-nodes-row : goal.returns-then-nodes-row
-returns-then-nodes-row c =
-    let told : file_check c.args.file.now ≡ accepted = sym c.check_file-checked.ensures.result_value ∙ ap outcome c.in_default.is in
+pub returns-in_default : goal.returns-in_default
+returns-in_default c =
+    let told = giving_gives _ _ _ c.in_ok-plan.ensures in
+    let listed = rows_listed (rw told.1 at c.contents.ensures) in
     record {
-      result_value = sym
-          (find_missing _ _ (told)
-          (rw (← c.node_count-nodes.ensures.0) (rw (← c.row_of_number-row.ensures) c.if-nodes-row.true)));
+      answer =
+          sym
+          (find_missing _ _ told.0
+          (missing_row _ _ (sym c.in_default.is ∙ c.find.ensures ∙ ap (first_row c.args.number) listed)));
       words_after = refl;
       holding = tt;
     }
 
 pub load_node-r-requires : goal.load_node-r-requires
 load_node-r-requires c =
-    let told : file_check c.args.file.now ≡ accepted = sym c.check_file-checked.ensures.result_value ∙ ap outcome c.in_default.is in
-    let h = (file_holds _ (told)).header.counted.some in
-    (told, omega (arith, c.node_count-nodes.ensures.0))
+    let told = giving_gives _ _ _ c.in_ok-plan.ensures in
+    let listed = rows_listed (rw told.1 at c.contents.ensures) in
+    let row = found_row _ _ _ (sym c.in-Some.is ∙ c.find.ensures ∙ ap (first_row c.args.number) listed) in
+    rw told.1 row.1
 
 pub returns : goal.returns
 returns c =
-    let told : file_check c.args.file.now ≡ accepted = sym c.check_file-checked.ensures.result_value ∙ ap outcome c.in_default.is in
-    let sought : c.row_of_number-row.result ≡ row_of_number c.args.number (rows_in c.args.file.now) = rw (← c.node_count-nodes.ensures.0) c.row_of_number-row.ensures in
-    let e = sought in record {
-      result_value = rw c.load_node-r.ensures.row
-          (sym (find_found _ _ (told) _ e (rw (← c.node_count-nodes.ensures.0) c.if-nodes-row.false)));
-      words_after = (rw (← e) c.load_node-r.ensures.words);
-      holding = (rw (← e) c.load_node-r.ensures.node);
+    let told = giving_gives _ _ _ c.in_ok-plan.ensures in
+    let listed = rows_listed (rw told.1 at c.contents.ensures) in
+    let row = found_row _ _ _ (sym c.in-Some.is ∙ c.find.ensures ∙ ap (first_row c.args.number) listed) in
+    let e = rw told.1 at c.load_node-r.ensures in record {
+      answer = rw e.row (sym (find_found _ _ told.0 _ row.0 row.1));
+      words_after = rw (← row.0) e.words;
+      holding = rw (← row.0) e.node;
     }

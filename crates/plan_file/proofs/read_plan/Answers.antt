@@ -1,50 +1,37 @@
-use Prim.Native.Nat.{◌+◌, ◌*◌}
+use Prim.Native.Nat.{◌*◌}
+use mathlib.Core.List.{map}
 use mathlib.Core.Path.{◌≡◌, ◌∙◌, refl, sym, ap}
 use native.Mathlib.Omega.{arith}
-use lib.ListN.{length}
-use Rattle.refusals.specs.Refusals.{outcome, accepted}
+use Rattle.std.proofs.lemmas.Result.{err_from_is_err_and}
+use Rattle.byte_words.specs.Buffers.{over}
 use Rattle.byte_words.proofs.Buffers.{over_start}
-use Rattle.plan_file.specs.Plan.{entry_count}
+use Rattle.refusals.proofs.Outcomes.{giving_refuses, giving_gives}
+use Rattle.plan_file.specs.Plan.{entry_count, row_word}
 use Rattle.plan_file.specs.Encoding.{entry_length}
-use Rattle.plan_file.specs.Decoding.{rows_in}
-use Rattle.plan_file.specs.Check.{file_check}
-use Rattle.plan_file.proofs.Encoding.{entry_long, entries_counted}
+use Rattle.plan_file.specs.Decoding.{edition_of, node_count, rows_in}
+use Rattle.plan_file.proofs.Encoding.{entry_long}
 use Rattle.plan_file.proofs.Reading.{read_refused, read_few_rows, read_few_words, read_filled, entries_left}
-use Rattle.plan_file.proofs.File.{file_holds}
+use Rattle.plan_file.proofs.Memory.{entries_room, entries_filled}
+use Rattle.plan_file.proofs.File.{file_holds, rows_listed}
 use Rattle.plan_file.proofs.Ensured.{read_ensures}
 use Rattle.plan_file.proofs.read_plan.Goals as goal
 
-pub returns-in-Refused : goal.returns-in-Refused
-returns-in-Refused c = record {
-  read_call = record {
-    answer = sym (read_refused _ _ _ _ (sym c.check_file-checked.ensures.result_value ∙ ap outcome c.in-Refused.is));
-    rows_there = refl;
-    words_there = refl;
-  };
-  written_again = tt;
-}
-
-pub edition_of-edition-requires : goal.edition_of-edition-requires
-edition_of-edition-requires c =
-    let told : file_check c.args.file.now ≡ accepted = sym c.check_file-checked.ensures.result_value ∙ ap outcome c.in_default.is in
-    (file_holds _ (told)).header.long
-
-pub node_count-nodes-requires : goal.node_count-nodes-requires
-node_count-nodes-requires c =
-    let told : file_check c.args.file.now ≡ accepted = sym c.check_file-checked.ensures.result_value ∙ ap outcome c.in_default.is in
-    (file_holds _ (told)).header.long
-
-pub overflow_sub-file : goal.overflow_sub-file
-overflow_sub-file c =
-    let told : file_check c.args.file.now ≡ accepted = sym c.check_file-checked.ensures.result_value ∙ ap outcome c.in_default.is in
-    omega (arith, c.node_count-nodes.ensures.0, (file_holds _ (told)).header.contents)
+pub returns-in_err-accepted : goal.returns-in_err-accepted
+returns-in_err-accepted c =
+    let p = err_from_is_err_and c.from_residual.result c.from_residual.ensures.1 in
+    rw (p.1, p.2)
+    (record {
+      read_call = record { answer = sym (read_refused _ _ _ _ (giving_refuses _ _ _ c.in_err-accepted.ensures)); rows_there = refl; words_there = refl };
+      written_again = tt;
+    })
 
 pub returns-then-rows-nodes : goal.returns-then-rows-nodes
 returns-then-rows-nodes c =
-    let told : file_check c.args.file.now ≡ accepted = sym c.check_file-checked.ensures.result_value ∙ ap outcome c.in_default.is in
+    let told = giving_gives _ _ _ c.in_ok-accepted.ensures in
+    let nodes : c.nodes-nodes.result ≡ node_count c.args.file.now = c.nodes-nodes.ensures.value ∙ ap node_count told.1 in
     record {
       read_call = record {
-        answer = sym (read_few_rows _ _ _ (told) (rw (← c.node_count-nodes.ensures.0) c.if-rows-nodes.true));
+        answer = sym (read_few_rows _ _ _ told.0 (rw (← nodes) c.if-rows-nodes.true));
         rows_there = refl;
         words_there = refl;
       };
@@ -53,31 +40,18 @@ returns-then-rows-nodes c =
 
 pub overflow_mul-count : goal.overflow_mul-count
 overflow_mul-count c =
-    let told : file_check c.args.file.now ≡ accepted = sym c.check_file-checked.ensures.result_value ∙ ap outcome c.in_default.is in
-    let ends : let f = c.args.file.now in length f ≡ 8 + c.node_count-nodes.result * 8 + entry_count (rows_in f) * entry_length c.edition_of-edition.result = let f = c.args.file.now in
-    omega (
-      arith,
-      (file_holds f (told)).ends,
-      c.node_count-nodes.ensures.0,
-      ap (λ ed. entry_count (rows_in f) * entry_length ed) c.edition_of-edition.ensures,
-    ) in
-    let counted : c.entries_in-count.result ≡ entry_count (rows_in c.args.file.now) = entries_counted c.edition_of-edition.result _ _ _ _ (ends) c.entries_in-count.ensures in
-    omega (arith, counted, ends, entry_long c.edition_of-edition.result (entry_count (rows_in c.args.file.now)))
+    let told = giving_gives _ _ _ c.in_ok-accepted.ensures in
+    let count : c.entries-count.result ≡ entry_count (rows_in c.args.file.now) = c.entries-count.ensures ∙ ap (λ f. entry_count (rows_in f)) told.1 in
+    omega (arith, count, (file_holds _ told.0).ends, entry_long (edition_of c.args.file.now) (entry_count (rows_in c.args.file.now)))
 
 pub returns-then-entries-count : goal.returns-then-entries-count
 returns-then-entries-count c =
-    let told : file_check c.args.file.now ≡ accepted = sym c.check_file-checked.ensures.result_value ∙ ap outcome c.in_default.is in
-    let ends : let f = c.args.file.now in length f ≡ 8 + c.node_count-nodes.result * 8 + entry_count (rows_in f) * entry_length c.edition_of-edition.result = let f = c.args.file.now in
-    omega (
-      arith,
-      (file_holds f (told)).ends,
-      c.node_count-nodes.ensures.0,
-      ap (λ ed. entry_count (rows_in f) * entry_length ed) c.edition_of-edition.ensures,
-    ) in
-    let counted : c.entries_in-count.result ≡ entry_count (rows_in c.args.file.now) = entries_counted c.edition_of-edition.result _ _ _ _ (ends) c.entries_in-count.ensures in
+    let told = giving_gives _ _ _ c.in_ok-accepted.ensures in
+    let nodes : c.nodes-nodes.result ≡ node_count c.args.file.now = c.nodes-nodes.ensures.value ∙ ap node_count told.1 in
+    let count : c.entries-count.result ≡ entry_count (rows_in c.args.file.now) = c.entries-count.ensures ∙ ap (λ f. entry_count (rows_in f)) told.1 in
     record {
       read_call = record {
-        answer = sym (read_few_words _ _ _ (told) (omega (arith, c.node_count-nodes.ensures.0)) (omega (arith, counted)));
+        answer = sym (read_few_words _ _ _ told.0 (omega (arith, nodes)) (omega (arith, count)));
         rows_there = refl;
         words_there = refl;
       };
@@ -86,42 +60,35 @@ returns-then-entries-count c =
 
 pub copy_rows-requires : goal.copy_rows-requires
 copy_rows-requires c =
-    let told : file_check c.args.file.now ≡ accepted = sym c.check_file-checked.ensures.result_value ∙ ap outcome c.in_default.is in
-    omega (arith, c.node_count-nodes.ensures.0, (file_holds _ (told)).header.contents)
+    let told = giving_gives _ _ _ c.in_ok-accepted.ensures in
+    let nodes : c.nodes-nodes.result ≡ node_count c.args.file.now = c.nodes-nodes.ensures.value ∙ ap node_count told.1 in
+    omega (arith, nodes, ap (λ p. p.1) (rw told.1 at c.contents.ensures))
 
 pub copy_entries-requires : goal.copy_entries-requires
 copy_entries-requires c =
-    let told : file_check c.args.file.now ≡ accepted = sym c.check_file-checked.ensures.result_value ∙ ap outcome c.in_default.is in
-    let ends : let f = c.args.file.now in length f ≡ 8 + c.node_count-nodes.result * 8 + entry_count (rows_in f) * entry_length c.edition_of-edition.result = let f = c.args.file.now in
-    omega (
+    let told = giving_gives _ _ _ c.in_ok-accepted.ensures in
+    let nodes : c.nodes-nodes.result ≡ node_count c.args.file.now = c.nodes-nodes.ensures.value ∙ ap node_count told.1 in
+    let count : c.entries-count.result ≡ entry_count (rows_in c.args.file.now) = c.entries-count.ensures ∙ ap (λ f. entry_count (rows_in f)) told.1 in
+    let edition : c.edition-edition.result ≡ edition_of c.args.file.now = c.edition-edition.ensures ∙ ap edition_of told.1 in
+    entries_room c.edition-edition.result c.args.file.now _ c.entries-count.result c.args.entries.now (omega arith)
+    (omega (
       arith,
-      (file_holds f (told)).ends,
-      c.node_count-nodes.ensures.0,
-      ap (λ ed. entry_count (rows_in f) * entry_length ed) c.edition_of-edition.ensures,
-    ) in
-    let counted : c.entries_in-count.result ≡ entry_count (rows_in c.args.file.now) = entries_counted c.edition_of-edition.result _ _ _ _ (ends) c.entries_in-count.ensures in
-    omega (arith, ends, ap (λ n. n * entry_length c.edition_of-edition.result) (counted))
+      (file_holds _ told.0).ends,
+      nodes,
+      ap (λ n. n * entry_length c.edition-edition.result) count,
+      ap (λ ed. entry_count (rows_in c.args.file.now) * entry_length ed) edition,
+    ))
 
 pub returns : goal.returns
 returns c =
-    let told : file_check c.args.file.now ≡ accepted = sym c.check_file-checked.ensures.result_value ∙ ap outcome c.in_default.is in
-    let ends : let f = c.args.file.now in length f ≡ 8 + c.node_count-nodes.result * 8 + entry_count (rows_in f) * entry_length c.edition_of-edition.result = let f = c.args.file.now in
-    omega (
-      arith,
-      (file_holds f (told)).ends,
-      c.node_count-nodes.ensures.0,
-      ap (λ ed. entry_count (rows_in f) * entry_length ed) c.edition_of-edition.ensures,
-    ) in
-    let counted : c.entries_in-count.result ≡ entry_count (rows_in c.args.file.now) = entries_counted c.edition_of-edition.result _ _ _ _ (ends) c.entries_in-count.ensures in
-    let both = read_ensures (λ i. (c.shared_slice_known-1.given i).fits)
+    let told = giving_gives _ _ _ c.in_ok-accepted.ensures in
+    let nodes : c.nodes-nodes.result ≡ node_count c.args.file.now = c.nodes-nodes.ensures.value ∙ ap node_count told.1 in
+    let count : c.entries-count.result ≡ entry_count (rows_in c.args.file.now) = c.entries-count.ensures ∙ ap (λ f. entry_count (rows_in f)) told.1 in
+    let edition : c.edition-edition.result ≡ edition_of c.args.file.now = c.edition-edition.ensures ∙ ap edition_of told.1 in
+    let both = read_ensures {f = c.args.file.now} {rows = c.args.rows.now} {words = c.args.entries.now} (λ i. (c.type_inv.file i).fits)
     (record {
-      answer =
-          sym
-          (read_filled _ _ _ (told) _ _ _ c.edition_of-edition.ensures c.node_count-nodes.ensures.0 (counted)
-          (omega arith) (omega arith));
-      rows_there = rw (← c.node_count-nodes.ensures.0) (c.copy_rows.ensures ∙ over_start _ _);
-      words_there =
-          entries_left _ _ _ _ c.edition_of-edition.ensures (omega (arith, c.node_count-nodes.ensures.0)) (counted) _ _
-          c.copy_entries.ensures;
+      answer = sym (read_filled _ _ _ told.0 _ _ _ edition nodes count (omega arith) (omega arith));
+      rows_there = c.copy_rows.ensures ∙ ap (λ rs. over c.args.rows.now 0 (map row_word rs)) (rows_listed (rw told.1 at c.contents.ensures)) ∙ over_start _ _;
+      words_there = entries_left _ _ _ _ edition (omega (arith, nodes)) count _ _ (entries_filled _ _ _ _ _ (omega arith) _ c.copy_entries.ensures);
     }) in
     record { read_call = both.0; written_again = both.1 }

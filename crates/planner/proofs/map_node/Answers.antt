@@ -1,22 +1,48 @@
-use Rattle.std.proofs.Common.{◌≡◌}
+use mathlib.Core.Path.{◌∙◌, refl, sym}
+use native.Mathlib.Omega.{arith}
+use Rattle.std.proofs.lemmas.Result.{err_from_is_err_and}
+use Rattle.refusals.proofs.Outcomes.{not_both}
+use Rattle.task_model.specs.Limits.{NodeHolds}
 use Rattle.node_words.specs.Words.{node_of}
-use Rattle.plan_file.specs.Find.{node_found}
+use Rattle.node_words.proofs.Entries.{length-entries}
+use Rattle.refusals.specs.Answers.{answered}
+use Rattle.level_map.proofs.Answers.{Right}
 use Rattle.planner.proofs.Nodes.{found_holds}
-use Rattle.planner.proofs.Answers.{find_gives_lem, refused_promise, found_promise}
+use Rattle.planner.proofs.Answers.{find_refuses, find_gives_lem, file_refused, file_found}
 use Rattle.planner.proofs.map_node.Goals as goal
 
-pub map_held-requires : goal.map_held-requires
-map_held-requires c =
-    let held : node_of c.find_node-found.new.words c.in-Found.count c.in-Found.levels ≡ node_found c.args.file.now c.args.number = c.in-Found.ensures.holding in
-    rw held (found_holds _ _ (find_gives_lem _ _ _ c.in-Found.ensures.result_value))
+pub returns-in_err-found : goal.returns-in_err-found
+returns-in_err-found c =
+    let p = err_from_is_err_and c.from_residual.result c.from_residual.ensures.1 in
+    let q = find_refuses _ _ _ c.in_err-found.ensures.answer in
+    rw (p.1, p.2)
+    (record {
+      result_value = sym (file_refused _ _ _ q _);
+      out_after = refl;
+      node_best_map_or_none = λ t. absurd (not_both t q);
+    })
 
-pub returns-in-Refused : goal.returns-in-Refused
-returns-in-Refused c =
-    let all = refused_promise _ _ _ _ c.in-Refused.ensures.result_value in
-    record { result_value = all.0; out_after = all.1.0; node_best_map_or_none = all.1.1 }
+pub invariant_of-node : goal.invariant_of-node
+invariant_of-node c =
+    let n = c.in_ok-found.found in
+    let words = c.find_node.new.words in
+    let holds : NodeHolds (node_of words n.count n.levels) =
+    rw c.in_ok-found.ensures.holding (found_holds _ _ (find_gives_lem _ _ _ c.in_ok-found.ensures.answer)) in
+    record {
+      few = omega (arith, holds.few_entries, length-entries words 0 n.count);
+      held = holds.each;
+    }
 
-pub returns-in-Found : goal.returns-in-Found
-returns-in-Found c =
-    let m = c.map_held.ensures in
-    let all = found_promise _ _ _ _ c.in-Found.ensures.result_value _ c.in-Found.ensures.holding _ _ (m.answered, (m.written, m.best)) in
-    record { result_value = all.0; out_after = all.1.0; node_best_map_or_none = all.1.1 }
+pub returns : goal.returns
+returns c =
+    let e = c.in_ok-found.ensures in
+    let n = c.in_ok-found.found in
+    let h = c.map_held.ensures in
+    let held : Right (node_of c.find_node.new.words n.count n.levels) (answered c.map_held.result) c.args.out.now c.map_held.new.out =
+    record { answered = h.answered; written = h.written; best = h.best } in
+    let m = rw e.holding at held in
+    record {
+      result_value = m.answered ∙ sym (file_found _ _ (find_gives_lem _ _ _ e.answer) _);
+      out_after = m.written;
+      node_best_map_or_none = λ t. m.best;
+    }

@@ -1,8 +1,8 @@
-use Rattle.std.proofs.Common.{rules}
-use Rattle.session.proofs.InWords.{Sized, by_value}
+use borrow.Author.Rules.{rules}
+use Rattle.session.proofs.InWords.{by_value}
 use Rattle.session.proofs.inserted.Goals as goal
 
 pub returns : goal.returns
 returns c =
-    let sized : Sized c.args.s = record { node = search rules; store = search rules } in
-    by_value _ _ sized c.to_words-words.ensures c.insert-answer.ensures c.from_words-session.ensures
+    let e = c.by.ensures in
+    by_value _ _ e.same e.left.1.shows (search rules) e.left.1.leaves e.left.2

@@ -1,6 +1,6 @@
 use mathlib.Core.Path.{◌∙◌, refl, sym}
 use native.Mathlib.Omega.{arith}
-use Rattle.text.proofs.Writing.{written_front}
+use Rattle.text.proofs.Writing.{written_part, written_front}
 use Rattle.listing.proofs.Texts.{text_fits, text_short}
 use Rattle.listing.proofs.aside.copy_text.Goals as goal
 
@@ -11,7 +11,9 @@ returns-then-out-text c = record {
 }
 
 pub returns : goal.returns
-returns c = record {
-  result_value = sym (text_fits _ _ (omega arith));
-  out_after = c.put_bytes.ensures.buffer ∙ written_front c.args.out.now c.args.text.now;
-}
+returns c =
+    record {
+      result_value = sym (text_fits _ _ (omega arith));
+      out_after =
+          written_part _ 0 _ _ _ c.copy_from_slice.ensures.after (omega arith) ∙ written_front c.args.out.now c.args.text.now;
+    }

@@ -1,28 +1,22 @@
-use Prim.Native.Nat.{ℕ}
-use mathlib.Core.Path.{◌≡◌, ◌∙◌, ap, ap₂, sym}
-use mathlib.Core.List.{List}
-use lib.ListN.{length, take}
-use Rattle.text.proofs.Writing.{front_text}
-use Rattle.listing.specs.Listing.{listing}
-use Rattle.listing.proofs.Lines.{upto_end}
-use Rattle.listing.proofs.Texts.{text_same}
+use mathlib.Core.Path.{◌∙◌, ap, sym}
+use native.Mathlib.Omega.{arith}
+use lib.ListN.{length}
+use Rattle.text.proofs.Writing.{shown_front}
+use Rattle.listing.proofs.Texts.{few_nodes, text_same}
 use Rattle.listing.proofs.aside.list_through.Goals as goal
 
 pub slice_bounds-copy_text-end-2 : goal.slice_bounds-copy_text-end-2
 slice_bounds-copy_text-end-2 c =
-    let t : List ℕ = listing c.args.file.now in
-    let size : c.put_plan-n.result ≡ length t = upto_end c.put_plan-n.ensures in
-    let shown : take c.put_plan-n.result c.put_plan-n.new.out ≡ t = ap₂ take size c.put_plan-n.ensures.wrote.buffer ∙ front_text _ t in
-    size ∙ sym (ap length (shown))
+    let p = c.put_plan-n.ensures in
+    p.size ∙ sym (ap length (shown_front _ p.size p.buffer))
 
 pub returns : goal.returns
 returns c =
-    let t : List ℕ = listing c.args.file.now in
-    let size : c.put_plan-n.result ≡ length t = upto_end c.put_plan-n.ensures in
-    let shown : take c.put_plan-n.result c.put_plan-n.new.out ≡ t = ap₂ take size c.put_plan-n.ensures.wrote.buffer ∙ front_text _ t in
+    let p = c.put_plan-n.ensures in
     let e = c.copy_text.ensures in
-    let r = text_same (shown) _ _ _ e.result_value e.out_after in record {
+    let r = text_same (shown_front _ p.size p.buffer) _ _ _ e.result_value e.out_after in
+    record {
       result_value = r.0;
       out_after = r.1;
-      file_len_bound = c.put_plan-n.ensures.short;
+      file_len_bound = omega (arith, p.short, few_nodes _ c.args.plan.now.accepted);
     }

@@ -1,4 +1,3 @@
-use Prim.Native.Nat.{◌≤◌, ◌-◌}
 use mathlib.Core.Path.{◌≡◌}
 use lib.ListN.{length}
 use Rattle.node_words.specs.Words.{words_of}
@@ -8,7 +7,4 @@ use Rattle.plan_file.specs.Decoding.{entries_at}
 use Rattle.plan_file.proofs.read.copy_first.Given as goal
 
 abbrev pub invariant-loop-i : goal.invariant-loop-i
-invariant-loop-i l = (l.i ≤ l.count) × (length l.words ≡ length l.initial.words) × (l.words ≡ over l.initial.words 0 (words_of (entries_at First l.file l.k l.i)))
-
-abbrev pub decreases-loop-i : goal.decreases-loop-i
-decreases-loop-i l = l.count - l.i
+invariant-loop-i l = (length l.words ≡ length l.initial.words) × (l.words ≡ over l.initial.words 0 (words_of (entries_at First l.bytes 0 l.i)))

@@ -17,35 +17,34 @@ use Rattle.plan_file.proofs.store.put_contents.Goals as goal
 
 pub loop-row-init : goal.loop-row-init
 unfolding contents_bytes entry_count
-loop-row-init c = (omega arith, refl, omega arith, omega arith, sym (over_nothing _ 8))
+loop-row-init c = (refl, omega arith, omega arith, sym (over_nothing _ 8))
 
 pub overflow_mul-offset-in-loop-row : goal.overflow_mul-offset-in-loop-row
 overflow_mul-offset-in-loop-row c =
-    let short : c.row_of.result.count * c.entry_bytes-size.result ≤ c.row_of.result.count * entry_length Second = size_short c.args.edition _ c.entry_bytes-size.ensures _ in
+    let short : c.from.result.count * c.entry_bytes-size.result ≤ c.from.result.count * entry_length Second = size_short c.args.edition _ c.entry_bytes-size.ensures _ in
     omega (arith, short)
 
 pub overflow_add-offset-in-loop-row : goal.overflow_add-offset-in-loop-row
 overflow_add-offset-in-loop-row c =
-    let short : c.row_of.result.count * c.entry_bytes-size.result ≤ c.row_of.result.count * entry_length Second = size_short c.args.edition _ c.entry_bytes-size.ensures _ in
+    let short : c.from.result.count * c.entry_bytes-size.result ≤ c.from.result.count * entry_length Second = size_short c.args.edition _ c.entry_bytes-size.ensures _ in
     omega (arith, short)
 
 pub loop-row-preserved : goal.loop-row-preserved
 loop-row-preserved c =
-    let short : c.row_of.result.count * c.entry_bytes-size.result ≤ c.row_of.result.count * entry_length Second = size_short c.args.edition _ c.entry_bytes-size.ensures _ in
+    let short : c.from.result.count * c.entry_bytes-size.result ≤ c.from.result.count * entry_length Second = size_short c.args.edition _ c.entry_bytes-size.ensures _ in
     let size = c.entry_bytes-size.result in
     let row = memory_row c.args.rows.now _ _ c.loop-row-test.true refl in
-    let r = ap (λ (r : Row). r.count) c.row_of.ensures in (
-      omega arith,
+    let r = ap (λ (r : Row). r.count) c.from.ensures in (
       omega (arith, c.put_row.auto.file),
       omega (arith, ap (λ n. n * size) (count_more row), ap (λ n. n * size) r),
       omega (arith, r, short),
       c.put_row.ensures
-          ∙ rw c.loop-row.invariant.4
+          ∙ rw c.loop-row.invariant.3
           (over_next _ 8 _ _ _ (contents_length row _ _) (omega arith)
-          ∙ ap (over _ 8) (contents_more row _ _ _ c.loop-row.invariant.2)),
+          ∙ ap (over _ 8) (contents_more row _ _ _ c.loop-row.invariant.1)),
     )
 
 pub returns : goal.returns
 returns c = let rows = c.args.rows.now in
     rw (← c.entry_bytes-size.ensures)
-    (rw (take_all c.loop-row.row (map row_of rows) (omega (arith, length-map rows row_of))) at c.loop-row.invariant.4)
+    (rw (take_all c.loop-row.row (map row_of rows) (omega (arith, length-map rows row_of))) at c.loop-row.invariant.3)

@@ -1,4 +1,4 @@
-use Prim.Native.Nat.{◌+◌, ◌*◌, ◌≤◌, ◌-◌}
+use Prim.Native.Nat.{◌+◌, ◌*◌, ◌≤◌}
 use mathlib.Core.List.{map}
 use mathlib.Core.Path.{◌≡◌}
 use lib.ListN.{length, take}
@@ -9,11 +9,7 @@ use Rattle.byte_words.specs.Buffers.{over}
 use Rattle.plan_file.proofs.store.put_contents.Given as goal
 
 abbrev pub invariant-loop-row : goal.invariant-loop-row
-invariant-loop-row l = (l.row ≤ length l.rows)
-    × (length l.file ≡ length l.initial.file)
+invariant-loop-row l = (length l.file ≡ length l.initial.file)
     × (l.offset ≡ bodies_start (length l.rows) + entry_count (take l.row (map row_of l.rows)) * l.size)
     × (l.offset ≤ bodies_start (length l.rows) + l.row * 255 * entry_length Second)
     × (l.file ≡ over l.initial.file 8 (contents_bytes l.size (bodies_start (length l.rows)) (take l.row (map row_of l.rows))))
-
-abbrev pub decreases-loop-row : goal.decreases-loop-row
-decreases-loop-row l = length l.rows - l.row

@@ -1,4 +1,3 @@
-use Prim.Native.Nat.{◌≤◌, ◌-◌}
 use mathlib.Core.Path.{◌≡◌}
 use lib.ListN.{length}
 use Rattle.node_words.specs.Words.{entries_of}
@@ -8,7 +7,4 @@ use Rattle.plan_file.specs.Encoding.{bodies_bytes}
 use Rattle.plan_file.proofs.store.put_first.Given as goal
 
 abbrev pub invariant-loop-i : goal.invariant-loop-i
-invariant-loop-i l = (l.i ≤ l.count) × (length l.file ≡ length l.initial.file) × (l.file ≡ over l.initial.file l.k (bodies_bytes First (entries_of l.words l.i)))
-
-abbrev pub decreases-loop-i : goal.decreases-loop-i
-decreases-loop-i l = l.count - l.i
+invariant-loop-i l = (length l.bytes ≡ length l.initial.bytes) × (l.bytes ≡ over l.initial.bytes 0 (bodies_bytes First (entries_of l.words l.i)))

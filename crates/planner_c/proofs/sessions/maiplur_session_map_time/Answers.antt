@@ -1,14 +1,7 @@
-use mathlib.Core.Path.{◌∙◌, ap, sym}
-use Rattle.map_store.specs.Asking.{stored_gives}
+use mathlib.Core.Path.{◌∙◌, ap}
 use Rattle.planner_c.specs.Returned.{sized}
+use Rattle.planner_c.proofs.Results.{of_number}
 use Rattle.planner_c.proofs.sessions.maiplur_session_map_time.Goals as goal
 
-pub returns-in-At : goal.returns-in-At
-returns-in-At c =
-    c.give.ensures
-    ∙ ap sized (sym (ap stored_gives c.in-At.is) ∙ c.map_time-answer.ensures)
-
-pub returns-in-Refused : goal.returns-in-Refused
-returns-in-Refused c =
-    c.refuse.ensures
-    ∙ ap sized (sym (ap stored_gives c.in-Refused.is) ∙ c.map_time-answer.ensures)
+pub returns : goal.returns
+returns c = c.give.ensures ∙ of_number c.map_time.result ∙ ap sized c.map_time.ensures

@@ -1,26 +1,29 @@
-use mathlib.Core.Path.{refl}
+use mathlib.Core.Path.{◌∙◌, ap}
 use native.Mathlib.Omega.{arith}
-use Rattle.session.specs.Operations.{setting_levels, changed}
-use Rattle.session.proofs.InWords.{PartReady, part_ready, part_refused, part_kept}
+use Rattle.std.proofs.lemmas.Result.{err_from_is_err_and}
+use Rattle.node_words.specs.Words.{words_of, entries_of}
+use Rattle.node_words.specs.Lists.{zero_padded}
+use Rattle.session.specs.declared.Session.{Session}
+use Rattle.session.specs.Operations.{setting_levels}
+use Rattle.session.proofs.InWords.{asked, in_refused, part, part_ready, levels_set}
 use Rattle.session.proofs.in_words.set_levels.Goals as goal
 
-pub overflow_cast-count : goal.overflow_cast-count
-overflow_cast-count c = omega (arith, c.slice_known-2-1.given 1)
-
-pub returns-in_default : goal.returns-in_default
-returns-in_default c = part_refused _ c.requires (setting_levels _) _ c.check_set_levels-answer.ensures c.in_default.is
-
-pub overflow_cast-count-2 : goal.overflow_cast-count-2
-overflow_cast-count-2 c =
-    let ready : let a = c.args in PartReady (setting_levels a.levels) a.words.now = part_ready c.args.words.now c.requires (setting_levels _) _ c.check_set_levels-answer.ensures c.in-Accepted.is in
-    omega (arith, ready)
+pub returns-in_err-check_set_levels : goal.returns-in_err-check_set_levels
+returns-in_err-check_set_levels c =
+    let p = err_from_is_err_and c.from_residual.result c.from_residual.ensures.1 in
+    rw (p.1, p.2) (in_refused _ _ _ (asked (setting_levels c.args.levels) c.lent_in-lent.ensures c.in_err-check_set_levels.ensures))
 
 pub keep_list-requires : goal.keep_list-requires
 keep_list-requires c =
-    let ready : let a = c.args in PartReady (setting_levels a.levels) a.words.now = part_ready c.args.words.now c.requires (setting_levels _) _ c.check_set_levels-answer.ensures c.in-Accepted.is in
-    omega (arith, ready)
+    let w = c.args.words.now in
+    let x = setting_levels c.args.levels in
+    let ready = part_ready w x (asked x c.lent_in-lent.ensures c.in_ok-check_set_levels.ensures) in
+    let count = ap (λ (s : Session). s.count) c.lent_in-lent.ensures in
+    (omega arith, omega (arith, ready.few))
 
 pub returns : goal.returns
-unfolding changed
 returns c =
-    part_kept c.args.words.now c.requires (setting_levels c.args.levels) _ c.check_set_levels-answer.ensures c.in-Accepted.is c.keep_list.ensures refl
+    let w = c.args.words.now in
+    let levels = c.args.levels in
+    levels_set w (omega arith) levels (asked (setting_levels levels) c.lent_in-lent.ensures c.in_ok-check_set_levels.ensures)
+    (c.keep_list.ensures ∙ ap (λ (s : Session). zero_padded (words_of (entries_of (part w) s.count))) c.lent_in-lent.ensures)

@@ -1,0 +1,67 @@
+// The groups of a node's map.
+ghost use Rattle.std.specs.Prelude.{◌≡◌, suc, ◌++◌, ◌≤◌, ◌<◌, length, take, drop};
+ghost use Rattle.task_model.specs.Limits.{most_entries};
+ghost use Rattle.level_map.specs.Cuts.{Falling, before};
+ghost use Rattle.level_map.specs.OneProof.{Falling-prop};
+
+use task_model::MOST_ENTRIES;
+
+// Where `count` entries are cut into the groups of their map: the start of each group, least urgent group first, so the last
+// start is 0. The starts are an array with its count, since the library has no heap.
+#[derive(Clone, Copy)]
+pub struct Cuts {
+    pub starts: [u8; MOST_ENTRIES],
+    pub groups: u8,
+    pub count: usize,
+    ghost few: { count ≤ most_entries },
+    ghost inside: { groups ≤ length starts },
+    ghost falling: { Falling (take groups starts) count } by { Falling-prop (take groups starts) count },
+}
+
+// The entries from `first` to just before `end`: those of one level.
+#[derive(Clone, Copy, Debug, PartialEq, Eq)]
+pub struct Group {
+    pub first: usize,
+    pub end: usize,
+}
+
+impl Cuts {
+    ghost use Rattle.level_map.specs.Found.{starts_in, levels_in};
+
+    // How many groups there are, one for each level.
+    pub fn groups(&self) -> u8
+        ensures { result ≡ length (starts_in self.now) }
+    {
+        self.groups
+    }
+
+    // The group on a level: behind the entries of the more urgent levels, up to those of the less urgent ones.
+    pub fn group(&self, level: u8) -> Group
+        requires { (1 ≤ level) × (level ≤ length (starts_in self.now)) }
+        ensures first { result.first ≡ before level (levels_in self.now) }
+        ensures end { result.end ≡ before (suc level) (levels_in self.now) }
+        ensures inside { (result.first < result.end) × (result.end ≤ self.now.count) }
+    {
+        let behind = (self.groups - level) as usize;
+        let end = if behind == 0 {
+            self.count
+        } else {
+            self.starts[behind - 1] as usize
+        };
+        Group {
+            first: self.starts[behind] as usize,
+            end,
+        }
+    }
+
+    // Writes each entry's level, group by group, and keeps the bytes beyond.
+    pub fn write_levels(&self, out: &mut [u8])
+        requires { self.now.count ≤ length out.old }
+        ensures { out.new ≡ levels_in self.now ++ drop self.now.count out.old }
+    {
+        for level in 0..self.groups {
+            let group = self.group(level + 1);
+            out[group.first..group.end].fill(level + 1);
+        }
+    }
+}

@@ -1,7 +1,0 @@
-use borrow.Author.Rules.{rules}
-use Rattle.plan_file.specs.Plan.{row_of}
-use Rattle.plan_file.proofs.read.row_of.Goals as goal
-
-pub returns : goal.returns
-unfolding row_of
-returns c = search rules

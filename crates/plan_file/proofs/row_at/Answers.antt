@@ -1,6 +1,0 @@
-use mathlib.Core.Path.{◌∙◌, ap}
-use Rattle.plan_file.specs.Plan.{row_of}
-use Rattle.plan_file.proofs.row_at.Goals as goal
-
-pub returns : goal.returns
-returns c = c.row_of.ensures ∙ ap row_of c.word_at.ensures

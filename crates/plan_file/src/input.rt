@@ -1,0 +1,21 @@
+// What a program has read of its input.
+ghost use Rattle.std.specs.Prelude.{◌≡◌, ◌≤◌, ◌<◌, length, take};
+
+// The first `count` bytes of an array were read. The array has room for more bytes than any plan file has: so an input that
+// fills it is refused, and the rest of it need not be read.
+#[derive(Clone, Copy)]
+pub struct Input<'a> {
+    pub array: &'a [u8],
+    pub count: usize,
+    ghost inside: { count ≤ length array.now },
+    ghost room: { 65536 < length array.now },
+}
+
+impl<'a> Input<'a> {
+    // The bytes that were read.
+    pub fn bytes(&self) -> &[u8]
+        ensures { result.now ≡ take self.now.count self.now.array.now }
+    {
+        &self.array[..self.count]
+    }
+}

@@ -1,9 +1,0 @@
-use Rattle.session.proofs.Numbers.{found_before, found_behind}
-use Rattle.session.proofs.checks.other_has_number.Goals as goal
-
-pub returns-then-has_number : goal.returns-then-has_number
-returns-then-has_number c = found_before _ _ _ _ c.requires.0 c.has_number.ensures c.if-has_number.true
-
-pub returns : goal.returns
-returns c =
-    found_behind _ _ _ _ c.requires.0 c.has_number.ensures c.if-has_number.false c.has_number-2.ensures

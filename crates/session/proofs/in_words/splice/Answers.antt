@@ -1,0 +1,20 @@
+use native.Mathlib.Omega.{arith}
+use mathlib.Core.Path.{◌∙◌, sym, ap, subst}
+use Rattle.task_model.specs.Limits.{AllHold}
+use Rattle.session.specs.declared.Session.{Session}
+use Rattle.session.specs.State.{node_in, remembered}
+use Rattle.session.specs.InWords.{words_in}
+use Rattle.session.proofs.InWords.{splice_back}
+use Rattle.session.proofs.in_words.splice.Goals as goal
+
+pub remember-requires-clause-held : goal.remember-requires-clause-held
+remember-requires-clause-held c =
+    let a = c.args in
+    let e = splice_back a.words.now (omega arith) a.position a.gone _ c.requires.within.0 c.requires.few _ _ c.splice-left.ensures.left c.splice-left.ensures.list in
+    subst (λ (s : Session). AllHold (node_in s).entries) (sym e) c.requires.held
+
+pub returns : goal.returns
+returns c =
+    let a = c.args in
+    let e = splice_back a.words.now (omega arith) a.position a.gone _ c.requires.within.0 c.requires.few _ _ c.splice-left.ensures.left c.splice-left.ensures.list in
+    c.remember.ensures ∙ ap (λ (s : Session). words_in (remembered s)) e
