@@ -13,7 +13,8 @@ pub fn word_at(file: &[u8], k: usize) -> u32
     u32::from_le_bytes([file[k], file[k + 1], file[k + 2], file[k + 3]])
 }
 
-// Fills `words` with those of the bytes, from their start.
+// Fills `words` with those of the bytes, from their start. (By index, here and below: each word is at four times its own place
+// in the other slice, which `chunks_exact` would say no plainer.)
 pub fn copy_words(bytes: &[u8], words: &mut [u32])
     requires { length words.old * 4 ≤ length bytes.now }
     ensures { words.new ≡ words_from bytes.now 0 (length words.old) }

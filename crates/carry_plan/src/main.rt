@@ -24,14 +24,14 @@ const USAGE: &[u8] =
     b"usage: carry_plan forward <old.plan >new.plan, or carry_plan back <new.plan >old.plan\n";
 
 // The words that the program is called with: how many there are, its own name among them, and the one after that name.
-#[derive(Clone, Copy)]
+#[derive(Clone, Copy, Debug, PartialEq, Eq)]
 struct Words<'a> {
     count: usize,
     first: &'a [u8],
 }
 
 // What goes to standard output, and what to standard error.
-#[derive(Clone, Copy)]
+#[derive(Clone, Copy, Debug, PartialEq, Eq)]
 struct Output<'a> {
     file: &'a [u8],
     line: &'a [u8],

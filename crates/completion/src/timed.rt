@@ -10,7 +10,7 @@ use super::{Timing, limit_of};
 use node_words::held::{HeldEntries, HeldEntry};
 
 // The entry at a position of a node, in the group from `first` to `last`. The entries before the group are on higher levels.
-#[derive(Clone, Copy)]
+#[derive(Clone, Copy, Debug, PartialEq, Eq)]
 pub struct TimedEntry<'a> {
     pub node: HeldEntries<'a>,
     pub first: usize,

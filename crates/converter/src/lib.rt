@@ -60,6 +60,7 @@ fn put_bodies(to: Edition, file: &[u8], out: &mut [u8], start: usize, count: usi
     ensures { out.new ≡
         over out.old start (bodies_bytes to (entries_at (other to) file.now start count)) }
 {
+    // From a value to two types: no plainer, since only a match can choose a type by a value.
     match to {
         Edition::First => put_entries::<Second, First>(file, out, start, count),
         Edition::Second => put_entries::<First, Second>(file, out, start, count),

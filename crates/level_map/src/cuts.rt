@@ -1,14 +1,16 @@
 // The groups of a node's map.
-ghost use Rattle.std.specs.Prelude.{◌≡◌, suc, ◌++◌, ◌≤◌, ◌<◌, length, take, drop};
+ghost use Rattle.std.specs.Prelude.{◌≡◌, suc, ◌++◌, ◌-◌, ◌≤◌, ◌<◌, length, take, drop};
 ghost use Rattle.task_model.specs.Limits.{most_entries};
 ghost use Rattle.level_map.specs.Cuts.{Falling, before};
 ghost use Rattle.level_map.specs.OneProof.{Falling-prop};
 
+use completion::timed::TimedEntry;
+use node_words::held::HeldEntries;
 use task_model::MOST_ENTRIES;
 
 // Where `count` entries are cut into the groups of their map: the start of each group, least urgent group first, so the last
 // start is 0. The starts are an array with its count, since the library has no heap.
-#[derive(Clone, Copy)]
+#[derive(Clone, Copy, Debug, PartialEq, Eq)]
 pub struct Cuts {
     pub starts: [u8; MOST_ENTRIES],
     pub groups: u8,
@@ -23,6 +25,24 @@ pub struct Cuts {
 pub struct Group {
     pub first: usize,
     pub end: usize,
+}
+
+impl Group {
+    // The entry at a position of the group, in a node, to be timed.
+    pub fn timed<'a>(self, node: &HeldEntries<'a>, position: usize) -> TimedEntry<'a>
+        requires position { (self.first ≤ position) × (position < self.end) }
+        requires inside { self.end ≤ node.now.count }
+        ensures node { result.node ≡ node.now }
+        ensures group { (result.first ≡ self.first) × (result.last ≡ self.end - 1) }
+        ensures position { result.position ≡ position }
+    {
+        TimedEntry {
+            node: *node,
+            first: self.first,
+            last: self.end - 1,
+            position,
+        }
+    }
 }
 
 impl Cuts {

@@ -36,6 +36,7 @@ fn least_start(node: &HeldEntries, end: usize, added: u32) -> Option<usize>
     // Labelled loops over starts and entries, as the rules of the project ask; a start goes on by more than one.
     'starts: while start < end {
         for position in (start..end).rev() {
+            // No `Group::timed`: it would be as long, and the start is no group's as long as the entries are tested.
             let timed = TimedEntry {
                 node: *node,
                 first: start,

@@ -23,7 +23,7 @@ use Rattle.plan_file.specs.Find.{row_in, node_of_row}
 use Rattle.level_map.specs.Assignments.{level_of, levels_used}
 use Rattle.level_map.specs.Map.{the_map}
 use Rattle.listing.specs.Lines.{plan_line, node_line, no_map_line, entry_line, refused_line}
-use Rattle.listing.specs.Listing.{entry_text, entry_text_under, entries_text, entries_text_under, node_text, node_text_under, nodes_text, nodes_text_under, plan_text, plan_text_under, listing, listing_under, text_answer, list_answer}
+use Rattle.listing.specs.Listing.{entry_text, entry_text_under, entries_text, entries_text_under, node_text, node_text_under, nodes_text, nodes_text_under, plan_text, plan_text_under, listing, listing_under, text_answer, TextCall}
 
 module _ (es : List Entry) (m : List ℕ) where
   pub entry_on_time : (i time rounds : ℕ) → completion_test es (level_of m) i ≡ on_time time rounds
@@ -91,19 +91,17 @@ module _ (t : List ℕ) (room : ℕ) where
   text_short h = rw (lt-leb (length t) room h)
 
 -- the same answer and buffer, for the same text by another name
-pub text_same : {s t : List ℕ} → s ≡ t → (a : Answer ℕ) (room : ℕ) (old : List ℕ) {new : List ℕ} → a ≡ text_answer s room
-    → new ≡ left a s old → (a ≡ text_answer t room) × (new ≡ left a t old)
-text_same e a room old p q = (p ∙ ap (λ u. text_answer u room) e, q ∙ ap (λ u. left a u old) e)
+pub text_same : {s t old : List ℕ} {a : Answer ℕ} {new : List ℕ} → s ≡ t → TextCall s old a new → TextCall t old a new
+text_same e p = rw e at p
 
 only_text : (a : Result ℕ Refusal) (n : ℕ) → answered a ≡ gives n → a ≡ Ok n
 only_text (Ok m) n p = cc
 only_text (Err r) n p = absurd (let z : ◌≡◌ {A = ℕ} 0 1 = cc in omega arith)
 
 -- where the text fits, it is what the buffer begins with
-module _ (f old new : List ℕ) (a : Result ℕ Refusal) (fits : length (listing f) ≤ length old) (p : answered a ≡ list_answer f (length old))
-    (q : new ≡ left (answered a) (listing f) old) where
+module _ (f old new : List ℕ) (a : Result ℕ Refusal) (fits : length (listing f) ≤ length old) (p : TextCall (listing f) old (answered a) new) where
   pub listed_size : a ≡ Ok (length (listing f))
-  listed_size = only_text a (length (listing f)) (p ∙ text_fits (listing f) (length old) fits)
+  listed_size = only_text a (length (listing f)) (p.answer ∙ text_fits (listing f) (length old) fits)
 
   pub listed_text : new ≡ listing f ++ drop (length (listing f)) old
-  listed_text = q ∙ ap (λ o. left o (listing f) old) (p ∙ text_fits (listing f) (length old) fits)
+  listed_text = p.there ∙ ap (λ o. left o (listing f) old) (p.answer ∙ text_fits (listing f) (length old) fits)

@@ -1,12 +1,12 @@
 -- The listing of a plan file.
-use Rattle.std.specs.Prelude.{ℕ, zero, suc, List, [], ◌++◌, length, leb}
+use Rattle.std.specs.Prelude.{ℕ, zero, suc, ◌≤◌, ◌≡◌, List, [], ◌++◌, length, leb}
 use Rattle.std.proofs.Math.Option.{none, some}
 use Rattle.task_model.specs.declared.Entry.{Entry}
 use Rattle.refusals.specs.Refusals.{at, Outcome, accepted, refused, must_hold}
 use Rattle.task_model.specs.Limits.{Node, entry_at}
 use Rattle.completion.specs.Test.{on_time, late, completion_test}
 use Rattle.plan_file.specs.Plan.{Plan}
-use Rattle.refusals.specs.Answers.{Answer, giving}
+use Rattle.refusals.specs.Answers.{Answer, giving, left}
 use Rattle.plan_file.specs.Check.{file_check}
 use Rattle.plan_file.specs.Decoding.{plan_in}
 use Rattle.plan_file.specs.Find.{row_in, node_of_row}
@@ -86,3 +86,13 @@ text_answer t room = giving (must_hold (leb (length t) room) (at 10 0 0)) (lengt
 -- The answer for a file: that for its listing.
 abbrev pub list_answer : List ℕ → ℕ → Answer ℕ
 list_answer f room = text_answer (listing f) room
+
+-- A call that puts a text into a lent buffer: its answer, and the buffer as it leaves it.
+pub record TextCall (t old : List ℕ) (a : Answer ℕ) (new : List ℕ) : Type 0 where
+  pub answer : a ≡ text_answer t (length old)
+  pub there : new ≡ left a t old
+
+-- A call on a file: the same for its listing, which is never longer than 115,625 bytes.
+pub record ListCall (f old : List ℕ) (a : Answer ℕ) (new : List ℕ) : Type 0 where
+  pub text : TextCall (listing f) old a new
+  pub short : length (listing f) ≤ 115625

@@ -2,12 +2,12 @@
 // that is too short must stay untouched. So the text is written straight into the buffer if it has room for any plan with
 // this number of nodes, and otherwise into an array first. A new array is filled with zeros, which takes time, so plans
 // with fewer nodes get a shorter array.
-ghost use Rattle.std.specs.Prelude.{◌≡◌, ◌≤◌, length};
+ghost use Rattle.std.specs.Prelude.{◌≤◌, length};
 ghost use Rattle.refusals.specs.Refusals.{numbered};
-ghost use Rattle.refusals.specs.Answers.{answered, left};
+ghost use Rattle.refusals.specs.Answers.{answered};
 ghost use Rattle.plan_file.specs.Decoding.{node_count};
 ghost use Rattle.listing.specs.Lines.{refused_line};
-ghost use Rattle.listing.specs.Listing.{listing, text_answer, list_answer};
+ghost use Rattle.listing.specs.Listing.{TextCall, ListCall};
 ghost use Rattle.listing.specs.Room.{plan_most};
 
 use super::{MOST_TEXT, NODE_LINES, PLAN_LINE, put_plan, put_refused_line};
@@ -21,8 +21,7 @@ const EIGHT_NODES: usize = PLAN_LINE + 8 * NODE_LINES;
 
 // Copies a text to the start of a buffer. Refuses a buffer that is too short (10).
 fn copy_text(text: &[u8], out: &mut [u8]) -> Result<usize, Refusal>
-    ensures result_value { answered result ≡ text_answer text.now (length out.old) }
-    ensures out_after { out.new ≡ left (answered result) text.now out.old }
+    ensures { TextCall text.now out.old (answered result) out.new }
 {
     if out.len() < text.len() {
         return Err(Refusal::ShortBuffer);
@@ -33,9 +32,8 @@ fn copy_text(text: &[u8], out: &mut [u8]) -> Result<usize, Refusal>
 
 // The one line for a refused file.
 fn list_refusal(r: Refusal, out: &mut [u8]) -> Result<usize, Refusal>
-    ensures result_value { answered result ≡ text_answer (refused_line (numbered r)) (length out.old) }
-    ensures out_after { out.new ≡ left (answered result) (refused_line (numbered r)) out.old }
-    ensures r_len_bound { length (refused_line (numbered r)) ≤ 64 }
+    ensures text { TextCall (refused_line (numbered r)) out.old (answered result) out.new }
+    ensures short { length (refused_line (numbered r)) ≤ 64 }
 {
     let mut line = [0u8; 64];
     let n = put_refused_line(&mut line, r);
@@ -45,9 +43,7 @@ fn list_refusal(r: Refusal, out: &mut [u8]) -> Result<usize, Refusal>
 // The listing of a checked file, written into `text` first.
 fn list_through(plan: &PlanFile, text: &mut [u8], out: &mut [u8]) -> Result<usize, Refusal>
     requires { plan_most (node_count plan.now.bytes.now) ≤ length text.old }
-    ensures result_value { answered result ≡ list_answer plan.now.bytes.now (length out.old) }
-    ensures out_after { out.new ≡ left (answered result) (listing plan.now.bytes.now) out.old }
-    ensures file_len_bound { length (listing plan.now.bytes.now) ≤ 115625 }
+    ensures { ListCall plan.now.bytes.now out.old (answered result) out.new }
 {
     let n = put_plan(plan, text);
     copy_text(&text[..n], out)
@@ -56,9 +52,7 @@ fn list_through(plan: &PlanFile, text: &mut [u8], out: &mut [u8]) -> Result<usiz
 // The same, with an array of N bytes of its own.
 fn list_aside<const N: usize>(plan: &PlanFile, out: &mut [u8]) -> Result<usize, Refusal>
     requires { (plan_most (node_count plan.now.bytes.now) ≤ N) × (N ≤ 115625) }
-    ensures result_value { answered result ≡ list_answer plan.now.bytes.now (length out.old) }
-    ensures out_after { out.new ≡ left (answered result) (listing plan.now.bytes.now) out.old }
-    ensures file_len_bound { length (listing plan.now.bytes.now) ≤ 115625 }
+    ensures { ListCall plan.now.bytes.now out.old (answered result) out.new }
 {
     let mut text = [0u8; N];
     list_through(plan, &mut text, out)
@@ -66,9 +60,7 @@ fn list_aside<const N: usize>(plan: &PlanFile, out: &mut [u8]) -> Result<usize, 
 
 // The listing of a checked file.
 fn list_checked(plan: &PlanFile, out: &mut [u8]) -> Result<usize, Refusal>
-    ensures result_value { answered result ≡ list_answer plan.now.bytes.now (length out.old) }
-    ensures out_after { out.new ≡ left (answered result) (listing plan.now.bytes.now) out.old }
-    ensures file_len_bound { length (listing plan.now.bytes.now) ≤ 115625 }
+    ensures { ListCall plan.now.bytes.now out.old (answered result) out.new }
 {
     let nodes = plan.nodes();
     if PLAN_LINE + nodes * NODE_LINES <= out.len() {
@@ -87,9 +79,7 @@ fn list_checked(plan: &PlanFile, out: &mut [u8]) -> Result<usize, Refusal>
 // the refusal. Refuses only a buffer that is too short for the text (10), and leaves it untouched. `MOST_TEXT` bytes always
 // suffice.
 pub fn list_plan(file: &[u8], out: &mut [u8]) -> Result<usize, Refusal>
-    ensures result_value { answered result ≡ list_answer file.now (length out.old) }
-    ensures out_after { out.new ≡ left (answered result) (listing file.now) out.old }
-    ensures file_len_bound { length (listing file.now) ≤ 115625 }
+    ensures { ListCall file.now out.old (answered result) out.new }
 {
     match PlanFile::check(file) {
         Ok(plan) => list_checked(&plan, out),

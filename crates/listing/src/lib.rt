@@ -118,13 +118,7 @@ fn put_group(text: &mut Cursor<'_>, node: &HeldEntries, group: Group, level: u8)
         (group_text (held_entries node.now) group.first (group.end - 1) level (group.end - group.first)) text.new }
 {
     for position in group.first..group.end {
-        let timed = TimedEntry {
-            node: *node,
-            first: group.first,
-            last: group.end - 1,
-            position,
-        };
-        put_entry(text, &timed, level);
+        put_entry(text, &group.timed(node, position), level);
     }
 }
 

@@ -17,7 +17,6 @@ ghost use Rattle.map_store.specs.Asking.{map_asked, time_asked};
 ghost use Rattle.map_store.specs.Putting.{Put};
 
 use completion::entry_sums::wcet_sum;
-use completion::timed::TimedEntry;
 use level_map::cuts::{Cuts, Group};
 use level_map::find_cuts;
 use node_words::held::HeldEntries;
@@ -77,12 +76,7 @@ fn put_times(node: &HeldEntries, group: Group, store: &mut StoreWords)
     let runs = wcet_sum(node, group.end);
     let mut known = None;
     for position in group.first..group.end {
-        let timed = TimedEntry {
-            node: *node,
-            first: group.first,
-            last: group.end - 1,
-            position,
-        };
+        let timed = group.timed(node, position);
         let own = timed.entry().entry;
         let from = known_for(known, own.blocking);
         let time = completion_time(&timed, own.blocking, runs, from);
@@ -131,6 +125,7 @@ fn put_stored(store: &StoreWords, count: usize, out: &mut [u8])
     requires { (count ≤ most_entries) × (count ≤ length out.old) }
     ensures { out.new ≡ stored_levels store.now count ++ drop count out.old }
 {
+    // No `iter_mut().zip(..)`: tried, the proof did not close. What a loop over an adapter of `iter_mut` wrote is not known.
     for position in 0..count {
         out[position] = (store[LEVELS_AT + position] % 256) as u8;
     }

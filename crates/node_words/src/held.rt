@@ -8,14 +8,14 @@ use super::{NodeWords, entry_at};
 use task_model::Entry;
 
 // An entry within the limits.
-#[derive(Clone, Copy)]
+#[derive(Clone, Copy, Debug, PartialEq, Eq)]
 pub struct HeldEntry {
     pub entry: Entry,
     ghost holds: { EntryHolds entry } by { EntryHolds-prop entry },
 }
 
 // The first `count` entries in the words of a node. Every one of them is within the limits.
-#[derive(Clone, Copy)]
+#[derive(Clone, Copy, Debug, PartialEq, Eq)]
 pub struct HeldEntries<'a> {
     pub words: &'a NodeWords,
     pub count: usize,

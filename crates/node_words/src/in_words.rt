@@ -7,7 +7,7 @@ use task_model::Entry;
 use task_model::entries::EntryList;
 
 // The `count` entries from entry `first` of the words on.
-#[derive(Clone, Copy)]
+#[derive(Clone, Copy, Debug, PartialEq, Eq)]
 pub struct EntriesInWords<'a> {
     pub words: &'a [u32],
     pub first: usize,
@@ -26,6 +26,7 @@ impl<'a> EntryList for EntriesInWords<'a> {
         entry_of(self.words, (self.first + position) * ENTRY_WORDS)
     }
 
+    // As a remainder, since no plainer form is there: its bytes would be taken out of the word and put together again.
     fn number(&self, position: usize) -> u16 {
         (self.words[(self.first + position) * ENTRY_WORDS] % 65536) as u16
     }

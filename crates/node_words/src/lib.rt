@@ -39,10 +39,11 @@ pub fn entry_with(
 ) -> Entry
     ensures { result ≡ entry_from (head ∷ wcet ∷ period ∷ deadline ∷ blocking ∷ jitter ∷ []) 0 }
 {
+    let [low, high, kind, calls] = head.to_le_bytes();
     Entry {
-        number: (head % 65536) as u16,
-        kind: (head / 65536 % 256) as u8,
-        calls: (head / 16777216 % 256) as u8,
+        number: u16::from_le_bytes([low, high]),
+        kind,
+        calls,
         wcet,
         period,
         deadline,
@@ -79,7 +80,8 @@ pub fn store_entry(words: &mut [u32], k: usize, e: Entry)
     requires { k + entry_size ≤ length words.old }
     ensures { words.new ≡ sets words.old k (entry_words e) }
 {
-    words[k] = e.number as u32 + e.kind as u32 * 65536 + e.calls as u32 * 16777216;
+    let [low, high] = e.number.to_le_bytes();
+    words[k] = u32::from_le_bytes([low, high, e.kind, e.calls]);
     words[k + 1] = e.wcet;
     words[k + 2] = e.period;
     words[k + 3] = e.deadline;
@@ -100,13 +102,7 @@ pub fn check_words(row: usize, words: &[u32], count: usize, levels: u32) -> Resu
     requires { node_size ≤ length words.now }
     ensures { outcome result ≡ node_check row (node_of words.now count levels) }
 {
-    if levels < 1 {
-        return Err(Refusal::Row { row });
-    }
-    if (MOST_LEVELS as u32) < levels {
-        return Err(Refusal::Row { row });
-    }
-    if MOST_ENTRIES < count {
+    if levels < 1 || (MOST_LEVELS as u32) < levels || MOST_ENTRIES < count {
         return Err(Refusal::Row { row });
     }
     let entries = EntriesInWords {

@@ -9,7 +9,8 @@ use task_model::entries;
 // How many marks there are.
 pub const MARKS: usize = 1024;
 
-// Whether one of `count` entries, from entry `first` of the words on, has this number.
+// Whether one of `count` entries, from entry `first` of the words on, has this number. (No plainer without
+// this: each caller would make the list for itself, and give its count twice.)
 pub fn has_number(words: &[u32], first: usize, count: usize, number: u16) -> bool
     requires { (first + count) * entry_size ≤ length words.now }
     ensures { result ≡ has_number number (entries_from words.now first count) }

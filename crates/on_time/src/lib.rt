@@ -37,6 +37,13 @@ struct Recurring {
     jitter: u64,
 }
 
+// The sums over no entries.
+const NONE_RECUR: Recurring = Recurring {
+    utilisation: 0,
+    runs: 0,
+    jitter: 0,
+};
+
 // What one entry adds to the sums. (`limit` is found once for an entry and passed on, here and below; so its bound stays a
 // clause.)
 fn recurring_part(held: HeldEntry, limit: u32) -> Recurring
@@ -48,11 +55,7 @@ fn recurring_part(held: HeldEntry, limit: u32) -> Recurring
 {
     let e = held.entry;
     if limit + e.jitter <= e.period {
-        return Recurring {
-            utilisation: 0,
-            runs: 0,
-            jitter: 0,
-        };
+        return NONE_RECUR;
     }
     let utilisation = FULL_UTILISATION * e.wcet as u64 / e.period as u64;
     Recurring {
@@ -71,11 +74,7 @@ fn recurring_sum(node: &HeldEntries, end: usize, limit: u32) -> Recurring
         × (result.jitter ≡ min (sum_to (λ j. recurring_jitter limit (entry_of node.now.words.now j)) end) (full_utilisation * limit)) }
 {
     let most = FULL_UTILISATION * limit as u64;
-    let mut sum = Recurring {
-        utilisation: 0,
-        runs: 0,
-        jitter: 0,
-    };
+    let mut sum = NONE_RECUR;
     for position in 0..end {
         let part = recurring_part(node.entry(position), limit);
         sum.utilisation += part.utilisation;
@@ -135,6 +134,7 @@ fn end_from(timed: &TimedEntry, blocking: u32, begin: u64) -> Option<u32>
 // Does the entry end by its limit, with a blocking of `blocking` ticks? `runs` is the sum of C up to the end of its group,
 // which a search needs many times. Rounds are followed only if the demand at the limit does not decide, and from the lower
 // bound on.
+// No struct for `runs` and its end, here and below: that its node and end are the entry's would be clauses again.
 pub fn ends_on_time(timed: &TimedEntry, blocking: u32, runs: u64) -> Deadline
     requires { runs ≡ sum_to (λ j. (entry_of timed.now.node.words.now j).wcet) (timed.now.last + 1) }
     ensures { is_met result ≡ is_on_time (timed_test blocking timed.now) }

@@ -3,7 +3,7 @@ use Prim.Native.Nat.{ℕ, ◌+◌, ◌*◌, ◌≤◌, ◌<◌}
 use mathlib.Core.Path.{◌≡◌, ◌∙◌, sym, ap}
 use mathlib.Core.List.{List, [], ◌∷◌, ◌++◌}
 use native.Mathlib.Omega.{arith}
-use lib.ListN.{get_or}
+use lib.ListN.{get_or, length}
 use Rattle.task_model.specs.declared.Entry.{Entry}
 use Rattle.task_model.specs.Limits.{no_entry, entry_at}
 use Rattle.node_words.specs.Words.{entry_from}
@@ -14,7 +14,7 @@ use Rattle.plan_file.specs.declared.Edition.TheVariants.{First, Second}
 use Rattle.plan_file.specs.Encoding.{entry_length}
 use Rattle.plan_file.specs.Decoding.{file_words, entry_in, entries_at}
 use Rattle.plan_file.proofs.Words.{byte_entry, words_first, words_second, words_jitter}
-use Rattle.plan_file.proofs.Contents.{entries_run}
+use Rattle.plan_file.proofs.Contents.{entries_run, length-entries_at}
 
 -- in both editions, the number of an entry is in its first two bytes
 pub number_bytes : (ed : Edition) (f : List ℕ) → Bytes f → (k : ℕ) → (entry_in ed f k).number ≡ get_or f k 0 + get_or f (k + 1) 0 * 256
@@ -64,3 +64,14 @@ module _ (ed : Edition) (start count position size : ℕ) (e : size ≡ entry_le
 
   pub body_entry : (f : List ℕ) → entry_in ed f (start + position * size) ≡ entry_at (entries_at ed f start count) position
   body_entry f = rw e (sym (run_get (entries_run ed f) start count position no_entry h))
+
+-- an entry of a body in a file: it lies in the file
+module _ (ed : Edition) (f : List ℕ) (start count position size : ℕ) (h : position < length (entries_at ed f start count)) (e : size ≡ entry_length ed) where
+  body_has : position < count
+  body_has = omega (arith, length-entries_at ed f start count)
+
+  pub part_inside : start + count * entry_length ed ≤ length f → start + position * size + entry_length ed ≤ length f
+  part_inside inside = body_inside ed start count position size e body_has _ inside
+
+  pub part_entry : entry_in ed f (start + position * size) ≡ entry_at (entries_at ed f start count) position
+  part_entry = body_entry ed start count position size e body_has f

@@ -1,15 +1,15 @@
 -- What the tests of a file's header and of a row say about their numbers.
 use Prim.Native.Nat.{ℕ, ◌≤◌}
-use mathlib.Core.Path.{◌≡◌, ◌∙◌, sym, ap}
+use mathlib.Core.Path.{◌≡◌, ◌∙◌, refl, sym, ap}
 use mathlib.Core.Logic.{⊎_elim}
 use mathlib.Core.Bool.{Bool, true, false, ◌&&◌, true≢false}
 use mathlib.Core.List.{List, [], ◌∷◌, ◌++◌}
 use native.Mathlib.Omega.{arith}
-use lib.ListN.{length, get_or, drop}
-use lib.Dec.{leb, eqb}
+use lib.ListN.{length, get_or, take, drop}
+use lib.Dec.{eqb}
+use lib.Pointwise.{pointwise}
 use borrow.Author.Tests.{leb-true, le-leb, eqb-true, eq-eqb}
 use Rattle.plan_file.specs.Plan.{most_nodes}
-use Rattle.task_model.specs.Checks.{size_test}
 use Rattle.task_model.proofs.Tests.{and_true, true_or_false, decided}
 use Rattle.task_model.proofs.Laws.{sizes_true, sizes_hold}
 use Rattle.plan_file.specs.declared.Edition.{Edition}
@@ -140,14 +140,6 @@ module _ (least : ℕ) (r : Row) where
       let s = sizes_hold p1.1 in
       record { rises = leb-true _ _ p1.0; some_levels = s.0; few_levels = s.1; few_entries = s.2 }
 
-  pub row_false : (RowHolds → ⊥) → row_test least r ≡ false
-  row_false n = decided (row_test least r) row_holds n
-
-  -- the entry count decides, once the rest holds
-  pub row_rest : least ≤ r.number → 1 ≤ r.levels → r.levels ≤ 64 → leb r.count 64 ≡ row_test least r
-  unfolding row_test size_test
-  row_rest h1 h2 h3 = rw (le-leb least r.number h1, le-leb 1 r.levels h2, le-leb r.levels 64 h3)
-
 -- 3
 module _ (f : List ℕ) where
   pub record Counted : Type 0 where
@@ -177,11 +169,21 @@ module _ (f : List ℕ) where
         zero7 = eqb-true _ _ z1.1;
       }
 
-  pub counted_false : (Counted → ⊥) → (count_test (get_or f 4 0) && zeros_test f) ≡ false
-  counted_false n = decided (count_test (get_or f 4 0) && zeros_test f) counted_hold n
+-- the three zero bytes, compared as a slice
+three_tested : (x y z : Bool) → (x && (y && (z && true))) ≡ (x && y && z)
+three_tested false y z = refl
+three_tested true false z = refl
+three_tested true true false = refl
+three_tested true true true = refl
 
-  -- the last byte decides, once the rest holds
-  pub counted_rest : 1 ≤ get_or f 4 0 → get_or f 4 0 ≤ most_nodes → get_or f 5 0 ≡ 0 → get_or f 6 0 ≡ 0
-      → eqb (get_or f 7 0) 0 ≡ (count_test (get_or f 4 0) && zeros_test f)
-  unfolding count_test zeros_test
-  counted_rest h1 h2 h3 h4 = rw (le-leb 1 (get_or f 4 0) h1, le-leb (get_or f 4 0) most_nodes h2, h3, h4)
+pub zeros_tested : (f : List ℕ) → 8 ≤ length f → pointwise eqb (take 3 (drop 5 f)) (0 ∷ 0 ∷ 0 ∷ []) ≡ zeros_test f
+unfolding zeros_test
+zeros_tested [] l = absurd (omega arith)
+zeros_tested (a ∷ []) l = absurd (omega arith)
+zeros_tested (a ∷ b ∷ []) l = absurd (omega arith)
+zeros_tested (a ∷ b ∷ c ∷ []) l = absurd (omega arith)
+zeros_tested (a ∷ b ∷ c ∷ d ∷ []) l = absurd (omega arith)
+zeros_tested (a ∷ b ∷ c ∷ d ∷ e ∷ []) l = absurd (omega arith)
+zeros_tested (a ∷ b ∷ c ∷ d ∷ e ∷ x ∷ []) l = absurd (omega arith)
+zeros_tested (a ∷ b ∷ c ∷ d ∷ e ∷ x ∷ y ∷ []) l = absurd (omega arith)
+zeros_tested (a ∷ b ∷ c ∷ d ∷ e ∷ x ∷ y ∷ z ∷ f) l = three_tested (eqb x 0) (eqb y 0) (eqb z 0)

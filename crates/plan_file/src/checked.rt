@@ -14,7 +14,7 @@ use node_words::{ENTRY_WORDS, NodeWords};
 use refusals::Refusal;
 
 // The bytes of a plan file that check_file accepts.
-#[derive(Clone, Copy)]
+#[derive(Clone, Copy, Debug, PartialEq, Eq)]
 pub struct PlanFile<'a> {
     pub bytes: &'a [u8],
     ghost accepted: { file_check bytes.now ≡ accepted },

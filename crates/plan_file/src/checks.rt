@@ -16,16 +16,10 @@ use task_model::{MOST_ENTRIES, MOST_LEVELS};
 pub(crate) fn row_holds(least: u32, r: Row) -> bool
     ensures { result ≡ row_test least r }
 {
-    if (r.number as u32) < least {
-        return false;
-    }
-    if r.levels < 1 {
-        return false;
-    }
-    if MOST_LEVELS < r.levels {
-        return false;
-    }
-    r.count as usize <= MOST_ENTRIES
+    least <= r.number as u32
+        && 1 <= r.levels
+        && r.levels <= MOST_LEVELS
+        && r.count as usize <= MOST_ENTRIES
 }
 
 // Checks each row (4), then that `words` is the number of words of all entries that the rows count (6).
@@ -37,8 +31,8 @@ pub(crate) fn check_rows(rows: &[u32], words: usize) -> Result<(), Refusal>
 {
     let mut least: u32 = 0;
     let mut total: usize = 0;
-    for i in 0..rows.len() {
-        let r = Row::from(rows[i]);
+    for (i, &word) in rows.iter().enumerate() {
+        let r = Row::from(word);
         if !row_holds(least, r) {
             return Err(Refusal::Row { row: i });
         }
@@ -63,8 +57,8 @@ pub(crate) fn check_nodes<C: ListCheck>(
         (entries_from words.now 0 (entry_count (map row_of rows.now))) }
 {
     let mut first: usize = 0;
-    for row in 0..rows.len() {
-        let count = Row::from(rows[row]).count as usize;
+    for (row, &word) in rows.iter().enumerate() {
+        let count = Row::from(word).count as usize;
         let entries = EntriesInWords {
             words,
             first,

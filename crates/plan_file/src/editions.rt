@@ -37,6 +37,8 @@ impl TryFrom<u32> for Edition {
     }
 }
 
+// These tables stand beside the constants of `Layout`: an edition as a value is known only when the program runs, and a table
+// of all four as one struct would be no plainer.
 impl Edition {
     // The four bytes that a file opens with.
     pub(crate) fn opening(self) -> [u8; 4]

@@ -3,7 +3,7 @@ ghost use Rattle.std.specs.Prelude.{◌≡◌, ◌≤◌, ◌<◌, length, take}
 
 // The first `count` bytes of an array were read. The array has room for more bytes than any plan file has: so an input that
 // fills it is refused, and the rest of it need not be read.
-#[derive(Clone, Copy)]
+#[derive(Clone, Copy, Debug, PartialEq, Eq)]
 pub struct Input<'a> {
     pub array: &'a [u8],
     pub count: usize,

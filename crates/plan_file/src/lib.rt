@@ -87,10 +87,11 @@ impl From<u32> for Row {
     ghost from_gives = { λ word r. r ≡ row_of word };
 
     fn from(word: u32) -> Row {
+        let [low, high, levels, count] = word.to_le_bytes();
         Row {
-            number: (word % 65536) as u16,
-            levels: (word / 65536 % 256) as u8,
-            count: (word / 16777216 % 256) as u8,
+            number: u16::from_le_bytes([low, high]),
+            levels,
+            count,
         }
     }
 }
@@ -118,6 +119,7 @@ pub fn check_file(file: &[u8]) -> Result<(), Refusal>
     let contents = Contents::check(file)?;
     let edition = contents.edition();
     contents.check_layout(edition)?;
+    // From a value to a type: no plainer, since only a match can choose a type by a value.
     match edition {
         Edition::First => contents.check_bodies::<First, _>(&mut FileCheck::new()),
         Edition::Second => contents.check_bodies::<Second, _>(&mut FileCheck::new()),
@@ -130,13 +132,11 @@ pub fn check_plan(edition: Edition, rows: &[u32], entries: &[u32]) -> Result<(),
     ensures answer { outcome result ≡ words_check edition rows.now entries.now }
     ensures exactly { (outcome result ≡ accepted) ↔ IsPlanInMemory edition rows.now entries.now }
 {
-    if rows.len() < 1 {
-        return Err(Refusal::NodeCount);
-    }
-    if (MOST_NODES as usize) < rows.len() {
+    if rows.len() < 1 || (MOST_NODES as usize) < rows.len() {
         return Err(Refusal::NodeCount);
     }
     check_rows(rows, entries.len())?;
+    // From a value to a type, as in check_file.
     match edition {
         Edition::First => check_nodes(rows, entries, &mut Whole::<First, MARKS>::new()),
         Edition::Second => check_nodes(rows, entries, &mut Whole::<Second, MARKS>::new()),

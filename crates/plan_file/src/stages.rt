@@ -19,7 +19,7 @@ use std::marker::PhantomData;
 use task_model::entries::ListCheck;
 
 // The bytes of a file that has room for a header.
-#[derive(Clone, Copy)]
+#[derive(Clone, Copy, Debug, PartialEq, Eq)]
 pub struct Header<'a> {
     pub file: &'a [u8],
     ghost long: { header_length ≤ length file.now },
@@ -37,10 +37,7 @@ impl<'a> Header<'a> {
     pub(crate) fn opens_known(&self) -> bool
         ensures { result ≡ opens_test self.now.file.now }
     {
-        if self.opens(Edition::First) {
-            return true;
-        }
-        self.opens(Edition::Second)
+        self.opens(Edition::First) || self.opens(Edition::Second)
     }
 
     // The edition, by the opening bytes.
@@ -64,24 +61,12 @@ impl<'a> Header<'a> {
     pub(crate) fn counted(&self) -> bool
         ensures { result ≡ (count_test (node_count self.now.file.now) && zeros_test self.now.file.now) }
     {
-        if self.file[4] < 1 {
-            return false;
-        }
-        if MOST_NODES < self.file[4] {
-            return false;
-        }
-        if self.file[5] != 0 {
-            return false;
-        }
-        if self.file[6] != 0 {
-            return false;
-        }
-        self.file[7] == 0
+        1 <= self.file[4] && self.file[4] <= MOST_NODES && self.file[5..8] == [0, 0, 0]
     }
 }
 
 // The bytes of a file that has room for a header and as many rows.
-#[derive(Clone, Copy)]
+#[derive(Clone, Copy, Debug, PartialEq, Eq)]
 pub struct Contents<'a> {
     pub file: &'a [u8],
     pub nodes: usize,
@@ -148,7 +133,8 @@ impl<'a> Contents<'a> {
         None
     }
 
-    // Copies the rows, without their offsets, to a buffer's start.
+    // Copies the rows, without their offsets, to a buffer's start. (By index: `iter_mut` over the buffer's start was tried, and
+    // its proof did not close.)
     pub fn copy_rows(&self, rows: &mut [u32])
         requires { self.now.nodes ≤ length rows.old }
         ensures { rows.new ≡ over rows.old 0 (map row_word (rows_of self.now)) }
@@ -158,7 +144,8 @@ impl<'a> Contents<'a> {
         }
     }
 
-    // Checks each row (4) and its offset (5), then that the file ends with the last body (6).
+    // Checks each row (4) and its offset (5), then that the file ends with the last body (6). (No plainer as one function with
+    // check_rows: a plan in memory has no offsets, and its last check is of words.)
     pub(crate) fn check_layout(&self, edition: Edition) -> Result<(), Refusal>
         requires { self.now.nodes ≤ most_nodes }
         ensures { outcome result ≡
@@ -186,7 +173,8 @@ impl<'a> Contents<'a> {
         Ok(())
     }
 
-    // Checks all bodies, row by row. The entries of a row are checked once those before it have passed.
+    // Checks all bodies, row by row. The entries of a row are checked once those before it have passed. (No plainer as one
+    // function with check_nodes: what is left is one loop over two kinds of lists, with a trait for rows and lists more.)
     pub fn check_bodies<E: Layout, C: ListCheck>(&self, check: &mut C) -> Result<(), Refusal>
         requires { bodies_start self.now.nodes + entry_count (rows_of self.now) * entry_length E.edition ≤
             length self.now.file.now }

@@ -37,8 +37,7 @@ pub fn put_contents(edition: Edition, file: &mut [u8], rows: &[u32])
 {
     let size = edition.entry_bytes();
     let mut offset: usize = HEADER_BYTES + rows.len() * ROW_BYTES;
-    for row in 0..rows.len() {
-        let word = rows[row];
+    for (row, &word) in rows.iter().enumerate() {
         put_row(file, HEADER_BYTES + row * ROW_BYTES, word, offset as u32);
         offset += Row::from(word).count as usize * size;
     }

@@ -13,7 +13,7 @@ abbrev pub answer_by : {A B : Type 0} → (A → B) → Result A Refusal → Ans
 answer_by f (Ok a) = gives (f a)
 answer_by f (Err r) = refuses (numbered r)
 
--- What it says where the result is a number.
+-- What it says where the result is a number: this is `answer_by` of the number itself.
 abbrev pub answered : Result ℕ Refusal → Answer ℕ
 answered (Ok n) = gives n
 answered (Err r) = refuses (numbered r)

@@ -58,6 +58,7 @@ fn remember(words: &mut SessionWords)
         words: lent.words,
         count: lent.count,
     };
+    // The store is made beside the words and copied: the node is read from the same words meanwhile.
     let mut store = [0u32; STORE_WORDS];
     store_map(&node, &mut store);
     words[STORE_AT..].copy_from_slice(&store);

@@ -6,14 +6,14 @@ use mathlib.Core.Logic.{⊎_elim}
 use mathlib.Core.List.{List, ◌∷◌}
 use lib.ListN.{length}
 use native.Mathlib.Omega.{arith}
-use lib.Dec.{leb, ltb}
+use lib.Dec.{ltb}
 use borrow.Author.Tests.{leb-true, ltb-true, ltb-false, le-leb, lt-leb, ne_eqb}
 use Rattle.task_model.proofs.Tests.{and_true, true_or_false, decided}
 use Rattle.task_model.specs.declared.Entry.{Entry}
 use Rattle.refusals.specs.Refusals.{Numbered, at, Outcome, accepted, refused}
 use Rattle.refusals.proofs.Outcomes.{then_refused, then_accepted, both_accepted}
 use Rattle.task_model.specs.Limits.{most_ticks, most_levels, most_entries, Node, TimesHold, JitterHolds}
-use Rattle.task_model.specs.Checks.{kind_test, times_test, jitter_test, entry_test, entry_check, entries_by, numbers_check, body_by, size_test, node_check_by, node_check, body_check}
+use Rattle.task_model.specs.Checks.{kind_test, times_test, jitter_test, entry_check, entries_by, numbers_check, body_by, size_test, node_check_by, node_check, body_check}
 
 -- 7
 module _ (kind calls : ℕ) where
@@ -85,12 +85,6 @@ module _ (e : Entry) where
   pub times_false : (TimesHold e → ⊥) → times_test e ≡ false
   times_false n = decided (times_test e) times_hold n
 
-  -- the last of the tests decides, once the others hold
-  pub times_rest : 1 ≤ e.wcet → e.wcet ≤ e.deadline → e.deadline ≤ e.period → e.period ≤ most_ticks
-      → leb e.blocking most_ticks ≡ times_test e
-  unfolding times_test
-  times_rest h1 h2 h3 h4 = rw (le-leb _ _ h1, le-leb _ _ h2, le-leb _ _ h3, le-leb _ _ h4)
-
 -- 14
 module _ (e : Entry) where
   pub jitter_true : JitterHolds e → jitter_test e ≡ true
@@ -114,20 +108,6 @@ sizes_hold p =
     let p1 = and_true _ _ p in
     let p2 = and_true _ _ p1.0 in
     (leb-true _ _ p2.0, leb-true _ _ p2.1, leb-true _ _ p1.1)
-
--- the three tests
-module _ (e : Entry) where
-  pub test_kind : kind_test e.kind e.calls ≡ false → entry_test e ≡ false
-  unfolding entry_test
-  test_kind p = rw p
-
-  pub test_times : kind_test e.kind e.calls ≡ true → times_test e ≡ false → entry_test e ≡ false
-  unfolding entry_test
-  test_times k p = rw (k, p)
-
-  pub test_rest : kind_test e.kind e.calls ≡ true → times_test e ≡ true → entry_test e ≡ jitter_test e
-  unfolding entry_test
-  test_rest k p = rw (k, p)
 
 -- 7, then 8, then 14
 module _ (row position : ℕ) (e : Entry) where

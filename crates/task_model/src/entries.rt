@@ -1,5 +1,5 @@
 // Lists of entries, wherever they lie, and the checks of all entries of a list.
-ghost use Rattle.std.specs.Prelude.{◌≡◌, ◌↔◌, ℕ, true, List, length, take, ◌≤◌, ◌<◌};
+ghost use Rattle.std.specs.Prelude.{◌≡◌, ◌↔◌, ℕ, true, List, length, take, replicate, ◌≤◌, ◌<◌};
 ghost use Rattle.refusals.specs.Refusals.{outcome, Outcome};
 ghost use Rattle.task_model.specs.declared.Entry.{Entry};
 ghost use Rattle.task_model.specs.Limits.{entry_at};
@@ -131,7 +131,10 @@ pub struct Each<C: EntryCheck> {
 }
 
 impl<C: EntryCheck> Each<C> {
-    pub fn new() -> Self {
+    // There is only one: it keeps nothing.
+    pub fn new() -> Self
+        ensures only { (other : Each C) → other ≡ result }
+    {
         Each { check: PhantomData }
     }
 }
@@ -154,8 +157,10 @@ pub struct Whole<C: EntryCheck, const N: usize> {
 }
 
 impl<C: EntryCheck, const N: usize> Whole<C, N> {
+    // The marks are those of no number.
     pub fn new() -> Self
         requires { 0 < N }
+        ensures { result.marks ≡ replicate N 0 }
     {
         Whole {
             check: PhantomData,

@@ -59,19 +59,11 @@ fn kind_holds(kind: u8, calls: u8) -> bool
 fn times_hold(e: Entry) -> bool
     ensures { result ≡ times_test e }
 {
-    if e.wcet < 1 {
-        return false;
-    }
-    if e.deadline < e.wcet {
-        return false;
-    }
-    if e.period < e.deadline {
-        return false;
-    }
-    if MOST_TICKS < e.period {
-        return false;
-    }
-    e.blocking <= MOST_TICKS
+    1 <= e.wcet
+        && e.wcet <= e.deadline
+        && e.deadline <= e.period
+        && e.period <= MOST_TICKS
+        && e.blocking <= MOST_TICKS
 }
 
 // Whether J ≤ D - C.
@@ -122,11 +114,5 @@ fn calls_hold(kind: u8, calls: u8) -> bool
 pub fn entry_holds(e: Entry) -> bool
     ensures { result ≡ entry_test e }
 {
-    if !calls_hold(e.kind, e.calls) {
-        return false;
-    }
-    if !times_hold(e) {
-        return false;
-    }
-    jitter_holds(e)
+    calls_hold(e.kind, e.calls) && times_hold(e) && jitter_holds(e)
 }

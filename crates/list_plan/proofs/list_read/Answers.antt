@@ -1,4 +1,4 @@
-use Prim.Native.Nat.{ℕ, ◌≤◌}
+use Prim.Native.Nat.{ℕ}
 use mathlib.Core.Path.{◌≡◌, ◌∙◌, sym, ap}
 use mathlib.Core.List.{List}
 use native.Mathlib.Omega.{arith}
@@ -6,8 +6,8 @@ use lib.ListN.{length, take, drop}
 use lib.Seq.{take_at}
 use Rattle.std.specs.Prelude.{Result, Ok}
 use Rattle.refusals.specs.declared.Refusal.{Refusal}
-use Rattle.refusals.specs.Answers.{answered, left}
-use Rattle.listing.specs.Listing.{listing, list_answer}
+use Rattle.refusals.specs.Answers.{answered}
+use Rattle.listing.specs.Listing.{listing, ListCall}
 use Rattle.listing.proofs.Texts.{listed_size, listed_text}
 use Rattle.listing.proofs.Long.{long_listing}
 use Rattle.plan_file.specs.declared.input.Input.{Input}
@@ -16,16 +16,15 @@ use Rattle.list_plan.proofs.list_read.Goals as goal
 
 -- what the call leaves of the bytes that were read
 module _ (read : Input) (bytes old new : List ℕ) (result : Result ℕ Refusal) (e : bytes ≡ take read.count read.array.now)
-    (room : length old ≡ 115625) (fits : length (listing bytes) ≤ 115625) (p : answered result ≡ list_answer bytes (length old))
-    (q : new ≡ left (answered result) (listing bytes) old) where
+    (room : length old ≡ 115625) (p : ListCall bytes old (answered result) new) where
   -- the text always fits
   size : result ≡ Ok (length (listing bytes))
-  size = listed_size bytes old new result (omega arith) p q
+  size = listed_size bytes old new result (omega (arith, p.short)) p.text
 
   -- what was read is listed as the whole input is
   shown : (n : ℕ) → n ≡ length (listing bytes) → (input : List ℕ) → InputOf input read → take n new ≡ listing input
   shown n same input r =
-      ap (take n) (listed_text bytes old new result (omega arith) p q)
+      ap (take n) (listed_text bytes old new result (omega (arith, p.short)) p.text)
       ∙ take_at (listing bytes) (drop (length (listing bytes)) old) n (sym same)
       ∙ ap listing (e ∙ sym r)
       ∙ long_listing (length read.array.now) (omega arith) input
@@ -33,19 +32,19 @@ module _ (read : Input) (bytes old new : List ℕ) (result : Result ℕ Refusal)
 pub returns-in_default : goal.returns-in_default
 returns-in_default c =
     let e = c.list_plan.ensures in
-    absurd (c.in_default.not-Ok _ (size c.args.read.now _ c.args.text.now c.list_plan.new.out c.list_plan.result c.bytes.ensures (omega arith) e.file_len_bound e.result_value e.out_after))
+    absurd (c.in_default.not-Ok _ (size c.args.read.now _ c.args.text.now c.list_plan.new.out c.list_plan.result c.bytes.ensures (omega arith) e))
 
 pub shared_ref_as_front-result : goal.shared_ref_as_front-result
 shared_ref_as_front-result c =
     let e = c.list_plan.ensures in
-    let s = size c.args.read.now _ c.args.text.now c.list_plan.new.out c.list_plan.result c.bytes.ensures (omega arith) e.file_len_bound e.result_value e.out_after in
+    let s = size c.args.read.now _ c.args.text.now c.list_plan.new.out c.list_plan.result c.bytes.ensures (omega arith) e in
     let same : c.in-Ok.length ≡ length (listing c.bytes.result.now) = let q = c.in-Ok.is in cc in
-    omega (arith, e.file_len_bound)
+    omega (arith, e.short)
 
 pub returns : goal.returns
 returns c =
     let e = c.list_plan.ensures in
-    let s = size c.args.read.now _ c.args.text.now c.list_plan.new.out c.list_plan.result c.bytes.ensures (omega arith) e.file_len_bound e.result_value e.out_after in
+    let s = size c.args.read.now _ c.args.text.now c.list_plan.new.out c.list_plan.result c.bytes.ensures (omega arith) e in
     let same : c.in-Ok.length ≡ length (listing c.bytes.result.now) = let q = c.in-Ok.is in cc in
-    shown c.args.read.now _ c.args.text.now c.list_plan.new.out c.list_plan.result c.bytes.ensures (omega arith) e.file_len_bound e.result_value e.out_after
+    shown c.args.read.now _ c.args.text.now c.list_plan.new.out c.list_plan.result c.bytes.ensures (omega arith) e
     c.in-Ok.length same

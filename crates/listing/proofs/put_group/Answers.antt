@@ -35,7 +35,9 @@ loop-position-preserved c =
     ≡ group_text es g.first (g.end - 1) a.level k
     ++ timed_line (entry_at es l.position) a.level (completion_test es (group_level g.first (g.end - 1)) l.position) =
     rw at_k at (group_more es g.first (g.end - 1) a.level k) in
-    rw one (upto_same (sym more) (rw size at (upto_append l.invariant (omega arith) c.put_entry.ensures)))
+    let at = c.timed.ensures in
+    let line = rw (at.node, at.group.0, at.group.1, at.position) at c.put_entry.ensures in
+    rw one (upto_same (sym more) (rw size at (upto_append l.invariant (omega arith) line)))
 
 pub returns : goal.returns
 returns c =

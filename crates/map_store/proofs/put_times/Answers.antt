@@ -1,6 +1,7 @@
 use Rattle.std.proofs.Common.{◌≡◌, ◌-◌, ◌∙◌, ap, arith}
 use Rattle.std.specs.Option.{unwrap_or}
 use Rattle.task_model.specs.declared.Entry.{Entry}
+use Rattle.task_model.specs.Limits.{entry_at}
 use Rattle.node_words.specs.Held.{held_entries}
 use Rattle.node_words.proofs.Entries.{length-entries}
 use Rattle.completion.specs.Group.{group_level}
@@ -19,12 +20,14 @@ loop-position-preserved c =
     let first = c.args.group.first in
     let last = c.args.group.end - 1 in
     let l = c.loop-position in
+    let at = c.timed-timed.ensures in
+    let own : c.entry.result.entry ≡ entry_at es l.position = rw (at.node, at.position) at c.entry.ensures in
     let time : c.completion_time-time.result ≡ completion_time (completion_test es (group_level first last) l.position) =
-    c.completion_time-time.ensures
-    ∙ ap (λ (e : Entry). completion_time (test_with e.blocking es (group_level first last) l.position)) c.entry.ensures in
+    (rw (at.node, at.group.0, at.group.1, at.position) at c.completion_time-time.ensures)
+    ∙ ap (λ (e : Entry). completion_time (test_with e.blocking es (group_level first last) l.position)) own in
     record {
       put = put_next times_at _ _ _ l.position _ _ (omega arith) (omega arith)
           (c.unwrap_or.ensures ∙ ap (λ o. unwrap_or o 0) time ∙ time_or_zero (completion_test es (group_level first last) l.position)) l.invariant.put;
       known = earliest_after es first last l.position (omega arith) (omega arith) n.held (omega (arith, length-entries n.words.now 0 n.count))
-          l.known l.invariant.known _ c.entry.ensures _ time _ c.known_after-known.ensures;
+          l.known l.invariant.known _ own _ time _ c.known_after-known.ensures;
     }

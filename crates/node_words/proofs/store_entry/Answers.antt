@@ -1,3 +1,6 @@
+use Prim.Native.Nat.{◌+◌, ◌*◌}
+use mathlib.Core.Path.{◌≡◌}
+use borrow.Author.Rules.{rules}
 use native.Mathlib.Omega.{arith}
 use lib.ListN.{length-set}
 use Rattle.node_words.proofs.Words.{stored_all}
@@ -22,4 +25,7 @@ pub shape_of-words : goal.shape_of-words
 shape_of-words c = simp length-set
 
 pub returns : goal.returns
-returns c = stored_all _ _ _
+returns c =
+    let e = c.args.e in
+    let head : c.from_le_bytes.result ≡ e.number + e.kind * 65536 + e.calls * 16777216 = search rules in
+    rw head (stored_all _ _ _)

@@ -11,15 +11,17 @@ use Rattle.plan_file.specs.Plan.{entry_count, row_of}
 use Rattle.plan_file.proofs.WriterChecks.{tally_holds, count_true, count_false, writer_count, writer_tally, writer_nodes}
 use Rattle.plan_file.proofs.Ensured.{plan_ensures}
 use Rattle.plan_file.proofs.check_plan.Goals as goal
+use Rattle.plan_file.proofs.check_plan.Goals.{then-rows-lt1-via-then-rows-lt1, then-rows-lt1-via-else-rows-lt1+then-rows}
 
 pub returns-then-rows-lt1 : goal.returns-then-rows-lt1
 returns-then-rows-lt1 c =
-    let both = plan_ensures c.args.edition c.args.rows.now c.args.entries.now (sym (writer_count _ _ _ _ (count_false _ (λ h1 h2. omega (arith, length-map c.args.rows.now row_of))))) in
-    record { answer = both.0; exactly = both.1 }
-
-pub returns-then-rows : goal.returns-then-rows
-returns-then-rows c =
-    let both = plan_ensures c.args.edition c.args.rows.now c.args.entries.now (sym (writer_count _ _ _ _ (count_false _ (λ h1 h2. omega (arith, length-map c.args.rows.now row_of))))) in
+    let n = length-map c.args.rows.now row_of in
+    let both = plan_ensures c.args.edition c.args.rows.now c.args.entries.now
+    (sym (writer_count _ _ _ _ (count_false _ (λ h1 h2.
+    elim c.then-rows-lt1.branch [
+      | then-rows-lt1-via-then-rows-lt1 w ↦ omega arith
+      | then-rows-lt1-via-else-rows-lt1+then-rows w ↦ omega arith
+    ])))) in
     record { answer = both.0; exactly = both.1 }
 
 -- the count of rows is accepted
@@ -36,6 +38,9 @@ returns-in_err-check_rows c =
 
 pub check_nodes-requires : goal.check_nodes-requires
 check_nodes-requires c = omega (arith, (tally_holds _ _ (sym c.in_ok-check_rows.ensures)).1)
+
+pub check_nodes-requires-in-Second : goal.check_nodes-requires-in-Second
+check_nodes-requires-in-Second c = omega (arith, (tally_holds _ _ (sym c.in_ok-check_rows.ensures)).1)
 
 pub returns-in-First : goal.returns-in-First
 returns-in-First c =

@@ -1,5 +1,5 @@
-use Prim.Native.Nat.{◌*◌}
-use mathlib.Core.List.{map}
+use Prim.Native.Nat.{ℕ, ◌*◌}
+use mathlib.Core.List.{List, map}
 use mathlib.Core.Path.{◌≡◌, ◌∙◌, refl, sym, ap}
 use native.Mathlib.Omega.{arith}
 use Rattle.std.proofs.lemmas.Result.{err_from_is_err_and}
@@ -16,6 +16,14 @@ use Rattle.plan_file.proofs.File.{file_holds, rows_listed}
 use Rattle.plan_file.proofs.Ensured.{read_ensures}
 use Rattle.plan_file.proofs.read_plan.Goals as goal
 
+-- what is known of a file that the check gives as accepted, of another name
+module _ (f g : List ℕ) (same : g ≡ f) where
+  nodes_same : (n : ℕ) → n ≡ node_count g → n ≡ node_count f
+  nodes_same n e = e ∙ ap node_count same
+
+  count_same : (n : ℕ) → n ≡ entry_count (rows_in g) → n ≡ entry_count (rows_in f)
+  count_same n e = e ∙ ap (λ h. entry_count (rows_in h)) same
+
 pub returns-in_err-accepted : goal.returns-in_err-accepted
 returns-in_err-accepted c =
     let p = err_from_is_err_and c.from_residual.result c.from_residual.ensures.1 in
@@ -28,7 +36,7 @@ returns-in_err-accepted c =
 pub returns-then-rows-nodes : goal.returns-then-rows-nodes
 returns-then-rows-nodes c =
     let told = giving_gives _ _ _ c.in_ok-accepted.ensures in
-    let nodes : c.nodes-nodes.result ≡ node_count c.args.file.now = c.nodes-nodes.ensures.value ∙ ap node_count told.1 in
+    let nodes = nodes_same c.args.file.now _ told.1 _ c.nodes-nodes.ensures.value in
     record {
       read_call = record {
         answer = sym (read_few_rows _ _ _ told.0 (rw (← nodes) c.if-rows-nodes.true));
@@ -41,14 +49,14 @@ returns-then-rows-nodes c =
 pub overflow_mul-count : goal.overflow_mul-count
 overflow_mul-count c =
     let told = giving_gives _ _ _ c.in_ok-accepted.ensures in
-    let count : c.entries-count.result ≡ entry_count (rows_in c.args.file.now) = c.entries-count.ensures ∙ ap (λ f. entry_count (rows_in f)) told.1 in
+    let count = count_same c.args.file.now _ told.1 _ c.entries-count.ensures in
     omega (arith, count, (file_holds _ told.0).ends, entry_long (edition_of c.args.file.now) (entry_count (rows_in c.args.file.now)))
 
 pub returns-then-entries-count : goal.returns-then-entries-count
 returns-then-entries-count c =
     let told = giving_gives _ _ _ c.in_ok-accepted.ensures in
-    let nodes : c.nodes-nodes.result ≡ node_count c.args.file.now = c.nodes-nodes.ensures.value ∙ ap node_count told.1 in
-    let count : c.entries-count.result ≡ entry_count (rows_in c.args.file.now) = c.entries-count.ensures ∙ ap (λ f. entry_count (rows_in f)) told.1 in
+    let nodes = nodes_same c.args.file.now _ told.1 _ c.nodes-nodes.ensures.value in
+    let count = count_same c.args.file.now _ told.1 _ c.entries-count.ensures in
     record {
       read_call = record {
         answer = sym (read_few_words _ _ _ told.0 (omega (arith, nodes)) (omega (arith, count)));
@@ -61,14 +69,14 @@ returns-then-entries-count c =
 pub copy_rows-requires : goal.copy_rows-requires
 copy_rows-requires c =
     let told = giving_gives _ _ _ c.in_ok-accepted.ensures in
-    let nodes : c.nodes-nodes.result ≡ node_count c.args.file.now = c.nodes-nodes.ensures.value ∙ ap node_count told.1 in
+    let nodes = nodes_same c.args.file.now _ told.1 _ c.nodes-nodes.ensures.value in
     omega (arith, nodes, ap (λ p. p.1) (rw told.1 at c.contents.ensures))
 
 pub copy_entries-requires : goal.copy_entries-requires
 copy_entries-requires c =
     let told = giving_gives _ _ _ c.in_ok-accepted.ensures in
-    let nodes : c.nodes-nodes.result ≡ node_count c.args.file.now = c.nodes-nodes.ensures.value ∙ ap node_count told.1 in
-    let count : c.entries-count.result ≡ entry_count (rows_in c.args.file.now) = c.entries-count.ensures ∙ ap (λ f. entry_count (rows_in f)) told.1 in
+    let nodes = nodes_same c.args.file.now _ told.1 _ c.nodes-nodes.ensures.value in
+    let count = count_same c.args.file.now _ told.1 _ c.entries-count.ensures in
     let edition : c.edition-edition.result ≡ edition_of c.args.file.now = c.edition-edition.ensures ∙ ap edition_of told.1 in
     entries_room c.edition-edition.result c.args.file.now _ c.entries-count.result c.args.entries.now (omega arith)
     (omega (
@@ -82,8 +90,8 @@ copy_entries-requires c =
 pub returns : goal.returns
 returns c =
     let told = giving_gives _ _ _ c.in_ok-accepted.ensures in
-    let nodes : c.nodes-nodes.result ≡ node_count c.args.file.now = c.nodes-nodes.ensures.value ∙ ap node_count told.1 in
-    let count : c.entries-count.result ≡ entry_count (rows_in c.args.file.now) = c.entries-count.ensures ∙ ap (λ f. entry_count (rows_in f)) told.1 in
+    let nodes = nodes_same c.args.file.now _ told.1 _ c.nodes-nodes.ensures.value in
+    let count = count_same c.args.file.now _ told.1 _ c.entries-count.ensures in
     let edition : c.edition-edition.result ≡ edition_of c.args.file.now = c.edition-edition.ensures ∙ ap edition_of told.1 in
     let both = read_ensures {f = c.args.file.now} {rows = c.args.rows.now} {words = c.args.entries.now} (λ i. (c.type_inv.file i).fits)
     (record {

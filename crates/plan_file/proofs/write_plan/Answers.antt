@@ -6,6 +6,8 @@ use lib.ListN.{length, length-map, length-drop}
 use Rattle.refusals.specs.Refusals.{accepted}
 use Rattle.node_words.specs.Words.{entry_size}
 use Rattle.byte_words.proofs.Buffers.{over_start, over_behind, tail_of}
+use mathlib.Core.List.{List}
+use Rattle.plan_file.specs.declared.Edition.{Edition}
 use Rattle.plan_file.specs.declared.Edition.TheVariants.{Second}
 use Rattle.plan_file.specs.Encoding.{entry_length, bodies_start}
 use Rattle.plan_file.specs.Check.{words_check}
@@ -15,6 +17,17 @@ use Rattle.plan_file.proofs.Writing.{written, write_refused, write_short, write_
 use Rattle.plan_file.proofs.WriterChecks.{writer_holds}
 use Rattle.plan_file.proofs.Ensured.{write_ensures}
 use Rattle.plan_file.proofs.write_plan.Goals as goal
+
+-- what the check of a plan and the size of its entries give
+module _ (ed : Edition) (rows words : List ℕ) (told : accepted ≡ words_check ed rows words) (size : ℕ) (sized : size ≡ entry_length ed) where
+  few_rows : length rows ≤ most_nodes
+  few_rows = omega (arith, (writer_holds _ _ _ _ (sym told)).few, length-map rows row_of)
+
+  short_bodies : length words / entry_size * size ≤ length words / entry_size * entry_length Second
+  short_bodies = size_short ed _ sized (length words / entry_size)
+
+  long_file : 8 + length rows * 8 + length words / entry_size * size ≡ bodies_start (length rows) + length words / entry_size * entry_length ed
+  long_file = ap (λ s. 8 + length rows * 8 + length words / entry_size * s) sized
 
 pub returns-in_err-check_plan : goal.returns-in_err-check_plan
 returns-in_err-check_plan c =
@@ -26,62 +39,57 @@ returns-in_err-check_plan c =
     })
 
 pub overflow_add-start : goal.overflow_add-start
-overflow_add-start c =
-    let told : words_check c.args.edition c.args.rows.now c.args.entries.now ≡ accepted = sym c.in_ok-check_plan.ensures.answer in
-    let few : length c.args.rows.now ≤ most_nodes = omega (arith, (writer_holds _ _ _ _ (told)).few, length-map c.args.rows.now row_of) in
-    omega (arith, few)
+overflow_add-start c = let a = c.args in
+    omega (arith, few_rows a.edition a.rows.now a.entries.now c.in_ok-check_plan.ensures.answer _ refl)
 
 pub overflow_mul-length : goal.overflow_mul-length
-overflow_mul-length c =
-    let count : ℕ = length c.args.entries.now / entry_size in
-    let short : count * c.entry_bytes.result ≤ count * entry_length Second = size_short c.args.edition _ c.entry_bytes.ensures (count) in
-    omega (arith, short)
+overflow_mul-length c = let a = c.args in
+    omega (arith, short_bodies a.edition a.rows.now a.entries.now c.in_ok-check_plan.ensures.answer _ c.entry_bytes.ensures)
 
 pub overflow_add-length : goal.overflow_add-length
-overflow_add-length c =
-    let told : words_check c.args.edition c.args.rows.now c.args.entries.now ≡ accepted = sym c.in_ok-check_plan.ensures.answer in
-    let few : length c.args.rows.now ≤ most_nodes = omega (arith, (writer_holds _ _ _ _ (told)).few, length-map c.args.rows.now row_of) in
-    let count : ℕ = length c.args.entries.now / entry_size in
-    let short : count * c.entry_bytes.result ≤ count * entry_length Second = size_short c.args.edition _ c.entry_bytes.ensures (count) in
-    omega (arith, short, few)
+overflow_add-length c = let a = c.args in
+    omega (
+      arith,
+      short_bodies a.edition a.rows.now a.entries.now c.in_ok-check_plan.ensures.answer _ c.entry_bytes.ensures,
+      few_rows a.edition a.rows.now a.entries.now c.in_ok-check_plan.ensures.answer _ refl,
+    )
 
 pub returns-then-file-length : goal.returns-then-file-length
 returns-then-file-length c =
-    let told : words_check c.args.edition c.args.rows.now c.args.entries.now ≡ accepted = sym c.in_ok-check_plan.ensures.answer in
-    let count : ℕ = length c.args.entries.now / entry_size in
-    let long : 8 + length c.args.rows.now * 8 + count * c.entry_bytes.result ≡ bodies_start (length c.args.rows.now) + count * entry_length c.args.edition = ap (λ s. 8 + length c.args.rows.now * 8 + count * s) c.entry_bytes.ensures in
+    let a = c.args in
+    let told = c.in_ok-check_plan.ensures.answer in
     record {
-      write_call = record { answer = sym (write_short _ _ _ _ (told) _ (long) (omega arith)); file_there = refl };
+      write_call = record {
+        answer = sym (write_short _ _ _ _ (sym told) _ (long_file a.edition a.rows.now a.entries.now told _ c.entry_bytes.ensures) (omega arith));
+        file_there = refl;
+      };
       read_again = tt;
     }
 
 pub put_contents-requires : goal.put_contents-requires
 put_contents-requires c =
-    let told : words_check c.args.edition c.args.rows.now c.args.entries.now ≡ accepted = sym c.in_ok-check_plan.ensures.answer in
-    let few : length c.args.rows.now ≤ most_nodes = omega (arith, (writer_holds _ _ _ _ (told)).few, length-map c.args.rows.now row_of) in
-    omega (arith, few, c.put_header.auto.file)
+    let a = c.args in
+    omega (arith, few_rows a.edition a.rows.now a.entries.now c.in_ok-check_plan.ensures.answer _ refl, c.put_header.auto.file)
 
 pub put_entries-requires : goal.put_entries-requires
 put_entries-requires c =
-    let count : ℕ = length c.args.entries.now / entry_size in
-    let long : 8 + length c.args.rows.now * 8 + count * c.entry_bytes.result ≡ bodies_start (length c.args.rows.now) + count * entry_length c.args.edition = ap (λ s. 8 + length c.args.rows.now * 8 + count * s) c.entry_bytes.ensures in
-    let told : words_check c.args.edition c.args.rows.now c.args.entries.now ≡ accepted = sym c.in_ok-check_plan.ensures.answer in (
-      omega (arith, (writer_holds _ _ _ _ told).counts),
+    let a = c.args in
+    let told = c.in_ok-check_plan.ensures.answer in (
+      omega (arith, (writer_holds _ _ _ _ (sym told)).counts),
       rw (tail_of c.put_contents.new.file _, length-drop _ c.put_contents.new.file)
-          (omega (arith, long, c.put_contents.auto.file, c.put_header.auto.file)),
+          (omega (arith, long_file a.edition a.rows.now a.entries.now told _ c.entry_bytes.ensures, c.put_contents.auto.file, c.put_header.auto.file)),
     )
 
 pub returns : goal.returns
 returns c =
-    let told : words_check c.args.edition c.args.rows.now c.args.entries.now ≡ accepted = sym c.in_ok-check_plan.ensures.answer in
-    let count : ℕ = length c.args.entries.now / entry_size in
-    let long : 8 + length c.args.rows.now * 8 + count * c.entry_bytes.result ≡ bodies_start (length c.args.rows.now) + count * entry_length c.args.edition = ap (λ s. 8 + length c.args.rows.now * 8 + count * s) c.entry_bytes.ensures in
+    let a = c.args in
+    let told = c.in_ok-check_plan.ensures.answer in
     let both = write_ensures (λ i. (c.shared_slice_known-1.given i).fits) (λ i. (c.shared_slice_known-2-1.given i).fits)
     (record {
-      answer = sym (write_fits _ _ _ _ (told) _ (long) (omega arith));
+      answer = sym (write_fits _ _ _ _ (sym told) _ (long_file a.edition a.rows.now a.entries.now told _ c.entry_bytes.ensures) (omega arith));
       file_there =
           over_behind _ _ _ _ c.put_entries.ensures
           ∙ rw (c.put_contents.ensures, c.put_header.ensures)
-          (written c.args.edition c.args.rows.now c.args.entries.now _ ∙ over_start _ _);
+          (written a.edition a.rows.now a.entries.now _ ∙ over_start _ _);
     }) in
     record { write_call = both.0; read_again = both.1 }

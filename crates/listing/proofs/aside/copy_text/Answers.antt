@@ -6,14 +6,14 @@ use Rattle.listing.proofs.aside.copy_text.Goals as goal
 
 pub returns-then-out-text : goal.returns-then-out-text
 returns-then-out-text c = record {
-  result_value = sym (text_short _ _ (omega arith));
-  out_after = refl;
+  answer = sym (text_short _ _ (omega arith));
+  there = refl;
 }
 
 pub returns : goal.returns
 returns c =
     record {
-      result_value = sym (text_fits _ _ (omega arith));
-      out_after =
+      answer = sym (text_fits _ _ (omega arith));
+      there =
           written_part _ 0 _ _ _ c.copy_from_slice.ensures.after (omega arith) ∙ written_front c.args.out.now c.args.text.now;
     }

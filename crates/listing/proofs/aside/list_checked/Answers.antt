@@ -10,7 +10,9 @@ pub returns-then-nodes-out : goal.returns-then-nodes-out
 returns-then-nodes-out c =
     let u = c.put_plan.ensures in
     record {
-      result_value = ap gives u.size ∙ sym (text_fits (listing _) _ (omega (arith, u.short)));
-      out_after = u.buffer ∙ written_front _ (listing _);
-      file_len_bound = omega (arith, u.short, few_nodes _ c.args.plan.now.accepted);
+      text = record {
+        answer = ap gives u.size ∙ sym (text_fits (listing _) _ (omega (arith, u.short)));
+        there = u.buffer ∙ written_front _ (listing _);
+      };
+      short = omega (arith, u.short, few_nodes _ c.args.plan.now.accepted);
     }

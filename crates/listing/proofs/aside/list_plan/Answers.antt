@@ -14,9 +14,7 @@ pub returns-in-Err : goal.returns-in-Err
 returns-in-Err c =
     let e = listing_refused c.args.file.now _ (giving_refuses _ _ _ c.in-Err.ensures) in
     let r = c.list_refusal.ensures in
-    let t = text_same (sym e) _ _ _ r.result_value r.out_after in
     record {
-      result_value = t.0;
-      out_after = t.1;
-      file_len_bound = omega (arith, r.r_len_bound, ap length e);
+      text = text_same (sym e) r.text;
+      short = omega (arith, r.short, ap length e);
     }

@@ -12,10 +12,7 @@ slice_bounds-copy_text-end c =
 pub returns : goal.returns
 returns c =
     let p = c.put_refused_line-n.ensures in
-    let e = c.copy_text.ensures in
-    let r = text_same (shown_front _ p.size p.buffer) _ _ _ e.result_value e.out_after in
     record {
-      result_value = r.0;
-      out_after = r.1;
-      r_len_bound = p.short;
+      text = text_same (shown_front _ p.size p.buffer) c.copy_text.ensures;
+      short = p.short;
     }

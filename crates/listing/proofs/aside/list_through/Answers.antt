@@ -13,10 +13,7 @@ slice_bounds-copy_text-end-2 c =
 pub returns : goal.returns
 returns c =
     let p = c.put_plan-n.ensures in
-    let e = c.copy_text.ensures in
-    let r = text_same (shown_front _ p.size p.buffer) _ _ _ e.result_value e.out_after in
     record {
-      result_value = r.0;
-      out_after = r.1;
-      file_len_bound = omega (arith, p.short, few_nodes _ c.args.plan.now.accepted);
+      text = text_same (shown_front _ p.size p.buffer) c.copy_text.ensures;
+      short = omega (arith, p.short, few_nodes _ c.args.plan.now.accepted);
     }

@@ -1,16 +1,12 @@
-use mathlib.Core.Path.{sym}
-use native.Mathlib.Omega.{arith}
-use Rattle.plan_file.proofs.Tests.{row_false, row_rest}
+use borrow.Author.Rules.{rules}
+use Rattle.task_model.specs.Checks.{size_test}
+use Rattle.plan_file.specs.Check.{row_test}
 use Rattle.plan_file.proofs.checks.row_holds.Goals as goal
 
-pub returns-then-r-least : goal.returns-then-r-least
-returns-then-r-least c = sym (row_false _ _ (λ h. omega arith))
+pub returns-then-r-le-MOST_LEVELS : goal.returns-then-r-le-MOST_LEVELS
+unfolding row_test size_test
+returns-then-r-le-MOST_LEVELS c = search rules
 
-pub returns-then-r-lt1 : goal.returns-then-r-lt1
-returns-then-r-lt1 c = sym (row_false _ _ (λ h. omega arith))
-
-pub returns-then-r-gt-MOST_LEVELS : goal.returns-then-r-gt-MOST_LEVELS
-returns-then-r-gt-MOST_LEVELS c = sym (row_false _ _ (λ h. omega arith))
-
-pub returns : goal.returns
-returns c = row_rest _ _ (omega arith) (omega arith) (omega arith)
+pub returns-else-r-le-MOST_LEVELS : goal.returns-else-r-le-MOST_LEVELS
+unfolding row_test size_test
+returns-else-r-le-MOST_LEVELS c = search rules

@@ -1,19 +1,17 @@
-use mathlib.Core.Path.{sym}
+use mathlib.Core.Path.{◌≡◌, ◌∙◌}
 use native.Mathlib.Omega.{arith}
-use Rattle.plan_file.proofs.Tests.{counted_false, counted_rest}
+use borrow.Author.Rules.{rules}
+use Rattle.plan_file.specs.Check.{count_test, zeros_test}
+use Rattle.plan_file.proofs.Tests.{zeros_tested}
 use Rattle.plan_file.proofs.stages.Header.counted.Goals as goal
 
-pub returns-then-self-lt1 : goal.returns-then-self-lt1
-returns-then-self-lt1 c = sym (counted_false c.args.self.now.file.now (λ h. omega arith))
+pub returns-then-self-le-MOST_NODES : goal.returns-then-self-le-MOST_NODES
+unfolding count_test
+returns-then-self-le-MOST_NODES c =
+    let f = c.args.self.now.file.now in
+    let zeros : c.eq.result ≡ zeros_test f = c.eq.ensures ∙ zeros_tested f (omega arith) in
+    search rules
 
-pub returns-then-self-gt-MOST_NODES : goal.returns-then-self-gt-MOST_NODES
-returns-then-self-gt-MOST_NODES c = sym (counted_false c.args.self.now.file.now (λ h. omega arith))
-
-pub returns-then-self-ne0 : goal.returns-then-self-ne0
-returns-then-self-ne0 c = sym (counted_false c.args.self.now.file.now (λ h. c.if-self-ne0.true h.zero5))
-
-pub returns-then-self-ne0-2 : goal.returns-then-self-ne0-2
-returns-then-self-ne0-2 c = sym (counted_false c.args.self.now.file.now (λ h. c.if-self-ne0-2.true h.zero6))
-
-pub returns : goal.returns
-returns c = counted_rest c.args.self.now.file.now (omega arith) (omega arith) c.if-self-ne0.false c.if-self-ne0-2.false
+pub returns-else-self-le-MOST_NODES : goal.returns-else-self-le-MOST_NODES
+unfolding count_test
+returns-else-self-le-MOST_NODES c = search rules
