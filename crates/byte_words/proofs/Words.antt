@@ -2,11 +2,12 @@
 use Prim.Native.Nat.{ℕ, zero, suc, ◌+◌, ◌*◌, ◌/◌, ◌%◌, ◌≤◌, ◌<◌}
 use mathlib.Core.Path.{◌≡◌, ◌∙◌, refl, sym, ap}
 use mathlib.Core.List.{List, [], ◌∷◌, ◌++◌, append_assoc, append-nil}
-use native.Mathlib.Nat.{add_assoc}
+use native.Mathlib.Nat.{add-zero, add_assoc}
 use native.Mathlib.Omega.{arith}
 use native.Mathlib.Numerals.{add-one}
 use lib.ListN.{length, get_or, take, drop}
 use lib.Seq.{length-take-le, take-suc, get_or-drop}
+use Rattle.std.proofs.lemmas.List.{get_or-take}
 use Rattle.byte_words.specs.Bytes.{low, word_at, words_from, bytes_of, Bytes}
 use Rattle.byte_words.proofs.Runs.{Run, run_length}
 
@@ -40,6 +41,14 @@ pub word_behind : (f : List ℕ) (k i : ℕ) → word_at (drop k f) i ≡ word_a
 unfolding word_at
 word_behind f k i =
     rw (get_or-drop k f i 0, get_or-drop k f (i + 1) 0, get_or-drop k f (i + 2) 0, get_or-drop k f (i + 3) 0, add_assoc k i 1, add_assoc k i 2, add_assoc k i 3)
+
+-- the word in a part of four bytes
+pub word_taken : (f : List ℕ) (k : ℕ) → word_at (take 4 (drop k f)) 0 ≡ word_at f k
+unfolding word_at
+word_taken f k =
+    let g = drop k f in
+    rw (get_or-take 4 g 0 0 (omega arith), get_or-take 4 g 1 0 (omega arith), get_or-take 4 g 2 0 (omega arith), get_or-take 4 g 3 0 (omega arith))
+    (word_behind f k 0 ∙ ap (word_at f) (add-zero k))
 
 pub words_behind : (f : List ℕ) (k i n : ℕ) → words_from (drop k f) i n ≡ words_from f (k + i) n
 unfolding words_from

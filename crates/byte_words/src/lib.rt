@@ -10,17 +10,17 @@ pub fn word_at(file: &[u8], k: usize) -> u32
     requires { k + 4 ≤ length file.now }
     ensures { result ≡ word_at file.now k }
 {
-    u32::from_le_bytes([file[k], file[k + 1], file[k + 2], file[k + 3]])
+    u32::from_le_bytes(*file[k..k + 4].as_array().unwrap())
 }
 
-// Fills `words` with those of the bytes, from their start. (By index, here and below: each word is at four times its own place
-// in the other slice, which `chunks_exact` would say no plainer.)
+// Fills `words` with those of the bytes, from their start. (By index: tried with `zip` over `as_chunks` of the bytes, the
+// proof did not close. What a loop over both wrote is not known.)
 pub fn copy_words(bytes: &[u8], words: &mut [u32])
     requires { length words.old * 4 ≤ length bytes.now }
     ensures { words.new ≡ words_from bytes.now 0 (length words.old) }
 {
-    for i in 0..words.len() {
-        words[i] = word_at(bytes, i * 4);
+    for (i, word) in words.iter_mut().enumerate() {
+        *word = word_at(bytes, i * 4);
     }
 }
 
@@ -32,12 +32,13 @@ pub fn put_word(file: &mut [u8], k: usize, word: u32)
     file[k..k + 4].copy_from_slice(&word.to_le_bytes());
 }
 
-// Stores words, one after the other, from the start of the bytes.
+// Stores words, one after the other, from the start of the bytes. (By index: tried with `chunks_exact_mut` of the bytes, the
+// proof did not close. What a loop over it wrote is not known.)
 pub fn put_words(bytes: &mut [u8], words: &[u32])
     requires { length words.now * 4 ≤ length bytes.old }
     ensures { bytes.new ≡ over bytes.old 0 (bytes_of words.now) }
 {
-    for i in 0..words.len() {
-        put_word(bytes, i * 4, words[i]);
+    for (i, &word) in words.iter().enumerate() {
+        put_word(bytes, i * 4, word);
     }
 }

@@ -10,6 +10,8 @@ use super::{Timing, limit_of};
 use node_words::held::{HeldEntries, HeldEntry};
 
 // The entry at a position of a node, in the group from `first` to `last`. The entries before the group are on higher levels.
+// (No `Group` of `level_map` in it: only what goes over a map has one. The search, `level_timing` and a caller from C have the
+// two positions alone, and would make one just to fill this.)
 #[derive(Clone, Copy, Debug, PartialEq, Eq)]
 pub struct TimedEntry<'a> {
     pub node: HeldEntries<'a>,
@@ -76,7 +78,8 @@ impl<'a> TimedEntry<'a> {
         let limit = self.limit();
         let mut t = self.initial_time(blocking);
         let mut rounds = 0;
-        // No `for`: t goes from demand to demand and counts nothing; `rounds` does, as the rules of the project ask.
+        // No `for`: t goes from demand to demand and counts nothing; `rounds` does, as the rules of the project ask
+        // (docs/DECISIONS.md, 13).
         while t <= limit as u64 {
             let time = t as u32;
             let next = self.demand_at(blocking, time);

@@ -7,9 +7,12 @@ ghost use Rattle.byte_words.specs.Buffers.{over};
 use byte_words::{put_words, word_at};
 use plan_file::layout::Layout;
 
-// From the edition F to the edition T. The loop reads all words of an entry before it stores them, so that the compiler can
-// store several at once. Both buffers have the entries from byte `start` on; two slices would be no plainer, as their length
-// gives the count only divided by a size that a type names.
+// From the edition F to the edition T. (All six words of an entry are read before they are stored, so that the compiler can
+// store several at once: with `copy_words` into an array of zeros, converting the longest plan took 11.1 µs forward and 11.9
+// back instead of 10.1 and 10.9, and forward 1.03 of the plain program's time instead of 0.98.) Both buffers have the
+// entries from byte `start` on; two slices would be no plainer, as their length gives the count only divided by a size that
+// a type names. (By index: tried with `chunks_exact_mut` of `out`, the proof did not close. What a loop over it wrote is not
+// known.)
 pub(crate) fn put_entries<F: Layout, T: Layout>(
     file: &[u8],
     out: &mut [u8],

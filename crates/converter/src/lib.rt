@@ -21,7 +21,7 @@ use losses::NothingLost;
 use plan_file::layout::{First, Second};
 use plan_file::stages::Contents;
 use plan_file::store::{put_contents, put_header};
-use plan_file::{Edition, HEADER_BYTES, MOST_NODES, PlanFile, ROW_BYTES};
+use plan_file::{Edition, MOST_NODES, PlanFile};
 use refusals::Refusal;
 use task_model::entries::Each;
 
@@ -54,7 +54,7 @@ fn put_rows(to: Edition, contents: &Contents, out: &mut [u8])
     put_contents(to, out, &rows[..contents.nodes]);
 }
 
-// Stores the entries of a file of the other edition.
+// Stores the entries of a file of the other edition. (`start` and `count` for both buffers, as in put_entries.)
 fn put_bodies(to: Edition, file: &[u8], out: &mut [u8], start: usize, count: usize)
     requires { (start + count * entry_length (other to) ≤ length file.now) × (start + count * entry_length to ≤ length out.old) }
     ensures { out.new ≡
@@ -76,20 +76,21 @@ fn write_converted(to: Edition, plan: &PlanFile, out: &mut [u8]) -> Result<usize
         (length (encoding to (plan_in plan.now.bytes.now))) }
     ensures out_after { out.new ≡ left (answered result) (encoding to (plan_in plan.now.bytes.now)) out.old }
 {
-    let nodes = plan.nodes();
-    let start = HEADER_BYTES + nodes * ROW_BYTES;
+    let contents = plan.contents();
+    let start = contents.bodies_start();
     let count = plan.entries();
     let length = start + count * to.entry_bytes();
     if out.len() < length {
         return Err(Refusal::ShortBuffer);
     }
-    put_header(to, out, nodes);
-    put_rows(to, &plan.contents(), out);
+    put_header(to, out, contents.nodes);
+    put_rows(to, &contents, out);
     put_bodies(to, plan.bytes, out, start, count);
     Ok(length)
 }
 
-// Writes a file's plan in an edition, from the buffer's start, and gives the new file's length: forward or back.
+// Writes a file's plan in an edition, from the buffer's start, and gives the new file's length: forward or back. (C names the
+// two ways, so each has a function of its own below.)
 pub fn convert(to: Edition, file: &[u8], out: &mut [u8]) -> Result<usize, Refusal>
     ensures convert_call { ConvertCall to file.now out.old (answered result) out.new }
     ensures converted_again { ConvertedAgain to file.now (answered result) out.new }

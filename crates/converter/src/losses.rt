@@ -7,6 +7,7 @@ use task_model::Entry;
 use task_model::entries::EntryCheck;
 
 // The check that an entry has J 0 (15).
+#[derive(Clone, Copy, Debug, PartialEq, Eq)]
 pub(crate) struct NothingLost;
 
 impl EntryCheck for NothingLost {

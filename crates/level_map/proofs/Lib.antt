@@ -12,6 +12,7 @@ pub mod Optimal
 pub mod Exact
 pub mod Grouping
 pub mod InOrder
+pub mod LevelsWritten
 pub mod Theorems
 pub mod Loop
 pub mod Answers

@@ -1,14 +1,12 @@
 -- The invariant of the loop that cuts off groups, and the answer at each of its exits, for any test of groups.
-use Prim.Native.Nat.{ℕ, zero, suc, ◌+◌, ◌-◌, ◌≤◌, ◌<◌}
+use Prim.Native.Nat.{ℕ, zero, suc, ◌-◌, ◌≤◌, ◌<◌}
 use mathlib.Core.Path.{◌≡◌, refl, sym, ◌∙◌, ap}
 use mathlib.Core.Bool.{Bool}
 use mathlib.Core.Option.{Option, none, some, map, none-ne-some}
 use mathlib.Core.List.{List, [], ◌∷◌, ◌++◌, append_assoc, append-nil}
 use mathlib.Core.Logic.{⊎_elim}
-use native.Mathlib.Numerals.{add-one}
 use native.Mathlib.Omega.{arith}
-use lib.ListN.{length, take, set}
-use lib.Seq.{take-suc-set}
+use lib.ListN.{length, length-append}
 use Rattle.std.proofs.Common.{Some, None}
 use Rattle.level_map.specs.Map.{maps, first_of}
 use Rattle.level_map.specs.Groups.{LeastStart}
@@ -49,9 +47,9 @@ module _ (ok : ℕ → ℕ → ℕ → Bool) where
       let q : suc k - 1 ≡ k = omega arith in
       rw (p, q)
 
--- `groups` groups are cut off, from `end` on of n entries, and what is left of the search gives the cuts of the whole.
-abbrev pub Reached : (ℕ → ℕ → ℕ → Bool) → ℕ → ℕ → List ℕ → ℕ → ℕ → Type 0
-Reached ok most n cuts end groups = greedy ok most n ≡ behind (take groups cuts) (greedy ok (most - groups) end)
+-- The groups that start at `cuts` are cut off, down to `end`, and what is left of the search gives the cuts of the whole.
+abbrev pub Reached : (ℕ → ℕ → ℕ → Bool) → ℕ → ℕ → List ℕ → ℕ → Type 0
+Reached ok most n cuts end = greedy ok most n ≡ behind cuts (greedy ok (most - length cuts) end)
 
 module _ {n : ℕ} (t : GroupTest n) (most : ℕ) (cuts : List ℕ) where
   -- no cuts, no map
@@ -62,36 +60,35 @@ module _ {n : ℕ} (t : GroupTest n) (most : ℕ) (cuts : List ℕ) where
       (λ r. r.1)
       (exact_cases t most)
 
-  module _ (end groups : ℕ) (reached : Reached t.ok most n cuts end groups) where
-    pub reached_next : (a : ℕ) → groups < most → 0 < end → groups < length cuts → LeastStart (λ b. Passes t.ok b end) end (Some a)
-        → Reached t.ok most n (set cuts groups a) a (groups + 1)
-    reached_next a h l u s =
-        let q : most - (groups + 1) ≡ most - groups - 1 = omega arith in
+  module _ (end : ℕ) (reached : Reached t.ok most n cuts end) where
+    pub reached_next : (a : ℕ) → length cuts < most → 0 < end → LeastStart (λ b. Passes t.ok b end) end (Some a)
+        → Reached t.ok most n (cuts ++ a ∷ []) a
+    reached_next a h l s =
+        let q : most - length (cuts ++ a ∷ []) ≡ most - length cuts - 1 = omega (arith, length-append cuts (a ∷ [])) in
         reached
-        ∙ ap (behind (take groups cuts))
-        (greedy_next t.ok (most - groups) end a (omega arith) l (scan_some t.ok end a s.0 s.1 s.2))
-        ∙ past_onto (take groups cuts) a (greedy t.ok (most - groups - 1) a)
-        ∙ rw (q, add-one groups, take-suc-set cuts groups a u)
+        ∙ ap (behind cuts) (greedy_next t.ok (most - length cuts) end a (omega arith) l (scan_some t.ok end a s.0 s.1 s.2))
+        ∙ past_onto cuts a (greedy t.ok (most - length cuts - 1) a)
+        ∙ rw q
 
     -- no level is left
-    pub reached_full : most ≤ groups → 0 < end → first_of t.test (maps most n) ≡ none
+    pub reached_full : most ≤ length cuts → 0 < end → first_of t.test (maps most n) ≡ none
     reached_full h l =
-        let q : most - groups ≡ 0 = omega arith in
+        let q : most - length cuts ≡ 0 = omega arith in
         no_cuts (reached ∙ rw (q, greedy_full t.ok end l))
 
     -- no group passes
-    pub reached_stop : groups < most → 0 < end → LeastStart (λ b. Passes t.ok b end) end None
+    pub reached_stop : length cuts < most → 0 < end → LeastStart (λ b. Passes t.ok b end) end None
         → first_of t.test (maps most n) ≡ none
     reached_stop h l s =
-        no_cuts (reached ∙ rw (greedy_stop t.ok (most - groups) end (omega arith) l (scan_none t.ok end s)))
+        no_cuts (reached ∙ rw (greedy_stop t.ok (most - length cuts) end (omega arith) l (scan_none t.ok end s)))
 
     -- no entry is left
-    pub reached_end : end ≤ 0 → CutsOf (first_of t.test (maps most n)) n most (take groups cuts)
+    pub reached_end : end ≤ 0 → CutsOf (first_of t.test (maps most n)) n most cuts
     reached_end h =
         let q : end ≡ 0 = omega arith in
-        let found : greedy t.ok most n ≡ some (take groups cuts) =
-        reached ∙ rw (q, greedy_zero t.ok (most - groups), append-nil (take groups cuts)) in
+        let found : greedy t.ok most n ≡ some cuts =
+        reached ∙ rw (q, greedy_zero t.ok (most - length cuts), append-nil cuts) in
         ⊎_elim
-        (λ r. let e : r.0 ≡ take groups cuts = cc r.1 in rw e at r.2)
+        (λ r. let e : r.0 ≡ cuts = cc r.1 in rw e at r.2)
         (λ r. absurd (none-ne-some _ (sym r.0 ∙ found)))
         (exact_cases t most)

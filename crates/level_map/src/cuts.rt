@@ -1,26 +1,26 @@
 // The groups of a node's map.
-ghost use Rattle.std.specs.Prelude.{◌≡◌, suc, ◌++◌, ◌-◌, ◌≤◌, ◌<◌, length, take, drop};
+ghost use Rattle.std.specs.Prelude.{◌≡◌, suc, ◌++◌, ◌-◌, ◌≤◌, ◌<◌, length, drop};
 ghost use Rattle.task_model.specs.Limits.{most_entries};
 ghost use Rattle.level_map.specs.Cuts.{Falling, before};
 ghost use Rattle.level_map.specs.OneProof.{Falling-prop};
 
+use arrayvec::ArrayVec;
 use completion::timed::TimedEntry;
 use node_words::held::HeldEntries;
 use task_model::MOST_ENTRIES;
 
 // Where `count` entries are cut into the groups of their map: the start of each group, least urgent group first, so the last
-// start is 0. The starts are an array with its count, since the library has no heap.
-#[derive(Clone, Copy, Debug, PartialEq, Eq)]
+// start is 0.
+#[derive(Debug, Drop, PartialEq, Eq)]
 pub struct Cuts {
-    pub starts: [u8; MOST_ENTRIES],
-    pub groups: u8,
+    pub starts: ArrayVec<u8, MOST_ENTRIES>,
     pub count: usize,
     ghost few: { count ≤ most_entries },
-    ghost inside: { groups ≤ length starts },
-    ghost falling: { Falling (take groups starts) count } by { Falling-prop (take groups starts) count },
+    ghost falling: { Falling starts.items count } by { Falling-prop starts.items count },
 }
 
-// The entries from `first` to just before `end`: those of one level.
+// The entries from `first` to just before `end`: those of one level. (No node in it, nor in `Cuts`: both would have the node's
+// lifetime to spare three functions a clause, and levels are written without the node.)
 #[derive(Clone, Copy, Debug, PartialEq, Eq)]
 pub struct Group {
     pub first: usize,
@@ -52,7 +52,7 @@ impl Cuts {
     pub fn groups(&self) -> u8
         ensures { result ≡ length (starts_in self.now) }
     {
-        self.groups
+        self.starts.len() as u8
     }
 
     // The group on a level: behind the entries of the more urgent levels, up to those of the less urgent ones.
@@ -62,7 +62,7 @@ impl Cuts {
         ensures end { result.end ≡ before (suc level) (levels_in self.now) }
         ensures inside { (result.first < result.end) × (result.end ≤ self.now.count) }
     {
-        let behind = (self.groups - level) as usize;
+        let behind = self.starts.len() - level as usize;
         let end = if behind == 0 {
             self.count
         } else {
@@ -79,9 +79,10 @@ impl Cuts {
         requires { self.now.count ≤ length out.old }
         ensures { out.new ≡ levels_in self.now ++ drop self.now.count out.old }
     {
-        for level in 0..self.groups {
-            let group = self.group(level + 1);
-            out[group.first..group.end].fill(level + 1);
+        let groups = self.groups();
+        for level in 1..=groups {
+            let group = self.group(level);
+            out[group.first..group.end].fill(level);
         }
     }
 }

@@ -13,6 +13,7 @@ ghost use Rattle.level_map.specs.Answer.{held_answer, map_of, NodeBestMapOrNone}
 ghost use Rattle.level_map.specs.Groups.{GroupPasses, LeastStart};
 ghost use Rattle.level_map.specs.Found.{CutAnswer};
 
+use arrayvec::ArrayVec;
 use completion::entry_sums::wcet_sum;
 use completion::timed::TimedEntry;
 use cuts::Cuts;
@@ -33,7 +34,8 @@ fn least_start(node: &HeldEntries, end: usize, added: u32) -> Option<usize>
 {
     let runs = wcet_sum(node, end);
     let mut start = start_bound(node, end, runs);
-    // Labelled loops over starts and entries, as the rules of the project ask; a start goes on by more than one.
+    // Labelled loops over starts and entries, as the rules of the project ask (docs/DECISIONS.md, 13). A start goes on by more
+    // than one.
     'starts: while start < end {
         for position in (start..end).rev() {
             // No `Group::timed`: it would be as long, and the start is no group's as long as the entries are tested.
@@ -60,22 +62,19 @@ pub fn find_cuts(node: &HeldEntries, most: u8) -> Option<Cuts>
     ensures { CutAnswer (the_map (held_entries node.now) most) node.now.count most result }
 {
     let mut end = node.count;
-    let mut starts = [0u8; MOST_ENTRIES];
-    let mut groups: u8 = 0;
+    let mut starts: ArrayVec<u8, MOST_ENTRIES> = ArrayVec::new();
     // No `for`: the end goes from group to group.
     while 0 < end {
-        if most <= groups {
+        if most <= starts.len() as u8 {
             return None;
         }
         // Blocking times are given: the end of a group adds nothing to them.
         let start = least_start(node, end, 0)?;
-        starts[groups as usize] = start as u8;
-        groups += 1;
+        starts.push(start as u8);
         end = start;
     }
     Some(Cuts {
         starts,
-        groups,
         count: node.count,
     })
 }

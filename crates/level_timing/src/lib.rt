@@ -13,32 +13,25 @@ use completion::timed::TimedEntry;
 use node_words::held::HeldEntries;
 use task_model::MOST_ENTRIES;
 
-// The first position of the group of the entry at `i`. (It goes down and `group_last` goes up: a function of the direction
-// would need a test of it in each step.)
+// The first position of the group of the entry at `i`. (It looks back, and `group_last` ahead: one function for both would
+// need a direction.)
 fn group_first(levels: &[u8; MOST_ENTRIES], i: usize) -> usize
     requires { i < most_entries }
     ensures { FirstOf levels.now i result }
 {
-    for before in (0..i).rev() {
-        if levels[before] != levels[i] {
-            return before + 1;
-        }
-    }
-    0
+    let before = levels[..i].iter().rposition(|&level| level != levels[i]);
+    before.map_or(0, |b| b + 1)
 }
 
-// The last position of the group of the entry at `i`, among `count` entries. (The levels are an array for any node: fixed
-// memory.)
+// The last position of the group of the entry at `i`, among `count` entries. (The levels are an array for any node, of which
+// `count` are in use: fixed memory.)
 fn group_last(levels: &[u8; MOST_ENTRIES], count: usize, i: usize) -> usize
     requires { (i < count) × (count ≤ most_entries) }
     ensures { LastOf count levels.now i result }
 {
-    for after in i + 1..count {
-        if levels[after] != levels[i] {
-            return after - 1;
-        }
-    }
-    count - 1
+    let rest = &levels[i + 1..count];
+    let more = rest.iter().position(|&level| level != levels[i]);
+    i + more.unwrap_or(rest.len())
 }
 
 // Times the entry at `i` of a node under levels that never fall along the list.

@@ -6,18 +6,13 @@ ghost use Rattle.listing.specs.Listing.{listing};
 ghost use Rattle.plan_file.specs.Input.{InputOf};
 
 use listing::MOST_TEXT;
-use plan_file::input::Input;
-
-// One byte more than an input may have. An input of this length is refused, so the rest of it need not be read.
-const READ_MOST: usize = 65537;
+use plan_file::input::{Input, READ_MOST};
 
 // Lists what was read of an input, in `text`, which has room for every listing.
 fn list_read<'a>(read: &Input, text: &'a mut [u8; MOST_TEXT]) -> &'a [u8]
     ensures { (input : List ℕ) → InputOf input read.now → result.now ≡ listing input }
 {
-    let Ok(length) = listing::list_plan(read.bytes(), text) else {
-        return &[];
-    };
+    let length = listing::list_plan(read.bytes(), text).unwrap();
     &text[..length]
 }
 

@@ -1,5 +1,5 @@
 -- The lines of a node, written group by group, are its lines under the levels of its cuts.
-use Prim.Native.Nat.{ℕ, zero, suc, ◌+◌, ◌-◌, ◌≤◌, ◌<◌}
+use Prim.Native.Nat.{ℕ, zero, suc, ◌+◌, ◌-◌, ◌*◌, ◌≤◌, ◌<◌}
 use mathlib.Core.Path.{◌≡◌, ◌∙◌, refl, ap, ap₂, sym}
 use mathlib.Core.List.{List, [], ◌++◌, append_assoc, append-nil}
 use native.Mathlib.Numerals.{add-one}
@@ -17,6 +17,9 @@ use Rattle.level_map.specs.Found.{starts_in, levels_in}
 use Rattle.level_map.proofs.Grouping.{cut_level, cut_timed}
 use Rattle.listing.specs.Listing.{entry_text, entries_text}
 use Rattle.listing.specs.Groups.{timed_line, group_text}
+use Rattle.text.specs.declared.Cursor.{Cursor}
+use Rattle.text.specs.Text.{Upto}
+use Rattle.listing.proofs.Lines.{upto_same, upto_append}
 use Rattle.listing.proofs.Texts.{entry_on_time, entry_late, entries_more}
 
 -- an entry's line by the answer of its test
@@ -72,3 +75,13 @@ module _ (es : List Entry) (c : Cuts) (sized : length es ≡ c.count) where
       → entries_text es (levels_in c) end ≡ entries_text es (levels_in c) first ++ group_text es first (end - 1) l (end - first)
   group_next l first end p q h =
       rw sized at (group_whole es (starts_in c) (rw sized c.falling) l first end (rw sized p) (rw sized q) h)
+
+  -- one group more is written
+  pub group_put : (o n new : Cursor) (l first end : ℕ) → first ≡ before l (levels_in c) → end ≡ before (suc l) (levels_in c) → first ≤ end
+      → o.at + 56 * end ≤ length o.out.now
+      → Upto o (56 * before l (levels_in c)) (entries_text es (levels_in c) (before l (levels_in c))) n
+      → Upto n (56 * (end - first)) (group_text es first (end - 1) l (end - first)) new
+      → Upto o (56 * end) (entries_text es (levels_in c) end) new
+  group_put o n new l first end p q h room u v =
+      let size : 56 * first + 56 * (end - first) ≡ 56 * end = omega arith in
+      upto_same (sym (group_next l first end p q h)) (rw size at (upto_append (rw (← p) at u) (omega arith) v))

@@ -58,7 +58,7 @@ fn list_aside<const N: usize>(plan: &PlanFile, out: &mut [u8]) -> Result<usize, 
     list_through(plan, &mut text, out)
 }
 
-// The listing of a checked file.
+// The listing of a checked file. (The length of an array is a constant, so each length is a case here.)
 fn list_checked(plan: &PlanFile, out: &mut [u8]) -> Result<usize, Refusal>
     ensures { ListCall plan.now.bytes.now out.old (answered result) out.new }
 {

@@ -25,7 +25,7 @@ use level_map::cuts::{Cuts, Group};
 use level_map::find_cuts;
 use node_words::NODE_WORDS;
 use node_words::held::HeldEntries;
-use plan_file::PlanFile;
+use plan_file::{MOST_NODES, PlanFile};
 use refusals::{Numbers, Refusal};
 use task_model::MOST_ENTRIES;
 use text::Cursor;
@@ -36,8 +36,9 @@ const PLAN_LINE: usize = 9;
 const NODE_LINES: usize = 29 + 56 * MOST_ENTRIES;
 
 // The most bytes of a listing.
-pub const MOST_TEXT: usize = PLAN_LINE + 32 * NODE_LINES;
+pub const MOST_TEXT: usize = PLAN_LINE + MOST_NODES as usize * NODE_LINES;
 
+// The lines. The type of a number bounds how long it is in print, so the count of nodes is a byte.
 #[tactic(auto, using(crate::proofs::Lines::digits_fit))]
 fn put_plan_line(text: &mut Cursor<'_>, nodes: u8)
     requires { text.old.at + 9 ≤ length text.old.out.now }
@@ -129,8 +130,8 @@ fn put_entries(text: &mut Cursor<'_>, node: &HeldEntries, cuts: &Cuts)
     ensures { Upto text.old (56 * node.now.count)
         (entries_text (held_entries node.now) (levels_in cuts.now) node.now.count) text.new }
 {
-    for level in 0..cuts.groups() {
-        put_group(text, node, cuts.group(level + 1), level + 1);
+    for level in 1..=cuts.groups() {
+        put_group(text, node, cuts.group(level), level);
     }
 }
 

@@ -2,6 +2,7 @@
 pub mod Lists
 pub mod Putting
 pub mod Filling
+pub mod Groups
 pub mod Asking
 pub mod Earliest
 pub mod Theorems

@@ -66,7 +66,8 @@ fn known_after(known: Option<Known>, e: Entry, time: Option<u32>) -> Option<Know
     }
 }
 
-// Stores the completion times of the entries of a group, 0 for a late one. The entries before it are on higher levels.
+// Stores the completion times of the entries of a group. The entries before it are on higher levels. A late entry would have 0,
+// since the store is words that C lends; only groups of a map are stored, and in those no entry is late.
 fn put_times(node: &HeldEntries, group: Group, store: &mut StoreWords)
     requires { (group.first ≤ group.end) × (group.end ≤ node.now.count) }
     ensures { Put times_at group.first group.end
@@ -91,9 +92,9 @@ fn put_groups(node: &HeldEntries, cuts: &Cuts, store: &mut StoreWords)
     requires heads { store.old ≡ 1 ∷ levels_used (levels_in cuts.now) ∷ zeros (2 * most_entries) }
     ensures { store.new ≡ keeping completion_test (held_entries node.now) (some (levels_in cuts.now)) }
 {
-    for level in 0..cuts.groups() {
-        let group = cuts.group(level + 1);
-        store[LEVELS_AT + group.first..LEVELS_AT + group.end].fill(level as u32 + 1);
+    for level in 1..=cuts.groups() {
+        let group = cuts.group(level);
+        store[LEVELS_AT + group.first..LEVELS_AT + group.end].fill(level as u32);
         put_times(node, group, store);
     }
 }
@@ -125,9 +126,8 @@ fn put_stored(store: &StoreWords, count: usize, out: &mut [u8])
     requires { (count ≤ most_entries) × (count ≤ length out.old) }
     ensures { out.new ≡ stored_levels store.now count ++ drop count out.old }
 {
-    // No `iter_mut().zip(..)`: tried, the proof did not close. What a loop over an adapter of `iter_mut` wrote is not known.
-    for position in 0..count {
-        out[position] = (store[LEVELS_AT + position] % 256) as u8;
+    for (position, byte) in out[..count].iter_mut().enumerate() {
+        *byte = (store[LEVELS_AT + position] % 256) as u8;
     }
 }
 

@@ -14,7 +14,8 @@ pub struct HeldEntry {
     ghost holds: { EntryHolds entry } by { EntryHolds-prop entry },
 }
 
-// The first `count` entries in the words of a node. Every one of them is within the limits.
+// The first `count` entries in the words of a node. Every one of them is within the limits. (The count stands beside the
+// words: a node is lent as an array with room for all its entries, since there is no heap.)
 #[derive(Clone, Copy, Debug, PartialEq, Eq)]
 pub struct HeldEntries<'a> {
     pub words: &'a NodeWords,

@@ -6,7 +6,8 @@ use super::{ENTRY_WORDS, entry_of};
 use task_model::Entry;
 use task_model::entries::EntryList;
 
-// The `count` entries from entry `first` of the words on.
+// The `count` entries from entry `first` of the words on. (No plainer as a slice of `EntryWords`: each caller would cut its
+// words into such arrays first, and the contracts, which speak of the words that C lends, would have to speak of both.)
 #[derive(Clone, Copy, Debug, PartialEq, Eq)]
 pub struct EntriesInWords<'a> {
     pub words: &'a [u32],
@@ -26,7 +27,7 @@ impl<'a> EntryList for EntriesInWords<'a> {
         entry_of(self.words, (self.first + position) * ENTRY_WORDS)
     }
 
-    // As a remainder, since no plainer form is there: its bytes would be taken out of the word and put together again.
+    // By a remainder, since `as` must lose nothing. By bytes it would be no plainer: two would be taken out and put together.
     fn number(&self, position: usize) -> u16 {
         (self.words[(self.first + position) * ENTRY_WORDS] % 65536) as u16
     }

@@ -1,15 +1,13 @@
 // Changes of a node's list of entries, made in place in its words and without any check. After a change, every word beyond
-// the last entry is zero.
-// The words are a slice with a known length, for a session lends a part of its words: what it holds after such a part was
-// lent as `&mut NodeWords` could not be proved.
+// the last entry is zero. (The words come with a count: memory is fixed and there is no heap, so no list that grows.)
 ghost use Rattle.std.specs.Prelude.{◌≡◌, ◌++◌, ◌+◌, ◌-◌, ◌*◌, ◌≤◌, length, take};
 ghost use Rattle.std.specs.Option.{option_to_list};
 ghost use Rattle.std.proofs.lemmas.List.Edits.{sets};
 ghost use Rattle.task_model.specs.Limits.{most_entries};
-ghost use Rattle.node_words.specs.Words.{entry_size, node_size, words_of, entries_of};
+ghost use Rattle.node_words.specs.Words.{entry_size, words_of, entries_of};
 ghost use Rattle.node_words.specs.Lists.{zeros, zero_padded, splice};
 
-use super::{ENTRY_WORDS, store_entry};
+use super::{ENTRY_WORDS, NodeWords, store_entry};
 use task_model::Entry;
 
 // Sets every word to zero, from word `at` on.
@@ -21,8 +19,8 @@ pub fn clear_from(words: &mut [u32], at: usize)
 }
 
 // Keeps the first `count` entries, and clears every word beyond them.
-pub fn keep_list(words: &mut [u32], count: usize)
-    requires { (length words.old ≡ node_size) × (count ≤ most_entries) }
+pub fn keep_list(words: &mut NodeWords, count: usize)
+    requires { count ≤ most_entries }
     ensures { words.new ≡ zero_padded (words_of (entries_of words.old count)) }
 {
     clear_from(words, count * ENTRY_WORDS);
@@ -41,13 +39,12 @@ fn store_new(words: &mut [u32], k: usize, new: Option<Entry>)
 // Puts an entry, if there is one, in place of the `gone` entries from a position of a list of `count` entries on. Gives how
 // many entries there are then.
 pub fn splice(
-    words: &mut [u32],
+    words: &mut NodeWords,
     count: usize,
     position: usize,
     gone: usize,
     new: Option<Entry>,
 ) -> usize
-    requires size { length words.old ≡ node_size }
     requires within { (position + gone ≤ count) × (count ≤ most_entries) }
     requires room { count - gone + length (option_to_list new) ≤ most_entries }
     ensures left { result ≡ count - gone + length (option_to_list new) }

@@ -1,13 +1,16 @@
 -- Facts that decide whether an entry is on time, and when it ends, without following all its rounds, over the words of the
 -- node.
-use Prim.Native.Nat.{ℕ, ◌+◌, ◌-◌, ◌*◌, ◌/◌, ◌≤◌, ◌<◌, max}
-use native.Mathlib.Nat.{le_trans, add-mul, mul_comm, one-mul, mul-le-mul_left, div-lt_iff_lt-mul}
+use Prim.Native.Nat.{ℕ, ◌+◌, ◌-◌, ◌*◌, ◌/◌, ◌%◌, ◌≤◌, ◌<◌, min, max}
+use native.Mathlib.Nat.{le_trans, add-mul, mul_comm, one-mul, mul-le-mul_left, mul-le-mul_right}
 use mathlib.Core.Path.{◌≡◌, refl, sym, ap}
 use mathlib.Core.Bool.{true, false, true≢false, false≢true}
 use mathlib.Core.List.{List}
+use mathlib.Core.Logic.{by_cases}
+use native.Mathlib.Decide.{dec_le}
 use native.Mathlib.Omega.{arith}
 use Rattle.std.proofs.Common.{Some, None}
 use Rattle.std.specs.Option.{unwrap_or}
+use Rattle.std.proofs.lemmas.Grind.{div_ceil_times}
 use Rattle.node_words.specs.Held.{held_entries}
 use Rattle.node_words.specs.Words.{entry_of}
 use Rattle.node_words.proofs.Entries.{all_at}
@@ -33,19 +36,19 @@ run_of d ws j = recurring_wcet d (entry_of ws j)
 abbrev pub jitter_of : ℕ → List ℕ → ℕ → ℕ
 jitter_of d ws j = recurring_jitter d (entry_of ws j)
 
--- a quotient that is rounded up is the least whose product is enough
-pub ceil_least : (x f t : ℕ) → 1 ≤ f → x ≤ f * t → (x + (f - 1)) / f ≤ t
+-- what `div_ceil` gives is the least number whose product is enough
+pub ceil_least : (x f t : ℕ) → 1 ≤ f → x ≤ f * t → x / f + min 1 (x % f) ≤ t
 ceil_least x f t h l =
-    let below : (x + (f - 1)) / f < t + 1 =
-    (div-lt_iff_lt-mul {k = f} {x = x + (f - 1)} {y = t + 1} h).1 (omega (arith, add-mul t 1 f, mul_comm t f, one-mul f)) in
-    omega arith
+    let near = div_ceil_times x f h in
+    by_cases (dec_le (x / f + min 1 (x % f)) t)
+    (λ p. p)
+    (λ n.
+    let more : (t + 1) * f ≤ (x / f + min 1 (x % f)) * f = mul-le-mul_right f (omega arith) in
+    absurd (omega (arith, near.1, more, add-mul t 1 f, mul_comm t f, one-mul f)))
 
 -- and from there on every product is enough
-pub ceil_enough : (x f y : ℕ) → 1 ≤ f → (x + (f - 1)) / f ≤ y → x ≤ f * y
-ceil_enough x f y h l =
-    let above : x + (f - 1) < (y + 1) * f =
-    (div-lt_iff_lt-mul {k = f} {x = x + (f - 1)} {y = y + 1} h).0 (omega arith) in
-    omega (arith, above, add-mul y 1 f, mul_comm y f, one-mul f)
+pub ceil_enough : (x f y : ℕ) → 1 ≤ f → x / f + min 1 (x % f) ≤ y → x ≤ f * y
+ceil_enough x f y h l = rw (mul_comm f y) (le_trans (div_ceil_times x f h).0 (mul-le-mul_right f l))
 
 -- work that fits into some ticks fits into more
 pub fits_later : (ws : List ℕ) (first d t0 s t : ℕ) → s ≤ t → WorkFits ws first d t0 s → WorkFits ws first d t0 t

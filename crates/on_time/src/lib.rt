@@ -18,7 +18,8 @@ use completion::limit_of;
 use completion::timed::TimedEntry;
 use node_words::held::{HeldEntries, HeldEntry};
 
-// The verdict without a completion time. Callers take it apart with `let .. else`, and leave on a missed deadline.
+// The verdict without a completion time. It is no bool: callers take it apart with `let .. else`, as the rules of the project
+// ask (docs/DECISIONS.md, 13), and leave on a missed deadline.
 #[derive(Clone, Copy, Debug, PartialEq, Eq)]
 pub enum Deadline {
     Met,
@@ -30,19 +31,12 @@ const FULL_UTILISATION: u64 = 17179869184;
 
 // Sums over the entries that are released again before a limit: C / T, C, and J times C / T of each. The last sum can be too
 // large for 64 bits; it is cut at the limit times the full utilisation, which already means that the limit is missed.
-#[derive(Clone, Copy, Debug, PartialEq, Eq)]
+#[derive(Clone, Copy, Debug, Default, PartialEq, Eq)]
 struct Recurring {
     utilisation: u64,
     runs: u64,
     jitter: u64,
 }
-
-// The sums over no entries.
-const NONE_RECUR: Recurring = Recurring {
-    utilisation: 0,
-    runs: 0,
-    jitter: 0,
-};
 
 // What one entry adds to the sums. (`limit` is found once for an entry and passed on, here and below; so its bound stays a
 // clause.)
@@ -55,7 +49,7 @@ fn recurring_part(held: HeldEntry, limit: u32) -> Recurring
 {
     let e = held.entry;
     if limit + e.jitter <= e.period {
-        return NONE_RECUR;
+        return Recurring::default();
     }
     let utilisation = FULL_UTILISATION * e.wcet as u64 / e.period as u64;
     Recurring {
@@ -74,7 +68,7 @@ fn recurring_sum(node: &HeldEntries, end: usize, limit: u32) -> Recurring
         × (result.jitter ≡ min (sum_to (λ j. recurring_jitter limit (entry_of node.now.words.now j)) end) (full_utilisation * limit)) }
 {
     let most = FULL_UTILISATION * limit as u64;
-    let mut sum = NONE_RECUR;
+    let mut sum = Recurring::default();
     for position in 0..end {
         let part = recurring_part(node.entry(position), limit);
         sum.utilisation += part.utilisation;
@@ -103,7 +97,7 @@ fn completion_bound(timed: &TimedEntry, limit: u32, initial: u64) -> u64
     if FULL_UTILISATION * limit as u64 - once < r.jitter {
         return limit as u64 + 1;
     }
-    let by_utilisation = (once + r.jitter + (spare - 1)) / spare;
+    let by_utilisation = (once + r.jitter).div_ceil(spare);
     by_utilisation.max(initial)
 }
 
@@ -134,7 +128,8 @@ fn end_from(timed: &TimedEntry, blocking: u32, begin: u64) -> Option<u32>
 // Does the entry end by its limit, with a blocking of `blocking` ticks? `runs` is the sum of C up to the end of its group,
 // which a search needs many times. Rounds are followed only if the demand at the limit does not decide, and from the lower
 // bound on.
-// No struct for `runs` and its end, here and below: that its node and end are the entry's would be clauses again.
+// No struct of `runs` and the end that it is summed up to, here and below: a clause would have to say that they are of the
+// entry's node and group, as the one on `runs` does now.
 pub fn ends_on_time(timed: &TimedEntry, blocking: u32, runs: u64) -> Deadline
     requires { runs ≡ sum_to (λ j. (entry_of timed.now.node.words.now j).wcet) (timed.now.last + 1) }
     ensures { is_met result ≡ is_on_time (timed_test blocking timed.now) }
@@ -180,6 +175,7 @@ pub fn completion_time(timed: &TimedEntry, blocking: u32, runs: u64, known: u32)
 
 // The start past the last entry i < end with D - J < B + runs, or 0 if there is none, where `runs` is the sum of C before
 // `end`. That entry is late in every group that ends just before `end` and contains it, so no group starts before this start.
+// (No Option: 0 is itself a start, before which no group starts.)
 pub fn start_bound(node: &HeldEntries, end: usize, runs: u64) -> usize
     requires inside { end ≤ node.now.count }
     requires summed { runs ≡ sum_to (λ j. (entry_of node.now.words.now j).wcet) end }

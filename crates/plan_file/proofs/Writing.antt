@@ -1,18 +1,19 @@
 -- What the writer answers, check by check, and what its stores leave in the buffer.
-use Prim.Native.Nat.{ℕ, suc, ◌+◌, ◌*◌, ◌/◌, ◌≤◌, ◌<◌}
+use Prim.Native.Nat.{ℕ, zero, suc, ◌+◌, ◌*◌, ◌/◌, ◌≤◌, ◌<◌}
 use mathlib.Core.Path.{◌≡◌, ◌∙◌, sym, ap}
-use mathlib.Core.List.{List, [], ◌∷◌, map, ◌++◌, append-nil}
+use mathlib.Core.List.{List, [], map, ◌++◌, append-nil}
 use native.Mathlib.Omega.{arith}
 use native.Mathlib.Nat.{zero-add}
 use lib.ListN.{length, get_or, take, drop, length-append, length-drop, length-map}
-use lib.Seq.{drop-cons}
+use lib.Seq.{drop-drop}
+use Rattle.std.proofs.lemmas.List.{take-take}
+use Rattle.std.specs.Simd.{first_chunks}
 use borrow.Author.Tests.{le-leb, lt-leb}
 use Rattle.refusals.specs.Refusals.{Numbered, at, accepted, refused}
 use Rattle.node_words.specs.Words.{entry_size, entry_of, entries_of}
 use Rattle.node_words.proofs.Words.{entry_drop}
 use Rattle.node_words.proofs.Entries.{length-entries}
 use Rattle.plan_file.specs.declared.Edition.{Edition}
-use Rattle.plan_file.specs.declared.Edition.TheVariants.{First}
 use Rattle.plan_file.specs.Plan.{Plan, row_of, plan_of}
 use Rattle.plan_file.specs.Encoding.{header_length, entry_length, header_bytes, entry_bytes, bodies_start, contents_bytes, bodies_bytes, encoding}
 use Rattle.plan_file.specs.Decoding.{file_words}
@@ -26,6 +27,16 @@ use Rattle.byte_words.proofs.Runs.{run_split}
 use Rattle.plan_file.proofs.Words.{entry_bytes_lem}
 use Rattle.plan_file.proofs.Contents.{words_entries_run}
 use Rattle.plan_file.proofs.Encoding.{bodies_append, length-bodies, length-header, length-contents, length-encoding}
+
+-- an entry's words are one chunk of all of them, and the first of these are what a file has
+pub chunk_at : (n k : ℕ) (ws : List ℕ) (i : ℕ) → n ≤ entry_size → i < k
+    → take n (get_or (first_chunks entry_size k ws) i []) ≡ take n (drop (i * entry_size) ws)
+chunk_at n zero ws i f h = absurd (omega (arith, h))
+chunk_at n (suc k) ws zero f h = take-take n entry_size ws f
+chunk_at n (suc k) ws (suc i) f h =
+    let e : entry_size + i * entry_size ≡ suc i * entry_size = omega arith in
+    chunk_at n k (drop entry_size ws) i f (omega (arith, h))
+    ∙ ap (take n) (drop-drop (i * entry_size) entry_size ws ∙ ap (λ m. drop m ws) e)
 
 module _ (ed : Edition) (ws : List ℕ) (i : ℕ) (h : i * entry_size + entry_size ≤ length ws) where
   -- entries as bytes, and one more
@@ -52,26 +63,6 @@ module _ (ed : Edition) (ws : List ℕ) (i : ℕ) (h : i * entry_size + entry_si
       (over_next d k (i * entry_length ed) (bodies_bytes ed (entries_of ws i)) _
       (length-bodies ed (entries_of ws i) ∙ ap (λ n. n * entry_length ed) (length-entries ws 0 i)) l
       ∙ ap (over d k) bodies_more)
-
--- the words of an entry that the first edition has
-pub first_words : (ws : List ℕ) (k : ℕ) → k + file_words First ≤ length ws
-    → get_or ws k 0 ∷ get_or ws (k + 1) 0 ∷ get_or ws (k + 2) 0 ∷ get_or ws (k + 3) 0 ∷ get_or ws (k + 4) 0 ∷ [] ≡ take (file_words First) (drop k ws)
-first_words ws k h =
-    let e1 : k + 1 ≡ suc k = omega arith in
-    let e2 : k + 2 ≡ suc (suc k) = omega arith in
-    let e3 : k + 3 ≡ suc (suc (suc k)) = omega arith in
-    let e4 : k + 4 ≡ suc (suc (suc (suc k))) = omega arith in
-    rw (
-      drop-cons ws k 0 (omega arith),
-      drop-cons ws (suc k) 0 (omega arith),
-      drop-cons ws (suc (suc k)) 0 (omega arith),
-      drop-cons ws (suc (suc (suc k))) 0 (omega arith),
-      drop-cons ws (suc (suc (suc (suc k)))) 0 (omega arith),
-      e1,
-      e2,
-      e3,
-      e4,
-    )
 
 -- the header, the contents and the bodies of a plan, stored one after the other, are its encoding
 pub plan_stored : (ed : Edition) (p : Plan) (n : ℕ) → n ≡ length p.rows → (d : List ℕ)

@@ -9,7 +9,7 @@ ghost use Rattle.plan_file.specs.Answers.{Loaded};
 
 use super::read::copy_entries;
 use super::stages::{Contents, Header};
-use super::{Edition, HEADER_BYTES, ROW_BYTES, Row, check_file};
+use super::{Edition, Row, check_file};
 use node_words::{ENTRY_WORDS, NodeWords};
 use refusals::Refusal;
 
@@ -20,8 +20,8 @@ pub struct PlanFile<'a> {
     ghost accepted: { file_check bytes.now ≡ accepted },
 }
 
-// Copies the words of a row's entries from an accepted file. (What is known of a lent slice, as that its items are bytes,
-// the check does not know of a slice in a struct.)
+// Copies the words of a row's entries from an accepted file. (Tried in load_node itself, the proof did not close: that its
+// items are below 256, the check knows of a lent slice, and not of a slice in a struct.)
 fn load(file: &[u8], row: usize, words: &mut NodeWords) -> Row
     requires { (file_check file.now ≡ accepted) × (row < node_count file.now) }
     ensures { Loaded file.now row result words.old words.new }
@@ -78,7 +78,7 @@ impl<'a> PlanFile<'a> {
     pub fn entries(&self) -> usize
         ensures { result ≡ entry_count (rows_in self.now.bytes.now) }
     {
-        let start = HEADER_BYTES + self.nodes() * ROW_BYTES;
+        let start = self.contents().bodies_start();
         self.edition().entries_in(self.bytes.len() - start)
     }
 

@@ -10,16 +10,13 @@ use node_words::ENTRY_WORDS;
 use node_words::in_words::EntriesInWords;
 use refusals::Refusal;
 use task_model::entries::ListCheck;
-use task_model::{MOST_ENTRIES, MOST_LEVELS};
+use task_model::{MOST_ENTRIES, levels_hold};
 
 // Whether a row's number is at least `least`, and its levels and entry count are within the limits.
 pub(crate) fn row_holds(least: u32, r: Row) -> bool
     ensures { result ≡ row_test least r }
 {
-    least <= r.number as u32
-        && 1 <= r.levels
-        && r.levels <= MOST_LEVELS
-        && r.count as usize <= MOST_ENTRIES
+    least <= r.number as u32 && levels_hold(r.levels as u32) && r.count as usize <= MOST_ENTRIES
 }
 
 // Checks each row (4), then that `words` is the number of words of all entries that the rows count (6).

@@ -37,8 +37,8 @@ impl TryFrom<u32> for Edition {
     }
 }
 
-// These tables stand beside the constants of `Layout`: an edition as a value is known only when the program runs, and a table
-// of all four as one struct would be no plainer.
+// What an edition has, as a value that is known only when the program runs; `Layout` has the length of an entry for an
+// edition as a type. One table of structs with all three would be no plainer: each function gives one of them.
 impl Edition {
     // The four bytes that a file opens with.
     pub(crate) fn opening(self) -> [u8; 4]
@@ -64,10 +64,7 @@ impl Edition {
     pub fn entries_in(self, bytes: usize) -> usize
         ensures { result ≡ bytes / entry_length self }
     {
-        match self {
-            Edition::First => bytes / FIRST_ENTRY_BYTES,
-            Edition::Second => bytes / SECOND_ENTRY_BYTES,
-        }
+        bytes / self.entry_bytes()
     }
 
     // The most bytes of a file: a buffer of this length always suffices.

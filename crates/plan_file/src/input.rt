@@ -1,8 +1,11 @@
 // What a program has read of its input.
 ghost use Rattle.std.specs.Prelude.{◌≡◌, ◌≤◌, ◌<◌, length, take};
 
-// The first `count` bytes of an array were read. The array has room for more bytes than any plan file has: so an input that
-// fills it is refused, and the rest of it need not be read.
+// One byte more than an input may have. An input of this length is refused, so the rest of it need not be read.
+pub const READ_MOST: usize = 65537;
+
+// The first `count` bytes of an array were read. The array has `room` for more bytes than an input may have, READ_MOST of them
+// or more: so an input that fills it is refused. (An array with a count, since there is no heap.)
 #[derive(Clone, Copy, Debug, PartialEq, Eq)]
 pub struct Input<'a> {
     pub array: &'a [u8],

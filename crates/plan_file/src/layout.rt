@@ -42,6 +42,7 @@ pub trait Layout {
 }
 
 // The first edition, without J.
+#[derive(Clone, Copy, Debug, PartialEq, Eq)]
 pub struct First;
 
 impl Layout for First {
@@ -65,6 +66,7 @@ impl Layout for First {
 }
 
 // The second edition, in which J lies behind the bytes that both have.
+#[derive(Clone, Copy, Debug, PartialEq, Eq)]
 pub struct Second;
 
 impl Layout for Second {
@@ -87,7 +89,8 @@ impl Layout for Second {
     }
 }
 
-// The check of an entry that is to be written in the first edition: as check_entry does, and that its J is 0 (14).
+// The check of an entry that is to be written in the first edition: as check_entry does, and that its J is 0 (14). (The second
+// edition has a place for every J: `WithinLimits` is the check for it.)
 impl EntryCheck for First {
     ghost says = { written_check edition_is.First };
 
@@ -104,20 +107,8 @@ impl EntryCheck for First {
     }
 }
 
-// The second edition has a place for every J.
-impl EntryCheck for Second {
-    ghost says = { written_check edition_is.Second };
-
-    fn check(row: usize, position: usize, e: Entry) -> Result<(), Refusal> {
-        check_entry(row, position, e)
-    }
-
-    fn holds(e: Entry) -> bool {
-        entry_holds(e)
-    }
-}
-
-// The number of the entry from byte `k` on, in either edition.
+// The number of the entry from byte `k` on, in either edition. (Two bytes, named: a part of the file as an array is no
+// plainer.)
 fn number_at<E: Layout>(file: &[u8], k: usize) -> u16
     requires { k + entry_length E.edition ≤ length file.now }
     ensures { result ≡ (entry_in E.edition file.now k).number }
@@ -142,8 +133,9 @@ pub(crate) fn entry_at<E: Layout>(file: &[u8], k: usize) -> Entry
     }
 }
 
-// The `count` entries from byte `start` of a file on.
-#[derive(Drop)]
+// The `count` entries from byte `start` of a file on. (No plainer as a slice of their bytes alone: the count would be its
+// length, divided by a size that a type names.)
+#[derive(Drop, Debug, PartialEq, Eq)]
 pub struct Body<'a, E: Layout> {
     pub file: &'a [u8],
     pub start: usize,

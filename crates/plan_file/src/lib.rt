@@ -14,10 +14,11 @@ mod read;
 pub mod stages;
 pub mod store;
 
-ghost use Rattle.std.specs.Prelude.{◌≡◌, ◌↔◌, length, ◌+◌, ◌≤◌, ◌<◌};
+ghost use Rattle.std.specs.Prelude.{◌≡◌, ◌↔◌, length, ◌+◌, ◌*◌, ◌≤◌, ◌<◌};
 ghost use Rattle.refusals.specs.Refusals.{outcome, accepted};
 ghost use Rattle.node_words.specs.Words.{words_of};
 ghost use Rattle.plan_file.specs.Plan.{row_of};
+ghost use Rattle.plan_file.specs.Encoding.{header_length, row_length, bodies_start};
 ghost use Rattle.plan_file.specs.Check.{file_check, words_check};
 ghost use Rattle.plan_file.specs.Limits.{IsPlanFile, IsPlanInMemory};
 ghost use Rattle.plan_file.specs.Find.{node_found};
@@ -44,7 +45,8 @@ pub enum Edition {
     Second,
 }
 
-// The four bytes that a plan file opens with, in each edition.
+// The four bytes that a plan file opens with, in each edition: one byte string, as the rules of the project
+// ask (docs/DECISIONS.md, 13).
 const FIRST_OPENING: [u8; 4] = *b"LMP1";
 
 const SECOND_OPENING: [u8; 4] = *b"LMP2";
@@ -64,7 +66,8 @@ pub const FIRST_ENTRY_WORDS: usize = 5;
 // The most nodes of a plan.
 pub const MOST_NODES: u8 = 32;
 
-// The most bytes of a file in each edition, with 32 nodes of 64 entries: 41,224 and 49,416.
+// The most bytes of a file in each edition, with 32 nodes of 64 entries: 41,224 and 49,416. (The sum stands twice: the value
+// of a constant may call no function, not even a `const fn`.)
 pub const MOST_FIRST: usize = HEADER_BYTES
     + MOST_NODES as usize * (ROW_BYTES + MOST_ENTRIES * FIRST_ENTRY_BYTES);
 
@@ -73,6 +76,22 @@ pub const MOST_SECOND: usize = HEADER_BYTES
 
 // The check of a file's nodes. It has more marks than that of one node; they are cleared once for all nodes.
 type FileCheck = Whole<WithinLimits, 2048>;
+
+// Where the first body begins: right after the header and a row for each node.
+pub(crate) fn bodies_start(nodes: usize) -> usize
+    requires { bodies_start nodes ≤ usize.MAX }
+    ensures { result ≡ bodies_start nodes }
+{
+    row_start(nodes)
+}
+
+// Where a row begins: right after the header and the rows before it.
+pub(crate) fn row_start(row: usize) -> usize
+    requires { header_length + row * row_length ≤ usize.MAX }
+    ensures { result ≡ header_length + row * row_length }
+{
+    HEADER_BYTES + row * ROW_BYTES
+}
 
 // A row of the contents without its offset.
 #[derive(Clone, Copy, Debug, PartialEq, Eq)]
@@ -127,7 +146,8 @@ pub fn check_file(file: &[u8]) -> Result<(), Refusal>
 }
 
 // Checks rows and entries that are to be written in an edition. The first check that is met gives the refusal. Accepts
-// exactly the words of plans within the limits, and in the first edition only those with every J zero.
+// exactly the words of plans within the limits, and in the first edition only those with every J zero. (Here and below, the
+// edition, the rows and the entries are what C lends: a struct of them would be made anew in each call.)
 pub fn check_plan(edition: Edition, rows: &[u32], entries: &[u32]) -> Result<(), Refusal>
     ensures answer { outcome result ≡ words_check edition rows.now entries.now }
     ensures exactly { (outcome result ≡ accepted) ↔ IsPlanInMemory edition rows.now entries.now }
@@ -139,7 +159,7 @@ pub fn check_plan(edition: Edition, rows: &[u32], entries: &[u32]) -> Result<(),
     // From a value to a type, as in check_file.
     match edition {
         Edition::First => check_nodes(rows, entries, &mut Whole::<First, MARKS>::new()),
-        Edition::Second => check_nodes(rows, entries, &mut Whole::<Second, MARKS>::new()),
+        Edition::Second => check_nodes(rows, entries, &mut Whole::<WithinLimits, MARKS>::new()),
     }
 }
 
@@ -155,7 +175,7 @@ pub fn write_plan(
     ensures read_again { ReadAgain edition rows.now entries.now (answered result) file.new }
 {
     check_plan(edition, rows, entries)?;
-    let start = HEADER_BYTES + rows.len() * ROW_BYTES;
+    let start = bodies_start(rows.len());
     let count = entries.len() / ENTRY_WORDS;
     let length = start + count * edition.entry_bytes();
     if file.len() < length {
@@ -184,8 +204,9 @@ pub fn read_plan(file: &[u8], rows: &mut [u32], entries: &mut [u32]) -> Result<R
     if entries.len() < count * ENTRY_WORDS {
         return Err(Refusal::ShortBuffer);
     }
-    accepted.contents().copy_rows(rows);
-    let start = HEADER_BYTES + nodes * ROW_BYTES;
+    let contents = accepted.contents();
+    contents.copy_rows(rows);
+    let start = contents.bodies_start();
     copy_entries(edition, &file[start..], &mut entries[..count * ENTRY_WORDS]);
     Ok(ReadPlan {
         edition,
@@ -203,9 +224,7 @@ pub fn find_node(file: &[u8], number: u16, words: &mut NodeWords) -> Result<Foun
     ensures holding { Holding (answer_by itself result) words.new (node_found file.now number) }
 {
     let plan = PlanFile::check(file)?;
-    let Some(row) = plan.contents().find(number) else {
-        return Err(Refusal::NoSuchNode);
-    };
+    let row = plan.contents().find(number).ok_or(Refusal::NoSuchNode)?;
     let r = plan.load_node(row, words);
     Ok(FoundNode {
         levels: r.levels,

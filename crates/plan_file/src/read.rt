@@ -10,7 +10,8 @@ use super::{Edition, FIRST_ENTRY_BYTES};
 use byte_words::copy_words;
 use node_words::{ENTRY_WORDS, store_entry};
 
-// Fills `words` with those of entries of the first edition, from the start of the bytes.
+// Fills `words` with those of entries of the first edition, from the start of the bytes, of which there may be more. (By
+// index: tried with `chunks_exact_mut` of the words, the proof did not close. What a loop over it wrote is not known.)
 fn copy_first(bytes: &[u8], words: &mut [u32])
     requires { length words.old / entry_size * entry_length Edition.First ≤ length bytes.now }
     ensures { words.new ≡
@@ -22,7 +23,9 @@ fn copy_first(bytes: &[u8], words: &mut [u32])
     }
 }
 
-// Fills `words`, which are those of whole entries, with the words of entries from the start of the bytes.
+// Fills `words`, which are those of whole entries, with the words of entries from the start of the bytes. A file of the
+// second edition has just these words. (No plainer without the match: only one chooses by a value whether a loop goes over
+// entries or over words. Nor with arrays of six words: a plan in memory is words, and the contracts speak of those.)
 pub(crate) fn copy_entries(edition: Edition, bytes: &[u8], words: &mut [u32])
     requires { (length words.old % entry_size ≡ 0) × (length words.old / entry_size * entry_length edition ≤ length bytes.now) }
     ensures { words.new ≡ words_of (entries_at edition bytes.now 0 (length words.old / entry_size)) }

@@ -12,7 +12,7 @@ ghost use Rattle.plan_file.specs.Find.{first_row};
 
 use super::checks::row_holds;
 use super::layout::{Body, Layout};
-use super::{Edition, HEADER_BYTES, MOST_NODES, ROW_BYTES, Row};
+use super::{Edition, HEADER_BYTES, MOST_NODES, Row, bodies_start, row_start};
 use byte_words::word_at;
 use refusals::Refusal;
 use std::marker::PhantomData;
@@ -92,7 +92,7 @@ impl<'a> Contents<'a> {
             return Err(Refusal::NodeCount);
         }
         let nodes = header.nodes();
-        if file.len() < HEADER_BYTES + nodes * ROW_BYTES {
+        if file.len() < bodies_start(nodes) {
             return Err(Refusal::ShortFile);
         }
         Ok(Contents { file, nodes })
@@ -105,12 +105,19 @@ impl<'a> Contents<'a> {
         Header { file: self.file }.edition()
     }
 
+    // Where the first body begins.
+    pub fn bodies_start(&self) -> usize
+        ensures { result ≡ bodies_start self.now.nodes }
+    {
+        bodies_start(self.nodes)
+    }
+
     // The row at an index.
     pub fn row(&self, row: usize) -> Row
         requires { row < self.now.nodes }
         ensures { result ≡ row_at self.now.file.now row }
     {
-        Row::from(word_at(self.file, HEADER_BYTES + row * ROW_BYTES))
+        Row::from(word_at(self.file, row_start(row)))
     }
 
     // Where the row says that its body begins.
@@ -118,29 +125,23 @@ impl<'a> Contents<'a> {
         requires { row < self.now.nodes }
         ensures { result ≡ offset_at self.now.file.now row }
     {
-        word_at(self.file, HEADER_BYTES + row * ROW_BYTES + 4) as usize
+        word_at(self.file, row_start(row) + 4) as usize
     }
 
     // The index of the first row that has this number.
     pub(crate) fn find(&self, number: u16) -> Option<usize>
         ensures { result ≡ first_row number (rows_of self.now) }
     {
-        for row in 0..self.nodes {
-            if self.row(row).number == number {
-                return Some(row);
-            }
-        }
-        None
+        (0..self.nodes).find(|&row| self.row(row).number == number)
     }
 
-    // Copies the rows, without their offsets, to a buffer's start. (By index: `iter_mut` over the buffer's start was tried, and
-    // its proof did not close.)
+    // Copies the rows, without their offsets, to a buffer's start.
     pub fn copy_rows(&self, rows: &mut [u32])
         requires { self.now.nodes ≤ length rows.old }
         ensures { rows.new ≡ over rows.old 0 (map row_word (rows_of self.now)) }
     {
-        for row in 0..self.nodes {
-            rows[row] = word_at(self.file, HEADER_BYTES + row * ROW_BYTES);
+        for (row, word) in rows[..self.nodes].iter_mut().enumerate() {
+            *word = word_at(self.file, row_start(row));
         }
     }
 
@@ -153,7 +154,7 @@ impl<'a> Contents<'a> {
     {
         let size = edition.entry_bytes();
         let mut least: u32 = 0;
-        let mut required: usize = HEADER_BYTES + self.nodes * ROW_BYTES;
+        let mut required = self.bodies_start();
         for row in 0..self.nodes {
             let r = self.row(row);
             let held = row_holds(least, r);
@@ -173,8 +174,9 @@ impl<'a> Contents<'a> {
         Ok(())
     }
 
-    // Checks all bodies, row by row. The entries of a row are checked once those before it have passed. (No plainer as one
-    // function with check_nodes: what is left is one loop over two kinds of lists, with a trait for rows and lists more.)
+    // Checks all bodies, row by row. The entries of a row are checked once those before it have passed. (check_nodes has the same
+    // loop, over rows and entries in memory. One function for both would need a trait that gives the row and the entries at an
+    // index, with an impl for each, in the place of two loops of five lines: no plainer.)
     pub fn check_bodies<E: Layout, C: ListCheck>(&self, check: &mut C) -> Result<(), Refusal>
         requires { bodies_start self.now.nodes + entry_count (rows_of self.now) * entry_length E.edition ≤
             length self.now.file.now }
@@ -182,7 +184,7 @@ impl<'a> Contents<'a> {
             bodies_by C.says_all 0 (rows_of self.now)
             (entries_at E.edition self.now.file.now (bodies_start self.now.nodes) (entry_count (rows_of self.now))) }
     {
-        let mut start = HEADER_BYTES + self.nodes * ROW_BYTES;
+        let mut start = self.bodies_start();
         for row in 0..self.nodes {
             let count = self.row(row).count as usize;
             let body: Body<E> = Body {

@@ -5,7 +5,7 @@ ghost use Rattle.node_words.specs.Words.{entry_size, entries_of};
 ghost use Rattle.plan_file.specs.Encoding.{header_length, row_length, entry_length, bodies_start, header_bytes, row_bytes, contents_bytes, bodies_bytes};
 ghost use Rattle.byte_words.specs.Buffers.{over};
 
-use super::{Edition, FIRST_ENTRY_BYTES, HEADER_BYTES, ROW_BYTES, Row};
+use super::{Edition, FIRST_ENTRY_BYTES, FIRST_ENTRY_WORDS, Row, bodies_start, row_start};
 use byte_words::{put_word, put_words};
 use node_words::ENTRY_WORDS;
 
@@ -18,7 +18,8 @@ fn put_row(file: &mut [u8], k: usize, word: u32, offset: u32)
     put_word(file, k + 4, offset);
 }
 
-// Stores the opening bytes of an edition, the node count and three zero bytes.
+// Stores the opening bytes of an edition, the node count and three zero bytes. (`nodes` is what is stored, not a length of
+// the buffer.)
 pub fn put_header(edition: Edition, file: &mut [u8], nodes: usize)
     requires { header_length ≤ length file.old }
     ensures { file.new ≡ over file.old 0 (header_bytes edition nodes) }
@@ -36,34 +37,31 @@ pub fn put_contents(edition: Edition, file: &mut [u8], rows: &[u32])
         (contents_bytes (entry_length edition) (bodies_start (length rows.now)) (map row_of rows.now)) }
 {
     let size = edition.entry_bytes();
-    let mut offset: usize = HEADER_BYTES + rows.len() * ROW_BYTES;
+    let mut offset = bodies_start(rows.len());
     for (row, &word) in rows.iter().enumerate() {
-        put_row(file, HEADER_BYTES + row * ROW_BYTES, word, offset as u32);
+        put_row(file, row_start(row), word, offset as u32);
         offset += Row::from(word).count as usize * size;
     }
 }
 
-// Stores entries in the first edition, from the start of the bytes: the words of each but J. It reads them all before it
-// stores them, so that the compiler can store several at once.
+// Stores entries in the first edition, from the start of the bytes: the words of each but J. (The bytes by index: tried with
+// `chunks_exact_mut`, the proof did not close. What a loop over it wrote is not known.)
 fn put_first(bytes: &mut [u8], words: &[u32])
     requires { length words.now / entry_size * entry_length Edition.First ≤ length bytes.old }
     ensures { bytes.new ≡
         over bytes.old 0 (bodies_bytes Edition.First (entries_of words.now (length words.now / entry_size))) }
 {
-    for i in 0..words.len() / ENTRY_WORDS {
-        let from = i * ENTRY_WORDS;
-        let fields = [
-            words[from],
-            words[from + 1],
-            words[from + 2],
-            words[from + 3],
-            words[from + 4],
-        ];
-        put_words(&mut bytes[i * FIRST_ENTRY_BYTES..], &fields);
+    let (entries, _) = words.as_chunks::<ENTRY_WORDS>();
+    for (i, entry) in entries.iter().enumerate() {
+        put_words(
+            &mut bytes[i * FIRST_ENTRY_BYTES..],
+            &entry[..FIRST_ENTRY_WORDS],
+        );
     }
 }
 
-// Stores the entries of the words, which are those of whole entries, from the start of the bytes.
+// Stores the entries of the words, which are those of whole entries, from the start of the bytes. The second edition has all
+// words of an entry. (The match as in copy_entries of read.rt.)
 pub(crate) fn put_entries(edition: Edition, bytes: &mut [u8], words: &[u32])
     requires { (length words.now % entry_size ≡ 0) × (length words.now / entry_size * entry_length edition ≤ length bytes.old) }
     ensures { bytes.new ≡

@@ -17,9 +17,9 @@ use refusals::Refusal;
 // levels the map uses. Refuses as `plan_file::check_file` does, then a number that no node has (9), then as
 // `level_map::map_held` does.
 pub fn map_node(file: &[u8], number: u16, out: &mut [u8]) -> Result<u8, Refusal>
-    ensures result_value { answered result ≡ file_answer file.now number (length out.old) }
-    ensures out_after { out.new ≡ left (answered result) (map_of (node_found file.now number)) out.old }
-    ensures node_best_map_or_none { find_check file.now number ≡ accepted →
+    ensures answered { answered result ≡ file_answer file.now number (length out.old) }
+    ensures written { out.new ≡ left (answered result) (map_of (node_found file.now number)) out.old }
+    ensures best { find_check file.now number ≡ accepted →
         NodeBestMapOrNone (node_found file.now number) out.old (answered result) out.new }
 {
     let mut words = [0u32; NODE_WORDS];

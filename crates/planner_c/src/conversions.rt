@@ -1,4 +1,4 @@
-// Converting a plan file to the other edition, for C.
+// Converting a plan file to the other edition, for C. C names a function for each way, so the two are alike.
 ghost use Rattle.std.specs.Prelude.{◌≡◌, length};
 ghost use Rattle.refusals.specs.Answers.{left};
 ghost use Rattle.plan_file.specs.Decoding.{plan_in};
@@ -18,9 +18,9 @@ pub extern "C" fn maiplur_convert_forward(
     out: &mut [u8],
     values: &mut [usize; 3],
 ) -> u32
-    ensures values_after { returned result values.new ≡
+    ensures answered { returned result values.new ≡
         sized (convert_answer Edition.Second file.now (length out.old)) }
-    ensures out_after { out.new ≡
+    ensures written { out.new ≡
         left (convert_answer Edition.Second file.now (length out.old))
         (encoding Edition.Second (plan_in file.now)) out.old }
     ensures converted_again { ConvertedAgain Edition.Second file.now
@@ -33,9 +33,9 @@ pub extern "C" fn maiplur_convert_forward(
 // From what it wrote, maiplur_convert_forward gives the lent file again, byte for byte.
 #[unsafe(no_mangle)]
 pub extern "C" fn maiplur_convert_back(file: &[u8], out: &mut [u8], values: &mut [usize; 3]) -> u32
-    ensures values_after { returned result values.new ≡
+    ensures answered { returned result values.new ≡
         sized (convert_answer Edition.First file.now (length out.old)) }
-    ensures out_after { out.new ≡
+    ensures written { out.new ≡
         left (convert_answer Edition.First file.now (length out.old))
         (encoding Edition.First (plan_in file.now)) out.old }
     ensures converted_again { ConvertedAgain Edition.First file.now

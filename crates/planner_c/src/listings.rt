@@ -10,11 +10,11 @@ use super::returned::give;
 // length.
 #[unsafe(no_mangle)]
 pub extern "C" fn maiplur_list(file: &[u8], text: &mut [u8], values: &mut [usize; 3]) -> u32
-    ensures values_after { returned result values.new ≡ sized (list_answer file.now (length text.old)) }
-    ensures text_after { text.new ≡
+    ensures answered { returned result values.new ≡ sized (list_answer file.now (length text.old)) }
+    ensures written { text.new ≡
         left (list_answer file.now (length text.old)) (listing file.now)
         text.old }
-    ensures file_len_bound { length (listing file.now) ≤ 115625 }
+    ensures short { length (listing file.now) ≤ 115625 }
 {
     give(listing::list_plan(file, text), values)
 }

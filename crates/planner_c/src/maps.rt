@@ -18,12 +18,12 @@ pub extern "C" fn maiplur_map(
     levels: &mut [u8],
     values: &mut [usize; 3],
 ) -> u32
-    ensures values_after { returned result values.new ≡
+    ensures answered { returned result values.new ≡
         sized (file_answer file.now number (length levels.old)) }
-    ensures levels_after { levels.new ≡
+    ensures written { levels.new ≡
         left (file_answer file.now number (length levels.old))
         (map_of (node_found file.now number)) levels.old }
-    ensures node_best_map_or_none { find_check file.now number ≡ accepted →
+    ensures best { find_check file.now number ≡ accepted →
         NodeBestMapOrNone (node_found file.now number) levels.old
         (file_answer file.now number (length levels.old)) levels.new }
 {

@@ -20,8 +20,8 @@ use refusals::Refusal;
 // Checks a plan file. Returns 0 exactly for the files of plans within the limits.
 #[unsafe(no_mangle)]
 pub extern "C" fn maiplur_check(file: &[u8], values: &mut [usize; 3]) -> u32
-    ensures values_after { returned result values.new ≡ checked (file_check file.now) }
-    ensures variant { (returned result values.new ≡ given 0 0 0) ↔ IsPlanFile file.now }
+    ensures answered { returned result values.new ≡ checked (file_check file.now) }
+    ensures exactly { (returned result values.new ≡ given 0 0 0) ↔ IsPlanFile file.now }
 {
     give(plan_file::check_file(file), values)
 }
@@ -35,12 +35,12 @@ pub extern "C" fn maiplur_read(
     entries: &mut [u32],
     values: &mut [usize; 3],
 ) -> u32
-    ensures values_after { returned result values.new ≡
+    ensures answered { returned result values.new ≡
         sized_plan (read_answer file.now (length rows.old) (length entries.old)) }
-    ensures rows_after { rows.new ≡
+    ensures rows { rows.new ≡
         left (read_answer file.now (length rows.old) (length entries.old))
         (map row_word (plan_in file.now).rows) rows.old }
-    ensures entries_after { entries.new ≡
+    ensures entries { entries.new ≡
         left (read_answer file.now (length rows.old) (length entries.old))
         (words_of (plan_in file.now).entries) entries.old }
     ensures written_again { WrittenAgain file.now
@@ -52,8 +52,8 @@ pub extern "C" fn maiplur_read(
 
 // Writes a plan as a file of the edition with this number (2 if there is none).
 fn write_in(edition: u32, rows: &[u32], entries: &[u32], file: &mut [u8]) -> Result<usize, Refusal>
-    ensures answer { answered result ≡ write_for edition rows.now entries.now (length file.old) }
-    ensures file_after { file.new ≡
+    ensures answered { answered result ≡ write_for edition rows.now entries.now (length file.old) }
+    ensures written { file.new ≡
         left (answered result) (encoding (edition_for edition) (plan_of rows.now entries.now)) file.old }
     ensures read_again { ReadAgain (edition_for edition) rows.now entries.now (answered result) file.new }
 {
@@ -71,9 +71,9 @@ pub extern "C" fn maiplur_write(
     file: &mut [u8],
     values: &mut [usize; 3],
 ) -> u32
-    ensures values_after { returned result values.new ≡
+    ensures answered { returned result values.new ≡
         sized (write_for edition rows.now entries.now (length file.old)) }
-    ensures file_after { file.new ≡
+    ensures written { file.new ≡
         left (write_for edition rows.now entries.now (length file.old))
         (encoding (edition_for edition) (plan_of rows.now entries.now)) file.old }
     ensures read_again { ReadAgain (edition_for edition) rows.now entries.now

@@ -25,7 +25,7 @@ impl Results for () {
     }
 }
 
-// A length. (Each type of a result has an impl of its own: the trait says for each which numbers C gets.)
+// A length. (One impl for this and the next two would be no plainer: std has no conversion of u32 into usize.)
 impl Results for usize {
     ghost numbers = { number_results };
 

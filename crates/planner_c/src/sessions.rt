@@ -96,7 +96,7 @@ pub extern "C" fn maiplur_session_time(
     ensures { returned result values.new ≡
         timed (time_answer (node_in (session_in words.now)) first last i) }
 {
-    give(in_words::time(words, first, last, i), values)
+    give(session::time(words, first, last, i), values)
 }
 
 // Maps the node: one byte per entry from the buffer's start. Gives the count of levels used. The map is the stored one.
@@ -106,16 +106,16 @@ pub extern "C" fn maiplur_session_map(
     levels: &mut [u8],
     values: &mut [usize; 3],
 ) -> u32
-    ensures values_after { returned result values.new ≡
+    ensures answered { returned result values.new ≡
         sized (map_given (session_in words.now) (length levels.old)) }
-    ensures levels_after { levels.new ≡
+    ensures written { levels.new ≡
         left (map_given (session_in words.now) (length levels.old))
         (stored_levels (session_in words.now).store (session_in words.now).count) levels.old }
-    ensures node_best_map_or_none { Sound (session_in words.now) →
+    ensures best { Sound (session_in words.now) →
         NodeBestMapOrNone (node_in (session_in words.now)) levels.old
         (map_given (session_in words.now) (length levels.old)) levels.new }
 {
-    give(in_words::map(words, levels), values)
+    give(session::map(words, levels), values)
 }
 
 // Gives the completion time of the entry at `i` under the stored map.
@@ -127,5 +127,5 @@ pub extern "C" fn maiplur_session_map_time(
 ) -> u32
     ensures { returned result values.new ≡ sized (map_time_given (session_in words.now) i) }
 {
-    give(in_words::map_time(words, i), values)
+    give(session::map_time(words, i), values)
 }

@@ -30,7 +30,7 @@ pub enum Refusal {
     Repeat { row: usize, position: usize },
 }
 
-// A refusal as a user sees it.
+// A refusal as a user and C see it: three numbers, so a place that the refusal has not is 0.
 #[derive(Clone, Copy, Debug, PartialEq, Eq)]
 pub struct Numbers {
     pub number: u8,

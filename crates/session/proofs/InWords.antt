@@ -4,9 +4,10 @@ use mathlib.Core.Path.{◌≡◌, ◌∙◌, refl, sym, ap, subst}
 use mathlib.Core.Logic.{⊎_elim}
 use mathlib.Core.List.{List, [], ◌∷◌, ◌++◌, append-nil}
 use native.Mathlib.Omega.{arith}
-use lib.ListN.{length, take, drop, get_or, set, length-append, length-drop, take-append-drop, drop_of_length-le}
+use lib.ListN.{length, take, drop, get_or, set, length-append, length-drop, take-append-drop}
 use lib.Seq.{take_all, take_at, drop_at, drop-drop, length-take-le}
 use borrow.Rule.Slice.PartMut.{put_mid}
+use Rattle.std.proofs.lemmas.List.{take_rest, drop-take}
 use Rattle.refusals.specs.declared.Refusal.{Refusal}
 use Rattle.std.specs.Prelude.{Result, Ok, Err}
 use Rattle.refusals.specs.Refusals.{Numbered, Outcome, accepted, refused, numbered}
@@ -87,16 +88,12 @@ pub both_copied : (s : Session) → Sized s → (ws st : List ℕ) → ws ≡ s.
 both_copied s sized ws st p q =
     rw (p, q, take_at s.words (zeros store_size) node_size sized.node, drop_at s.words (zeros store_size) node_size sized.node, append-nil s.store)
 
--- what comes back for the words of the store
-pub store_back : (w st : List ℕ) → length w ≡ session_size
-    → put_mid store_at store_size w st ≡ get_or w 0 0 ∷ get_or w 1 0 ∷ (take node_size (drop node_at w) ++ st)
-store_back w st h =
-    rw (drop_of_length-le (drop store_at w) {i = store_size} (omega (arith, length-drop store_at w)), append-nil st) (front w st h)
-  where
-    front : (l m : List ℕ) → length l ≡ session_size → take store_at l ++ m ≡ get_or l 0 0 ∷ get_or l 1 0 ∷ (take node_size (drop node_at l) ++ m)
-    front [] m h = absurd (omega arith)
-    front (levels ∷ []) m h = absurd (omega arith)
-    front (levels ∷ count ∷ rest) m h = refl
+-- the words of the node, lent from those before the store
+pub node_lent : (w : List ℕ) → length w ≡ session_size → {front node : List ℕ} → front ≡ take (length w - store_size) w
+    → node ≡ take (length front - node_at) (drop node_at front) → node ≡ take node_size (drop node_at w)
+node_lent w h {front} {node} p q =
+    let k : length w - store_size ≡ node_at + node_size = omega arith in
+    q ∙ take_rest front node_at ∙ ap (drop node_at) p ∙ rw k (drop-take node_at node_size w)
 
 -- the session of a node within the limits
 pub with_sized : (store : List ℕ) (n : Node) → length n.entries ≤ most_entries → length store ≡ store_size → Sized (session_with store n)
@@ -196,9 +193,12 @@ opened_words (x ∷ xs) levels h cleared p =
 
 -- the words of the node, as they are lent, and the words with what comes back for them
 abbrev pub part : List ℕ → List ℕ
-part w = take (store_at - node_at) (drop node_at w)
+part w = take node_size (drop node_at w)
 
-back : (w ws : List ℕ) → length w ≡ session_size → put_mid node_at (store_at - node_at) w ws ≡ get_or w 0 0 ∷ get_or w 1 0 ∷ (ws ++ drop store_at w)
+abbrev with_part : List ℕ → List ℕ → List ℕ
+with_part w ws = take node_at w ++ (ws ++ drop node_size (drop node_at w))
+
+back : (w ws : List ℕ) → length w ≡ session_size → with_part w ws ≡ get_or w 0 0 ∷ get_or w 1 0 ∷ (ws ++ drop store_at w)
 back [] ws h = absurd (omega arith)
 back (levels ∷ []) ws h = absurd (omega arith)
 back (levels ∷ count ∷ rest) ws h = refl
@@ -213,7 +213,7 @@ module _ (w : List ℕ) (size : length w ≡ session_size) (p gone : ℕ) (new :
 
   pub splice_back : (left : ℕ) (ws : List ℕ) → left ≡ get_or w 1 0 - gone + length new
       → ws ≡ zero_padded (words_of (splice p gone new (node_in (session_in w)).entries))
-      → session_in (set (put_mid node_at (store_at - node_at) w ws) 1 left) ≡ spliced p gone new (session_in w)
+      → session_in (set (with_part w ws) 1 left) ≡ spliced p gone new (session_in w)
   splice_back left ws e q =
       ap (λ l. session_in (set l 1 left)) (back w ws size)
       ∙ rw (e, q) (session_back (spliced p gone new (session_in w)) (padded_size _ few))
@@ -262,7 +262,7 @@ module _ (w : List ℕ) (x : Change) (a : accepted ≡ step_check (changing x) (
 -- setting the level count leaves the store as it was
 pub levels_set : (w : List ℕ) → length w ≡ session_size → (levels : ℕ) → accepted ≡ step_check (changing (setting_levels levels)) (node_in (session_in w))
     → {ws : List ℕ} → ws ≡ zero_padded (words_of (node_in (session_in w)).entries)
-    → FollowsIn (changing (setting_levels levels)) w (Ok tt) (set (put_mid node_at (store_at - node_at) w ws) 0 levels)
+    → FollowsIn (changing (setting_levels levels)) w (Ok tt) (set (with_part w ws) 0 levels)
 unfolding changed
 levels_set w size levels a {ws} q =
     let same : get_or w 1 0 ≡ counted (setting_levels levels) (get_or w 1 0) = omega arith in

@@ -1,23 +1,17 @@
-// The operations of a session that is lent as words: its level count, its entry count, the words of a node, and the store.
-// Changes are made in place; a refused change writes nothing. Numbers in parentheses are the refusals, in the order of the
-// checks. These are words, and not a struct, for C lends them.
+// The changes of a session that is lent as words: its level count, its entry count, the words of a node, and the store. They
+// are made in place; a refused change writes nothing. Numbers in parentheses are the refusals, in the order of the checks.
+// These are words, and not a struct, for C lends them. A position and an entry are two arguments here and in the checks: a
+// caller gives them once for a change, so a struct of both would be made anew in each call.
 ghost use Rattle.std.specs.Prelude.{◌≡◌, ◌+◌, ◌-◌, ◌≤◌, length};
 ghost use Rattle.std.specs.Option.{option_to_list};
-ghost use Rattle.refusals.specs.Answers.{answered, answer_by};
 ghost use Rattle.task_model.specs.Limits.{most_entries, AllHold};
-ghost use Rattle.completion.specs.Test.{completion};
 ghost use Rattle.session.specs.State.{node_in, remembered, spliced};
 ghost use Rattle.session.specs.Operations.{changing, opening, inserting, removing, replacing, setting_levels};
-ghost use Rattle.session.specs.Lent.{session_lent};
-ghost use Rattle.session.specs.Asking.{map_time_given};
-ghost use Rattle.session.specs.Mapping.{Maps};
-ghost use Rattle.session.specs.Timing.{time_answer};
 ghost use Rattle.session.specs.InWords.{session_in, words_in, FollowsIn};
 
 use super::SessionWords;
-use super::lent::{LentSession, check_levels};
-use completion::Timing;
-use map_store::{STORE_WORDS, store_map};
+use super::lent::{HoldsSession, LentSession, check_levels};
+use map_store::store_map;
 use node_words::NODE_WORDS;
 use node_words::held::HeldEntries;
 use node_words::list::{clear_from, keep_list, splice as splice_list};
@@ -29,21 +23,17 @@ pub const NODE_AT: usize = 2;
 
 pub const STORE_AT: usize = NODE_AT + NODE_WORDS;
 
-// The session, to be read.
-pub(crate) fn lent_in(words: &SessionWords) -> LentSession<'_>
-    ensures { session_lent result ≡ session_in words.now }
-{
-    let Ok(node) = words[NODE_AT..STORE_AT].try_into() else {
-        unreachable!()
-    };
-    let Ok(store) = words[STORE_AT..].try_into() else {
-        unreachable!()
-    };
-    LentSession {
-        levels: words[0],
-        count: words[1] as usize,
-        words: node,
-        store,
+// The session in the words.
+impl HoldsSession for SessionWords {
+    ghost session = { session_in };
+
+    fn lent(&self) -> LentSession<'_> {
+        LentSession {
+            levels: self[0],
+            count: self[1] as usize,
+            words: self[NODE_AT..STORE_AT].as_array().unwrap(),
+            store: self[STORE_AT..].as_array().unwrap(),
+        }
     }
 }
 
@@ -53,15 +43,13 @@ fn remember(words: &mut SessionWords)
     requires held { AllHold (node_in (session_in words.old)).entries }
     ensures { words.new ≡ words_in (remembered (session_in words.old)) }
 {
-    let lent = lent_in(words);
+    let count = words[1] as usize;
+    let (front, store) = words.split_last_chunk_mut().unwrap();
     let node = HeldEntries {
-        words: lent.words,
-        count: lent.count,
+        words: front[NODE_AT..].as_array().unwrap(),
+        count,
     };
-    // The store is made beside the words and copied: the node is read from the same words meanwhile.
-    let mut store = [0u32; STORE_WORDS];
-    store_map(&node, &mut store);
-    words[STORE_AT..].copy_from_slice(&store);
+    store_map(&node, store);
 }
 
 // Puts an entry, if there is one, in place of the `gone` entries from a position on, and works out the store afresh.
@@ -72,7 +60,10 @@ fn splice(words: &mut SessionWords, position: usize, gone: usize, new: Option<En
     ensures { words.new ≡ words_in (remembered (spliced position gone (option_to_list new) (session_in words.old))) }
 {
     let count = words[1] as usize;
-    let left = splice_list(&mut words[NODE_AT..STORE_AT], count, position, gone, new);
+    // No `words[NODE_AT..].first_chunk_mut()`, here and below: tried, the proof did not close. What is written through the
+    // array is then not known of the part it was taken from.
+    let (_, rest) = words.split_at_mut(NODE_AT);
+    let left = splice_list(rest.first_chunk_mut().unwrap(), count, position, gone, new);
     words[1] = left as u32;
     remember(words);
 }
@@ -93,20 +84,22 @@ pub fn open(words: &mut SessionWords, levels: u8) -> Result<(), Refusal>
 pub fn set_levels(words: &mut SessionWords, levels: u8) -> Result<(), Refusal>
     ensures { FollowsIn (changing (setting_levels levels)) words.old result words.new }
 {
-    let lent = lent_in(words);
+    let lent = words.lent();
     let count = lent.count;
     lent.check_set_levels(levels)?;
-    keep_list(&mut words[NODE_AT..STORE_AT], count);
+    let (_, rest) = words.split_at_mut(NODE_AT);
+    keep_list(rest.first_chunk_mut().unwrap(), count);
     words[0] = levels as u32;
     Ok(())
 }
 
-// Inserts an entry before a position, or just after the last entry (12, 13, 7, 8, 14, 16). (Insert, remove
-// and replace differ in their check and in what they splice: one function with both as parameters would be no shorter.)
+// Inserts an entry before a position, or just after the last entry (12, 13, 7, 8, 14, 16). (Insert, remove and replace differ
+// in their check and in what they splice. One function for the three would take the check as a closure, and its contract would
+// have to say what each check asks: no plainer than the two calls.)
 pub fn insert(words: &mut SessionWords, position: usize, e: Entry) -> Result<(), Refusal>
     ensures { FollowsIn (changing (inserting position e)) words.old result words.new }
 {
-    lent_in(words).check_insert(position, e)?;
+    words.lent().check_insert(position, e)?;
     splice(words, position, 0, Some(e));
     Ok(())
 }
@@ -115,7 +108,7 @@ pub fn insert(words: &mut SessionWords, position: usize, e: Entry) -> Result<(),
 pub fn remove(words: &mut SessionWords, position: usize) -> Result<(), Refusal>
     ensures { FollowsIn (changing (removing position)) words.old result words.new }
 {
-    lent_in(words).check_remove(position)?;
+    words.lent().check_remove(position)?;
     splice(words, position, 1, None);
     Ok(())
 }
@@ -124,28 +117,7 @@ pub fn remove(words: &mut SessionWords, position: usize) -> Result<(), Refusal>
 pub fn replace(words: &mut SessionWords, position: usize, e: Entry) -> Result<(), Refusal>
     ensures { FollowsIn (changing (replacing position e)) words.old result words.new }
 {
-    lent_in(words).check_replace(position, e)?;
+    words.lent().check_replace(position, e)?;
     splice(words, position, 1, Some(e));
     Ok(())
-}
-
-// Times the entry at `i` in the group from `first` to `last` (12). The entries before the group are on higher levels.
-pub fn time(words: &SessionWords, first: usize, last: usize, i: usize) -> Result<Timing, Refusal>
-    ensures { answer_by completion result ≡ time_answer (node_in (session_in words.now)) first last i }
-{
-    lent_in(words).time(first, last, i)
-}
-
-// Maps the node: gives the stored map, one byte per entry from the start of `out` (10, 11). A refusal leaves `out` untouched.
-pub fn map(words: &SessionWords, out: &mut [u8]) -> Result<u8, Refusal>
-    ensures { Maps (session_in words.now) out.old result out.new }
-{
-    lent_in(words).map(out)
-}
-
-// The completion time of the entry at `i` under the stored map (12, 11).
-pub fn map_time(words: &SessionWords, i: usize) -> Result<u32, Refusal>
-    ensures { answered result ≡ map_time_given (session_in words.now) i }
-{
-    lent_in(words).map_time(i)
 }

@@ -8,6 +8,7 @@ ghost use Rattle.task_model.specs.Limits.{most_entries};
 ghost use Rattle.task_model.specs.Checks.{entry_check, has_number, node_check};
 ghost use Rattle.node_words.specs.Lists.{remove_at};
 ghost use Rattle.completion.specs.Test.{completion};
+ghost use Rattle.session.specs.declared.Session.{Session};
 ghost use Rattle.session.specs.State.{node_in};
 ghost use Rattle.session.specs.Operations.{changing, asking, inserting, removing, replacing, setting_levels, timing, levels_check, step_check};
 ghost use Rattle.session.specs.Lent.{session_lent};
@@ -22,16 +23,23 @@ use node_words::held::HeldEntries;
 use node_words::numbers::has_number;
 use node_words::{NodeWords, check_words};
 use refusals::Refusal;
-use task_model::{Entry, MOST_ENTRIES, MOST_LEVELS, check_entry};
+use task_model::{Entry, MOST_ENTRIES, check_entry, levels_hold};
+
+// What a session is read from: a `Session`, or the words that C lends.
+pub trait HoldsSession {
+    // The session.
+    ghost session: { Self → Session };
+
+    // The session, to be read.
+    fn lent(&self) -> LentSession<'_>
+        ensures { session_lent result ≡ session self.now };
+}
 
 // Checks that there are 1 to 64 levels (4).
 pub fn check_levels(levels: u8) -> Result<(), Refusal>
     ensures { outcome result ≡ levels_check levels }
 {
-    if levels < 1 {
-        return Err(Refusal::Row { row: 0 });
-    }
-    if MOST_LEVELS < levels {
+    if !levels_hold(levels as u32) {
         return Err(Refusal::Row { row: 0 });
     }
     Ok(())
@@ -62,6 +70,8 @@ impl<'a> LentSession<'a> {
     fn check(&self) -> Result<(), Refusal>
         ensures { outcome result ≡ node_check 0 (node_in (session_lent self.now)) }
     {
+        // In a variable, here and below: tried with `self.words` in the call, the check does not follow the loan of a field that
+        // becomes a slice there.
         let words = self.words;
         check_words(0, words, self.count, self.levels)
     }
@@ -152,7 +162,7 @@ impl<'a> LentSession<'a> {
     }
 
     // Maps the node: gives the stored map, one byte per entry from the start of `out` (10, 11). A refusal leaves `out`
-    // untouched.
+    // untouched. (`map_time` asks the store for something else after the same check: one function of both would be no plainer.)
     pub fn map(&self, out: &mut [u8]) -> Result<u8, Refusal>
         ensures { Maps (session_lent self.now) out.old result out.new }
     {

@@ -11,7 +11,7 @@ ghost use Rattle.refusals.specs.Answers.{answered, answer_by};
 ghost use Rattle.completion.specs.Test.{completion};
 ghost use Rattle.session.specs.State.{node_in, blank_session};
 ghost use Rattle.session.specs.Operations.{changing, opening, inserting, removing, replacing, setting_levels};
-ghost use Rattle.session.specs.Lent.{session_lent, LeftBy};
+ghost use Rattle.session.specs.Lent.{LeftBy};
 ghost use Rattle.session.specs.Steps.{Follows};
 ghost use Rattle.session.specs.Asking.{map_time_given};
 ghost use Rattle.session.specs.Mapping.{Maps};
@@ -19,8 +19,8 @@ ghost use Rattle.session.specs.Timing.{time_answer};
 ghost use Rattle.session.specs.InWords.{session_in, words_in};
 
 use completion::Timing;
-use in_words::{NODE_AT, STORE_AT, lent_in};
-use lent::LentSession;
+use in_words::{NODE_AT, STORE_AT};
+use lent::{HoldsSession, LentSession};
 use map_store::{STORE_WORDS, StoreWords};
 use node_words::{NODE_WORDS, NodeWords};
 use refusals::Refusal;
@@ -50,11 +50,11 @@ pub struct Changed {
     pub session: Session,
 }
 
-impl Session {
-    // The session, to be read.
-    fn lent(&self) -> LentSession<'_>
-        ensures { session_lent result ≡ self.now }
-    {
+// A `Session` is read as it is.
+impl HoldsSession for Session {
+    ghost session = { λ s. s };
+
+    fn lent(&self) -> LentSession<'_> {
         LentSession {
             levels: self.levels,
             count: self.count as usize,
@@ -69,7 +69,7 @@ impl From<SessionWords> for Session {
     ghost from_gives = { λ w s. s ≡ session_in w };
 
     fn from(w: SessionWords) -> Session {
-        let lent = lent_in(&w);
+        let lent = w.lent();
         Session {
             levels: w[0],
             count: w[1],
@@ -130,6 +130,9 @@ pub fn blank() -> Session
     }
 }
 
+// The changes by value, each made in the words of the session. They are alike but for the change that the closure calls: a
+// public function for each, with arguments of its own. A position and an entry come from the caller, once for a change.
+
 // Opens a session: an empty node with the given level count.
 pub fn opened(s: Session, levels: u8) -> Changed
     ensures { Follows (opening levels) s result.answer result.session }
@@ -165,8 +168,8 @@ pub fn with_levels(s: Session, levels: u8) -> Changed
     Changed::by(s, |words| in_words::set_levels(words, levels))
 }
 
-// The functions from here on are lent a session. Those that change it are thin over the ones by value above, which is a rule of
-// the project.
+// The changes of a lent session. They are thin over the ones by value above, which is a rule of the project
+// (docs/DECISIONS.md, 13).
 
 // Opens the lent session, whatever it held: an empty node with the given level count (4).
 pub fn open(s: &mut Session, levels: u8) -> Result<(), Refusal>
@@ -203,23 +206,25 @@ pub fn replace(s: &mut Session, position: usize, e: Entry) -> Result<(), Refusal
     replaced(*s, position, e).leave_in(s)
 }
 
+// The queries, of a session that is lent as a `Session` or as words.
+
 // Times the entry at `i` in the group from `first` to `last` (12). The entries before the group are on higher levels.
-pub fn time(s: &Session, first: usize, last: usize, i: usize) -> Result<Timing, Refusal>
-    ensures { answer_by completion result ≡ time_answer (node_in s.now) first last i }
+pub fn time<S: HoldsSession>(s: &S, first: usize, last: usize, i: usize) -> Result<Timing, Refusal>
+    ensures { answer_by completion result ≡ time_answer (node_in (S.session s.now)) first last i }
 {
     s.lent().time(first, last, i)
 }
 
 // Maps the node: gives the stored map, one byte per entry from the start of `out` (10, 11). A refusal leaves `out` untouched.
-pub fn map(s: &Session, out: &mut [u8]) -> Result<u8, Refusal>
-    ensures { Maps s.now out.old result out.new }
+pub fn map<S: HoldsSession>(s: &S, out: &mut [u8]) -> Result<u8, Refusal>
+    ensures { Maps (S.session s.now) out.old result out.new }
 {
     s.lent().map(out)
 }
 
 // The completion time of the entry at `i` under the stored map (12, 11).
-pub fn map_time(s: &Session, i: usize) -> Result<u32, Refusal>
-    ensures { answered result ≡ map_time_given s.now i }
+pub fn map_time<S: HoldsSession>(s: &S, i: usize) -> Result<u32, Refusal>
+    ensures { answered result ≡ map_time_given (S.session s.now) i }
 {
     s.lent().map_time(i)
 }

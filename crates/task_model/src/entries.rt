@@ -9,7 +9,8 @@ use super::{Entry, check_entry, entry_holds};
 use refusals::Refusal;
 use std::marker::PhantomData;
 
-// A list of entries. It knows where they lie, and reads one at a time.
+// A list of entries. It knows where they lie, and reads one at a time. It is no iterator: a refusal needs the position, and
+// the entries before one are gone through again for its number, so an iterator would be counted, and made anew each time.
 pub trait EntryList {
     // The entries.
     ghost entries: { Self → List Entry };
@@ -43,6 +44,7 @@ pub trait EntryCheck {
 }
 
 // The check that an entry is within the limits.
+#[derive(Clone, Copy, Debug, PartialEq, Eq)]
 pub struct WithinLimits;
 
 impl EntryCheck for WithinLimits {
@@ -68,6 +70,8 @@ pub fn check_entries<C: EntryCheck, L: EntryList>(row: usize, list: &L) -> Resul
 }
 
 // Whether every entry of a list passes. The loop keeps no place of a refusal, because every accepted list goes through it.
+// No `all` here and no `any` below: tried, and checking the longest plan took 36 % longer in the first edition and 23 % in the
+// second, and with `any` alone 9 % and 24 %.
 pub fn entries_hold<C: EntryCheck, L: EntryList>(list: &L) -> bool
     ensures { (result ≡ true) ↔ AllPass C.says (L.entries list.now) }
 {
@@ -125,7 +129,7 @@ pub trait ListCheck {
 }
 
 // Each entry by itself.
-#[derive(Drop)]
+#[derive(Clone, Copy, Debug, PartialEq, Eq)]
 pub struct Each<C: EntryCheck> {
     check: PhantomData<C>,
 }
@@ -149,7 +153,7 @@ impl<C: EntryCheck> ListCheck for Each<C> {
 
 // Each entry by itself, then their numbers (16), with `N` marks. Only entries that fail are gone through for the place. Each
 // row has a mark of its own, so the rows before cost none.
-#[derive(Drop)]
+#[derive(Drop, Debug, PartialEq, Eq)]
 pub struct Whole<C: EntryCheck, const N: usize> {
     check: PhantomData<C>,
     marks: [u8; N],

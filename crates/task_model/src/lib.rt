@@ -3,8 +3,8 @@
 // The task model: the fields of an entry, and their limits.
 pub mod entries;
 
-ghost use Rattle.std.specs.Prelude.{◌≡◌, ℕ, ltb};
-ghost use Rattle.task_model.specs.Limits.{TimesHold};
+ghost use Rattle.std.specs.Prelude.{◌≡◌, ℕ, ltb, leb, ◌&&◌};
+ghost use Rattle.task_model.specs.Limits.{TimesHold, most_levels};
 ghost use Rattle.refusals.specs.Refusals.{outcome};
 ghost use Rattle.task_model.specs.Checks.{kind_test, times_test, jitter_test, entry_test, entry_check};
 
@@ -22,8 +22,8 @@ pub const MOST_ENTRIES: usize = 64;
 #[derive(Clone, Copy, Debug, PartialEq, Eq)]
 pub struct Entry {
     pub number: u16,
-    // 1 is a task, 2 a global critical section. It is the byte of the file and no enum, since an entry may be one that is
-    // still to be checked.
+    // 1 is a task, 2 a global critical section. It is the byte of the file and no enum: the rules of the project
+    // (docs/DECISIONS.md, 13) ask for a match on it (`kind_holds`), and an entry may be one that is still to be checked.
     pub kind: u8,
     // r: how many remote sections it calls in a period.
     pub calls: u8,
@@ -37,8 +37,15 @@ pub struct Entry {
     pub jitter: u32,
 }
 
+// Whether a node may have so many levels: 1 to 64.
+pub fn levels_hold(levels: u32) -> bool
+    ensures { result ≡ (leb 1 levels && leb levels most_levels) }
+{
+    (1..=MOST_LEVELS as u32).contains(&levels)
+}
+
 // Whether the kind is 1 with at most 15 remote calls, or 2 with none. The form, a match on the byte with ranges of r, is a
-// rule of the project.
+// rule of the project (docs/DECISIONS.md, 13).
 fn kind_holds(kind: u8, calls: u8) -> bool
     ensures { result ≡ kind_test kind calls }
 {
@@ -103,7 +110,8 @@ fn calls_end(kind: u8) -> u8
 }
 
 // The same test as kind_holds. A match that gives numbers is compiled without a branch between the kinds, which would often
-// be guessed wrong where both occur.
+// be guessed wrong where both occur: with kind_holds here, checking the longest plan took 3.5 µs in place of 2.3 to 2.5 when
+// this was written (docs/BENCHMARKS.md).
 fn calls_hold(kind: u8, calls: u8) -> bool
     ensures { result ≡ kind_test kind calls }
 {

@@ -7,9 +7,10 @@ ghost use Rattle.text.specs.Decimal.{decimal};
 
 use itoa::write_digits;
 
-// A lent buffer, and the position in it that the next text is written at. Text is not written by `write!`: its contract says
-// what is written where it answers `Ok`, but not that it does so where there is room, so no listing would be complete.
-#[derive(Drop)]
+// A lent buffer, and the position in it that the next text is written at. No `PartialEq`: the library has none for `&mut [u8]`.
+// No `write!`, with a `fmt::Write` of the cursor: tried, the proof did not close. It promises its text only where it answers
+// `Ok`, and not that it does so where there is room, so no listing would be complete.
+#[derive(Drop, Debug)]
 pub struct Cursor<'a> {
     pub out: &'a mut [u8],
     pub at: usize,

@@ -30,14 +30,20 @@ returns-then-eq c =
     let not = opens_not c.args.to c.args.file.now (sym e ∙ same _ _ (sym c.if-eq.ensures)) in
     rw (check_edition c.args.to _ told.0 not)
 
--- the file opens as one of the other edition
-opens : (to from : Edition) (f g : List ℕ) → file_check f ≡ accepted → g ≡ f → from ≡ edition_of g → from ≡ other to → opening_test (other to) f ≡ true
-opens to from f g a p q e = opens_other to f a (ap edition_of (sym p) ∙ sym q ∙ e)
+-- a file `f` that passes its own checks, by the same bytes `g`, and is not of the edition asked for
+module _ (to : Edition) {from : Edition} {f g : List ℕ} (told : (file_check f ≡ accepted) × (g ≡ f)) (p : from ≡ edition_of g)
+    (not : from ≡ other to) where
+  opens : opening_test (other to) f ≡ true
+  opens = opens_other to f told.0 (ap edition_of (sym told.1) ∙ sym p ∙ not)
+
+  -- it goes back: it is of the second edition
+  second : to ≡ First → edition_of f ≡ Second
+  second first = ap edition_of (sym told.1) ∙ sym p ∙ not ∙ ap other first
 
 pub returns-then-eq-2 : goal.returns-then-eq-2
 returns-then-eq-2 c =
     let told = giving_gives _ _ _ c.in_ok-plan.ensures in
-    let opened = opens c.args.to _ _ _ told.0 told.1 c.edition.ensures (differ _ c.args.to (sym c.if-eq.ensures)) in
+    let opened = opens c.args.to told c.edition.ensures (differ _ c.args.to (sym c.if-eq.ensures)) in
     let e = same c.args.to Second (sym c.if-eq-2.ensures) in
     rw (told.1, check_rest c.args.to _ told.0 opened, e, forward_keeps c.args.file.now)
 
@@ -46,10 +52,9 @@ check_bodies-requires c =
     let f = c.args.file.now in
     let told = giving_gives _ _ _ c.in_ok-plan.ensures in
     let at_hand = rw told.1 at c.contents.ensures in
-    let first : c.args.to ≡ First = differ _ Second (sym c.if-eq-2.ensures) in
-    let second : edition_of c.args.file.now ≡ Second =
-    ap edition_of (sym told.1) ∙ sym c.edition.ensures ∙ differ _ c.args.to (sym c.if-eq.ensures) ∙ ap other first in
-    let e = ap (λ ed. entry_count (rows_in f) * entry_length ed) second in
+    let first = differ _ Second (sym c.if-eq-2.ensures) in
+    let is_second = second c.args.to told c.edition.ensures (differ _ c.args.to (sym c.if-eq.ensures)) first in
+    let e = ap (λ ed. entry_count (rows_in f) * entry_length ed) is_second in
     rw (ap (λ p. p.0) at_hand, ap (λ p. p.1) at_hand) (omega (arith, (file_holds f told.0).ends, e))
 
 pub returns-in_err-check_bodies : goal.returns-in_err-check_bodies
@@ -57,20 +62,18 @@ returns-in_err-check_bodies c =
     let p = err_from_is_err_and c.from_residual-in_err-check_bodies.result c.from_residual-in_err-check_bodies.ensures.1 in
     let told = giving_gives _ _ _ c.in_ok-plan.ensures in
     let at_hand = rw told.1 at c.contents.ensures in
-    let first : c.args.to ≡ First = differ _ Second (sym c.if-eq-2.ensures) in
-    let second : edition_of c.args.file.now ≡ Second =
-    ap edition_of (sym told.1) ∙ sym c.edition.ensures ∙ differ _ c.args.to (sym c.if-eq.ensures) ∙ ap other first in
-    let opened = opens c.args.to _ _ _ told.0 told.1 c.edition.ensures (differ _ c.args.to (sym c.if-eq.ensures)) in
-    let lost = c.in_err-check_bodies.ensures ∙ second_losses at_hand second in
+    let first = differ _ Second (sym c.if-eq-2.ensures) in
+    let is_second = second c.args.to told c.edition.ensures (differ _ c.args.to (sym c.if-eq.ensures)) first in
+    let opened = opens c.args.to told c.edition.ensures (differ _ c.args.to (sym c.if-eq.ensures)) in
+    let lost = c.in_err-check_bodies.ensures ∙ second_losses at_hand is_second in
     rw (p.1, p.2, check_rest c.args.to _ told.0 opened, first, ← lost)
 
 pub returns : goal.returns
 returns c =
     let told = giving_gives _ _ _ c.in_ok-plan.ensures in
     let at_hand = rw told.1 at c.contents.ensures in
-    let first : c.args.to ≡ First = differ _ Second (sym c.if-eq-2.ensures) in
-    let second : edition_of c.args.file.now ≡ Second =
-    ap edition_of (sym told.1) ∙ sym c.edition.ensures ∙ differ _ c.args.to (sym c.if-eq.ensures) ∙ ap other first in
-    let opened = opens c.args.to _ _ _ told.0 told.1 c.edition.ensures (differ _ c.args.to (sym c.if-eq.ensures)) in
-    let kept = c.in_ok-check_bodies.ensures ∙ second_losses at_hand second in
+    let first = differ _ Second (sym c.if-eq-2.ensures) in
+    let is_second = second c.args.to told c.edition.ensures (differ _ c.args.to (sym c.if-eq.ensures)) first in
+    let opened = opens c.args.to told c.edition.ensures (differ _ c.args.to (sym c.if-eq.ensures)) in
+    let kept = c.in_ok-check_bodies.ensures ∙ second_losses at_hand is_second in
     rw (told.1, check_rest c.args.to _ told.0 opened, first, ← kept)

@@ -1,5 +1,5 @@
-use Rattle.std.proofs.Common.{◌≡◌, ℕ, ◌∙◌, refl, arith}
-use lib.ListN.{length-set}
+use Rattle.std.proofs.Common.{◌≡◌, ℕ, [], ◌∷◌, ◌∙◌, refl, arith}
+use lib.ListN.{length-append}
 use Rattle.node_words.specs.declared.held.HeldEntries.{HeldEntries}
 use Rattle.node_words.specs.Held.{held_entries}
 use Rattle.node_words.proofs.Entries.{length-entries}
@@ -17,31 +17,30 @@ test_of n = node_test (held_entries n) n.held n.count (length-entries _ 0 _)
 map_of : (n : HeldEntries) (most : ℕ) → the_map (held_entries n) most ≡ first_of (pass_test completion_test (held_entries n)) (maps most n.count)
 map_of n most = map_first _ _ (length-entries _ 0 _) most
 
-pub returns-then-most-groups : goal.returns-then-most-groups
-returns-then-most-groups c =
+pub returns-then-most-len : goal.returns-then-most-len
+returns-then-most-len c =
     let n = c.args.node.now in
     let l = c.loop-end in
-    map_of n c.args.most ∙ reached_full (test_of n) _ l.starts l.end l.groups l.invariant.reached (omega arith) (omega arith)
+    map_of n c.args.most ∙ reached_full (test_of n) _ l.starts.items l.end l.invariant.reached (omega arith) (omega arith)
 
 pub returns-in_err-start : goal.returns-in_err-start
 returns-in_err-start c =
     let n = c.args.node.now in
     let l = c.loop-end in
     rw c.from_residual.ensures
-    (map_of n c.args.most ∙ reached_stop (test_of n) _ l.starts l.end l.groups l.invariant.reached (omega arith) (omega arith) c.in_err-start.ensures)
+    (map_of n c.args.most ∙ reached_stop (test_of n) _ l.starts.items l.end l.invariant.reached (omega arith) (omega arith) c.in_err-start.ensures)
 
 pub loop-end-preserved : goal.loop-end-preserved
 loop-end-preserved c =
     let n = c.args.node.now in
     let l = c.loop-end in
     let least = c.in_ok-start.ensures in
-    record {
-      reached = reached_next (test_of n) _ l.starts l.end l.groups l.invariant.reached _ (omega arith) (omega arith)
-          (omega (arith, l.invariant.sized)) least;
-      within = omega arith;
-      few = omega (arith, least.0);
-      sized = length-set l.starts l.groups c.in_ok-start.start ∙ l.invariant.sized;
-    }
+    rw c.push.ensures.items
+    (record {
+      reached = reached_next (test_of n) _ l.starts.items l.end l.invariant.reached _ (omega arith) (omega arith) least;
+      within = omega (arith, length-append l.starts.items (c.in_ok-start.start ∷ []));
+      few = omega (arith, least.0, length-append l.starts.items (c.in_ok-start.start ∷ []));
+    })
 
 pub invariant_of-result : goal.invariant_of-result
 invariant_of-result c =
@@ -49,12 +48,11 @@ invariant_of-result c =
     let l = c.loop-end in
     record {
       few = n.few;
-      inside = omega (arith, l.invariant.sized, n.few);
-      falling = (reached_end (test_of n) c.args.most l.starts l.end l.groups l.invariant.reached (omega arith)).falling;
+      falling = (reached_end (test_of n) c.args.most l.starts.items l.end l.invariant.reached (omega arith)).falling;
     }
 
 pub returns : goal.returns
 returns c =
     let n = c.args.node.now in
     let l = c.loop-end in
-    (rw (map_of n c.args.most) (reached_end (test_of n) c.args.most l.starts l.end l.groups l.invariant.reached (omega arith)), refl)
+    (rw (map_of n c.args.most) (reached_end (test_of n) c.args.most l.starts.items l.end l.invariant.reached (omega arith)), refl)

@@ -21,30 +21,30 @@ module _ (read : Input) (bytes old new : List ℕ) (result : Result ℕ Refusal)
   size : result ≡ Ok (length (listing bytes))
   size = listed_size bytes old new result (omega (arith, p.short)) p.text
 
+  -- so it is given with its length
+  long : {n : ℕ} → result ≡ Ok n → n ≡ length (listing bytes)
+  long q = let s = size in cc
+
   -- what was read is listed as the whole input is
-  shown : (n : ℕ) → n ≡ length (listing bytes) → (input : List ℕ) → InputOf input read → take n new ≡ listing input
-  shown n same input r =
+  shown : {n : ℕ} → result ≡ Ok n → (input : List ℕ) → InputOf input read → take n new ≡ listing input
+  shown {n} q input r =
       ap (take n) (listed_text bytes old new result (omega (arith, p.short)) p.text)
-      ∙ take_at (listing bytes) (drop (length (listing bytes)) old) n (sym same)
+      ∙ take_at (listing bytes) (drop (length (listing bytes)) old) n (sym (long q))
       ∙ ap listing (e ∙ sym r)
       ∙ long_listing (length read.array.now) (omega arith) input
 
-pub returns-in_default : goal.returns-in_default
-returns-in_default c =
-    let e = c.list_plan.ensures in
-    absurd (c.in_default.not-Ok _ (size c.args.read.now _ c.args.text.now c.list_plan.new.out c.list_plan.result c.bytes.ensures (omega arith) e))
+pub unwrap-length-requires : goal.unwrap-length-requires
+unwrap-length-requires c =
+    let s = size c.args.read.now _ c.args.text.now c.list_plan.new.out c.list_plan.result c.bytes.ensures (omega arith) c.list_plan.ensures in
+    cc
 
 pub shared_ref_as_front-result : goal.shared_ref_as_front-result
 shared_ref_as_front-result c =
-    let e = c.list_plan.ensures in
-    let s = size c.args.read.now _ c.args.text.now c.list_plan.new.out c.list_plan.result c.bytes.ensures (omega arith) e in
-    let same : c.in-Ok.length ≡ length (listing c.bytes.result.now) = let q = c.in-Ok.is in cc in
-    omega (arith, e.short)
+    let called = c.list_plan.ensures in
+    let same = long c.args.read.now _ c.args.text.now c.list_plan.new.out c.list_plan.result c.bytes.ensures (omega arith) called c.unwrap-length.ensures in
+    omega (arith, called.short)
 
 pub returns : goal.returns
 returns c =
-    let e = c.list_plan.ensures in
-    let s = size c.args.read.now _ c.args.text.now c.list_plan.new.out c.list_plan.result c.bytes.ensures (omega arith) e in
-    let same : c.in-Ok.length ≡ length (listing c.bytes.result.now) = let q = c.in-Ok.is in cc in
-    shown c.args.read.now _ c.args.text.now c.list_plan.new.out c.list_plan.result c.bytes.ensures (omega arith) e
-    c.in-Ok.length same
+    shown c.args.read.now _ c.args.text.now c.list_plan.new.out c.list_plan.result c.bytes.ensures (omega arith) c.list_plan.ensures
+    c.unwrap-length.ensures

@@ -1,4 +1,3 @@
-use Rattle.std.proofs.Common.{◌+◌}
 use mathlib.Core.Option.{some}
 use Rattle.node_words.specs.Held.{held_entries}
 use Rattle.completion.specs.Test.{completion_test}
@@ -10,4 +9,4 @@ use Rattle.map_store.proofs.put_groups.Given as goal
 
 -- the words of the groups before the level stand
 abbrev pub invariant-loop-level : goal.invariant-loop-level
-invariant-loop-level l = Agrees (keeping completion_test (held_entries l.node) (some (levels_in l.cuts))) (before (l.level + 1) (levels_in l.cuts)) l.cuts.count l.store
+invariant-loop-level l = Agrees (keeping completion_test (held_entries l.node) (some (levels_in l.cuts))) (before l.level (levels_in l.cuts)) l.cuts.count l.store

@@ -1,22 +1,38 @@
-use mathlib.Core.Path.{◌∙◌, sym}
+use Prim.Native.Nat.{ℕ, ◌≤◌}
+use mathlib.Core.Path.{◌≡◌, ◌∙◌, refl, sym}
+use mathlib.Core.Bool.{Bool, true, false, true≢false, ◌&&◌}
 use native.Mathlib.Omega.{arith}
+use lib.Dec.{leb}
+use borrow.Author.Tests.{leb-true, le-leb}
+use Rattle.task_model.specs.Limits.{most_levels}
+use Rattle.task_model.proofs.Tests.{and_true}
 use Rattle.task_model.proofs.Laws.{node_sizes, node_entries}
+use Rattle.node_words.specs.Words.{node_of}
 use Rattle.node_words.proofs.Entries.{length-entries}
 use Rattle.node_words.proofs.check_words.Goals as goal
-use Rattle.node_words.proofs.check_words.Goals.{then-levels-lt1-via-then-levels-lt1, then-levels-lt1-via-else-levels-lt1+then-levels, then-levels-lt1-via-else-levels-lt1+else-levels+then-count-gt-MOST_ENTRIES}
+use Rattle.node_words.proofs.check_words.Goals.{then-not-levels_hold-via-then-not-levels_hold, then-not-levels_hold-via-else-not-levels_hold+then-count-gt-MOST_ENTRIES}
 
-pub returns-then-levels-lt1 : goal.returns-then-levels-lt1
-returns-then-levels-lt1 c =
-    let n = length-entries c.args.words.now 0 c.args.count in
+-- what the test of a level count says
+module _ (levels : ℕ) {holds : Bool} (e : holds ≡ (leb 1 levels && leb levels most_levels)) where
+  within : holds ≡ true → (1 ≤ levels) × (levels ≤ most_levels)
+  within p = let q = and_true _ _ (sym e ∙ p) in (leb-true _ _ q.0, leb-true _ _ q.1)
+
+  outside : holds ≡ false → 1 ≤ levels → levels ≤ most_levels → ⊥
+  outside p h1 h2 = true≢false (sym (e ∙ rw (le-leb 1 levels h1, le-leb levels most_levels h2) refl) ∙ p)
+
+pub returns-then-not-levels_hold : goal.returns-then-not-levels_hold
+returns-then-not-levels_hold c =
+    let a = c.args in
+    let n = length-entries a.words.now 0 a.count in
     sym
-    (node_sizes _ _ (λ h1 h2 h3.
-    elim c.then-levels-lt1.branch [
-      | then-levels-lt1-via-then-levels-lt1 w ↦ omega arith
-      | then-levels-lt1-via-else-levels-lt1+then-levels w ↦ omega arith
-      | then-levels-lt1-via-else-levels-lt1+else-levels+then-count-gt-MOST_ENTRIES w ↦ omega arith
+    (node_sizes a.row (node_of a.words.now a.count a.levels) (λ h1 h2 h3.
+    elim c.then-not-levels_hold.branch [
+      | then-not-levels_hold-via-then-not-levels_hold w ↦ outside _ c.levels_hold.ensures w.if-not-levels_hold.true h1 h2
+      | then-not-levels_hold-via-else-not-levels_hold+then-count-gt-MOST_ENTRIES w ↦ omega arith
     ]))
 
 pub returns : goal.returns
-returns c = let a = c.args in
-    c.check_all.ensures
-    ∙ sym (node_entries _ _ (omega arith) (omega arith) (omega (arith, length-entries a.words.now 0 a.count)))
+returns c =
+    let a = c.args in
+    let levels = within a.levels c.levels_hold.ensures c.if-not-levels_hold.false in
+    c.check_all.ensures ∙ sym (node_entries _ _ levels.0 levels.1 (omega (arith, length-entries a.words.now 0 a.count)))

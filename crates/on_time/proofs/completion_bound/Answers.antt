@@ -1,4 +1,4 @@
-use Prim.Native.Nat.{ℕ, ◌+◌, ◌-◌, ◌*◌, ◌/◌, ◌≤◌, ◌<◌, min, max}
+use Prim.Native.Nat.{ℕ, ◌+◌, ◌-◌, ◌*◌, ◌/◌, ◌%◌, ◌≤◌, ◌<◌, min, max}
 use mathlib.Core.Path.{◌≡◌}
 use mathlib.Core.List.{List}
 use native.Mathlib.Nat.{le_trans, zero-mul, mul-le-mul_right}
@@ -28,7 +28,7 @@ whole c s m p h = omega arith
 
 -- from the quotient on, the work fits into what is left
 fits_from : (spare u us runs rs jitter js initial x : ℕ) → spare ≡ full_utilisation - u → u ≡ us → runs ≡ rs → js ≡ jitter → 1 ≤ spare
-    → (full_utilisation * (initial - runs) + jitter + (spare - 1)) / spare ≤ x
+    → (full_utilisation * (initial - runs) + jitter) / spare + min 1 ((full_utilisation * (initial - runs) + jitter) % spare) ≤ x
     → full_utilisation * (initial - rs) + js ≤ (full_utilisation - us) * x
 fits_from spare u us runs rs jitter js initial x p q r w some l =
     rw (← q, ← p, ← r, w) (ceil_enough (full_utilisation * (initial - runs) + jitter) spare x some l)
@@ -61,8 +61,9 @@ pub returns-clause-bound : goal.returns-clause-bound
 returns-clause-bound c t h w =
     let r = c.recurring_sum-r.ensures in
     no_later _ _ _ t c.max.ensures
+    (rw c.div_ceil-by_utilisation.ensures
     (ceil_least _ _ t (omega (arith, c.if-spare-eq0.false))
-    (rw (c.saturating_sub-spare.ensures, r.0, r.1) (le_trans (omega (arith, cut_most _ _ _ r.2)) w)))
+    (rw (c.saturating_sub-spare.ensures, r.0, r.1) (le_trans (omega (arith, cut_most _ _ _ r.2)) w))))
     h
 
 pub returns-clause-fits : goal.returns-clause-fits
@@ -70,4 +71,4 @@ returns-clause-fits c h =
     let r = c.recurring_sum-r.ensures in
     fits_from _ _ _ _ _ _ _ _ _ c.saturating_sub-spare.ensures r.0 r.1
     (whole _ _ _ r.2 (omega (arith, less _ _ _ _ _ r.1 c.requires.above, c.if-limit-once.false)))
-    (omega (arith, c.if-spare-eq0.false)) (omega (arith, c.max.ensures))
+    (omega (arith, c.if-spare-eq0.false)) (omega (arith, c.div_ceil-by_utilisation.ensures, c.max.ensures))

@@ -13,7 +13,8 @@ product u j p q = mul-le-mul p q
 
 pub returns-then-limit-e-clause-parts : goal.returns-then-limit-e-clause-parts
 returns-then-limit-e-clause-parts c = let r = recurs_not c.args.limit c.args.held.entry c.if-limit-e.true in
-    (sym r.0, sym r.1, sym r.2)
+    let d = c.default.ensures in
+    grind (arith, r.0, r.1, r.2)
 
 pub overflow_mul-result : goal.overflow_mul-result
 unfolding utilisation

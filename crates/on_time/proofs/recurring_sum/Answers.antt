@@ -20,9 +20,9 @@ pub loop-position-init : goal.loop-position-init
 loop-position-init c = record {
   little = omega arith;
   short = omega arith;
-  utilisation = sym (sum_to-none _);
-  runs = sym (sum_to-none _);
-  jitter = cut_none _ _;
+  utilisation = rw c.default-sum.ensures.0 (sym (sum_to-none _));
+  runs = rw c.default-sum.ensures.1.0 (sym (sum_to-none _));
+  jitter = rw c.default-sum.ensures.1.1 (cut_none _ _);
 }
 
 pub loop-position-preserved : goal.loop-position-preserved

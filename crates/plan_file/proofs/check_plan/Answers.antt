@@ -1,14 +1,19 @@
 use Prim.Native.Nat.{ℕ, ◌/◌, ◌≤◌}
 use mathlib.Core.List.{List, map}
 use mathlib.Core.Bool.{true}
+use mathlib.Core.Logic.{◌↔◌}
 use mathlib.Core.Path.{◌≡◌, ◌∙◌, sym}
 use native.Mathlib.Omega.{arith}
 use lib.ListN.{length, length-map}
 use Rattle.std.proofs.lemmas.Result.{err_from_is_err_and}
-use Rattle.node_words.specs.Words.{entry_size}
-use Rattle.plan_file.specs.Check.{count_test}
-use Rattle.plan_file.specs.Plan.{entry_count, row_of}
-use Rattle.plan_file.proofs.WriterChecks.{tally_holds, count_true, count_false, writer_count, writer_tally, writer_nodes}
+use Rattle.refusals.specs.Refusals.{Numbered, Outcome, accepted, refused}
+use Rattle.task_model.specs.Checks.{body_by}
+use Rattle.node_words.specs.Words.{entry_size, entries_from}
+use Rattle.plan_file.specs.declared.Edition.{Edition}
+use Rattle.plan_file.specs.Check.{count_test, bodies_by, written_check, words_check}
+use Rattle.plan_file.specs.Limits.{IsPlanInMemory}
+use Rattle.plan_file.specs.Plan.{most_nodes, entry_count, row_of}
+use Rattle.plan_file.proofs.WriterChecks.{tally, tally_holds, count_true, count_false, writer_count, writer_tally, writer_nodes}
 use Rattle.plan_file.proofs.Ensured.{plan_ensures}
 use Rattle.plan_file.proofs.check_plan.Goals as goal
 use Rattle.plan_file.proofs.check_plan.Goals.{then-rows-lt1-via-then-rows-lt1, then-rows-lt1-via-else-rows-lt1+then-rows}
@@ -24,16 +29,29 @@ returns-then-rows-lt1 c =
     ])))) in
     record { answer = both.0; exactly = both.1 }
 
--- the count of rows is accepted
-counts : (rows : List ℕ) → 1 ≤ length rows → length rows ≤ 32 → count_test (length (map row_of rows)) ≡ true
-counts rows some few = count_true _ (omega (arith, length-map rows row_of)) (omega (arith, length-map rows row_of))
+-- as many rows as a plan may have
+module _ (ed : Edition) (rows words : List ℕ) (some : 1 ≤ length rows) (few : length rows ≤ most_nodes) where
+  counts : count_test (length (map row_of rows)) ≡ true
+  counts = count_true _ (omega (arith, some, length-map rows row_of)) (omega (arith, few, length-map rows row_of))
+
+  by_rows : (r : Numbered) → refused r ≡ tally (map row_of rows) (length words)
+      → (refused r ≡ words_check ed rows words) × (refused r ≡ accepted ↔ IsPlanInMemory ed rows words)
+  by_rows r e = plan_ensures ed rows words (sym (writer_tally _ _ _ _ counts r (sym e)))
+
+  -- that pass the check of rows
+  module _ (passed : accepted ≡ tally (map row_of rows) (length words)) where
+    counted : length words / entry_size ≡ entry_count (map row_of rows)
+    counted = omega (arith, (tally_holds _ _ (sym passed)).1)
+
+    by_nodes : {v : Edition} → ed ≡ v → {o : Outcome}
+        → o ≡ bodies_by (body_by (written_check v)) 0 (map row_of rows) (entries_from words 0 (entry_count (map row_of rows)))
+        → (o ≡ words_check ed rows words) × (o ≡ accepted ↔ IsPlanInMemory ed rows words)
+    by_nodes is e = plan_ensures ed rows words ((rw (← counted, ← is) at e) ∙ sym (writer_nodes _ _ _ _ counts (sym passed)))
 
 pub returns-in_err-check_rows : goal.returns-in_err-check_rows
 returns-in_err-check_rows c =
     let p = err_from_is_err_and c.from_residual.result c.from_residual.ensures.1 in
-    let both =
-    plan_ensures c.args.edition c.args.rows.now c.args.entries.now
-    (sym (writer_tally _ _ _ _ (counts c.args.rows.now (omega arith) (omega arith)) _ (sym c.in_err-check_rows.ensures))) in
+    let both = by_rows c.args.edition c.args.rows.now c.args.entries.now (omega arith) (omega arith) _ c.in_err-check_rows.ensures in
     rw (p.1, p.2) (record { answer = both.0; exactly = both.1 })
 
 pub check_nodes-requires : goal.check_nodes-requires
@@ -44,20 +62,11 @@ check_nodes-requires-in-Second c = omega (arith, (tally_holds _ _ (sym c.in_ok-c
 
 pub returns-in-First : goal.returns-in-First
 returns-in-First c =
-    let n = (tally_holds _ _ (sym c.in_ok-check_rows.ensures)).1 in
-    let e : length c.args.entries.now / entry_size ≡ entry_count (map row_of c.args.rows.now) = omega arith in
-    let nodes = rw (← e, ← c.in-First.is) at c.check_nodes.ensures in
-    let both =
-    plan_ensures c.args.edition c.args.rows.now c.args.entries.now
-    (nodes ∙ sym (writer_nodes _ _ _ _ (counts c.args.rows.now (omega arith) (omega arith)) (sym c.in_ok-check_rows.ensures))) in
+    let both = by_nodes c.args.edition c.args.rows.now c.args.entries.now (omega arith) (omega arith) c.in_ok-check_rows.ensures c.in-First.is c.check_nodes.ensures in
     record { answer = both.0; exactly = both.1 }
 
 pub returns-in-Second : goal.returns-in-Second
+unfolding written_check
 returns-in-Second c =
-    let n = (tally_holds _ _ (sym c.in_ok-check_rows.ensures)).1 in
-    let e : length c.args.entries.now / entry_size ≡ entry_count (map row_of c.args.rows.now) = omega arith in
-    let nodes = rw (← e, ← c.in-Second.is) at c.check_nodes-in-Second.ensures in
-    let both =
-    plan_ensures c.args.edition c.args.rows.now c.args.entries.now
-    (nodes ∙ sym (writer_nodes _ _ _ _ (counts c.args.rows.now (omega arith) (omega arith)) (sym c.in_ok-check_rows.ensures))) in
+    let both = by_nodes c.args.edition c.args.rows.now c.args.entries.now (omega arith) (omega arith) c.in_ok-check_rows.ensures c.in-Second.is c.check_nodes-in-Second.ensures in
     record { answer = both.0; exactly = both.1 }

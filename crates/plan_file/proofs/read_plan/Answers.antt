@@ -6,8 +6,9 @@ use Rattle.std.proofs.lemmas.Result.{err_from_is_err_and}
 use Rattle.byte_words.specs.Buffers.{over}
 use Rattle.byte_words.proofs.Buffers.{over_start}
 use Rattle.refusals.proofs.Outcomes.{giving_refuses, giving_gives}
+use Rattle.plan_file.specs.declared.Edition.{Edition}
 use Rattle.plan_file.specs.Plan.{entry_count, row_word}
-use Rattle.plan_file.specs.Encoding.{entry_length}
+use Rattle.plan_file.specs.Encoding.{entry_length, bodies_start}
 use Rattle.plan_file.specs.Decoding.{edition_of, node_count, rows_in}
 use Rattle.plan_file.proofs.Encoding.{entry_long}
 use Rattle.plan_file.proofs.Reading.{read_refused, read_few_rows, read_few_words, read_filled, entries_left}
@@ -23,6 +24,14 @@ module _ (f g : List ℕ) (same : g ≡ f) where
 
   count_same : (n : ℕ) → n ≡ entry_count (rows_in g) → n ≡ entry_count (rows_in f)
   count_same n e = e ∙ ap (λ h. entry_count (rows_in h)) same
+
+  edition_same : (ed : Edition) → ed ≡ edition_of g → ed ≡ edition_of f
+  edition_same ed e = e ∙ ap edition_of same
+
+  -- and of its contents, with bytes `h` and `n` rows
+  start_same : {h : List ℕ} {n : ℕ} → ◌≡◌ {A = List ℕ × ℕ} (h, n) (g, node_count g) → (k : ℕ) → k ≡ bodies_start n
+      → k ≡ bodies_start (node_count f)
+  start_same told k e = e ∙ ap bodies_start (ap (λ p. p.1) told ∙ ap node_count same)
 
 pub returns-in_err-accepted : goal.returns-in_err-accepted
 returns-in_err-accepted c =
@@ -70,19 +79,20 @@ pub copy_rows-requires : goal.copy_rows-requires
 copy_rows-requires c =
     let told = giving_gives _ _ _ c.in_ok-accepted.ensures in
     let nodes = nodes_same c.args.file.now _ told.1 _ c.nodes-nodes.ensures.value in
-    omega (arith, nodes, ap (λ p. p.1) (rw told.1 at c.contents.ensures))
+    omega (arith, nodes, ap (λ p. p.1) (rw told.1 at c.contents-contents.ensures))
 
 pub copy_entries-requires : goal.copy_entries-requires
 copy_entries-requires c =
     let told = giving_gives _ _ _ c.in_ok-accepted.ensures in
     let nodes = nodes_same c.args.file.now _ told.1 _ c.nodes-nodes.ensures.value in
     let count = count_same c.args.file.now _ told.1 _ c.entries-count.ensures in
-    let edition : c.edition-edition.result ≡ edition_of c.args.file.now = c.edition-edition.ensures ∙ ap edition_of told.1 in
+    let edition = edition_same c.args.file.now _ told.1 _ c.edition-edition.ensures in
+    let start = start_same c.args.file.now _ told.1 c.contents-contents.ensures _ c.bodies_start-start.ensures in
     entries_room c.edition-edition.result c.args.file.now _ c.entries-count.result c.args.entries.now (omega arith)
     (omega (
       arith,
       (file_holds _ told.0).ends,
-      nodes,
+      start,
       ap (λ n. n * entry_length c.edition-edition.result) count,
       ap (λ ed. entry_count (rows_in c.args.file.now) * entry_length ed) edition,
     ))
@@ -92,11 +102,12 @@ returns c =
     let told = giving_gives _ _ _ c.in_ok-accepted.ensures in
     let nodes = nodes_same c.args.file.now _ told.1 _ c.nodes-nodes.ensures.value in
     let count = count_same c.args.file.now _ told.1 _ c.entries-count.ensures in
-    let edition : c.edition-edition.result ≡ edition_of c.args.file.now = c.edition-edition.ensures ∙ ap edition_of told.1 in
+    let edition = edition_same c.args.file.now _ told.1 _ c.edition-edition.ensures in
+    let start = start_same c.args.file.now _ told.1 c.contents-contents.ensures _ c.bodies_start-start.ensures in
     let both = read_ensures {f = c.args.file.now} {rows = c.args.rows.now} {words = c.args.entries.now} (λ i. (c.type_inv.file i).fits)
     (record {
       answer = sym (read_filled _ _ _ told.0 _ _ _ edition nodes count (omega arith) (omega arith));
-      rows_there = c.copy_rows.ensures ∙ ap (λ rs. over c.args.rows.now 0 (map row_word rs)) (rows_listed (rw told.1 at c.contents.ensures)) ∙ over_start _ _;
-      words_there = entries_left _ _ _ _ edition (omega (arith, nodes)) count _ _ (entries_filled _ _ _ _ _ (omega arith) _ c.copy_entries.ensures);
+      rows_there = c.copy_rows.ensures ∙ ap (λ rs. over c.args.rows.now 0 (map row_word rs)) (rows_listed (rw told.1 at c.contents-contents.ensures)) ∙ over_start _ _;
+      words_there = entries_left _ _ _ _ edition start count _ _ (entries_filled _ _ _ _ _ (omega arith) _ c.copy_entries.ensures);
     }) in
     record { read_call = both.0; written_again = both.1 }

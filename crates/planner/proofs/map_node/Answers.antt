@@ -17,9 +17,9 @@ returns-in_err-found c =
     let q = find_refuses _ _ _ c.in_err-found.ensures.answer in
     rw (p.1, p.2)
     (record {
-      result_value = sym (file_refused _ _ _ q _);
-      out_after = refl;
-      node_best_map_or_none = λ t. absurd (not_both t q);
+      answered = sym (file_refused _ _ _ q _);
+      written = refl;
+      best = λ t. absurd (not_both t q);
     })
 
 pub invariant_of-node : goal.invariant_of-node
@@ -42,7 +42,7 @@ returns c =
     record { answered = h.answered; written = h.written; best = h.best } in
     let m = rw e.holding at held in
     record {
-      result_value = m.answered ∙ sym (file_found _ _ (find_gives_lem _ _ _ e.answer) _);
-      out_after = m.written;
-      node_best_map_or_none = λ t. m.best;
+      answered = m.answered ∙ sym (file_found _ _ (find_gives_lem _ _ _ e.answer) _);
+      written = m.written;
+      best = λ t. m.best;
     }

@@ -8,5 +8,5 @@ pub returns-clause-list : goal.returns-clause-list
 returns-clause-list c =
     let a = c.args in
     let come : c.from-come.result ≡ length (option_to_list a.new) = search rules in
-    list_spliced a.words.now (λ i. (c.slice_known-1.given i).fits) c.requires.size a.count c.requires.within.1 a.position a.gone _ c.requires.within.0 c.requires.room
+    list_spliced a.words.now c.fits-words c.told-words a.count c.requires.within.1 a.position a.gone _ c.requires.within.0 c.requires.room
     (rw (← come) c.copy_within.ensures.after) c.store_new.ensures (rw (← come) c.clear_from.ensures)

@@ -1,11 +1,10 @@
-use Prim.Native.Nat.{◌*◌, ◌≤◌}
+use Prim.Native.Nat.{◌*◌}
 use mathlib.Core.List.{map}
 use mathlib.Core.Path.{◌∙◌, refl, sym, ap}
 use native.Mathlib.Omega.{arith}
 use lib.Seq.{take_all}
 use lib.ListN.{length-map}
-use Rattle.plan_file.specs.declared.Edition.TheVariants.{Second}
-use Rattle.plan_file.specs.Encoding.{contents_bytes, entry_length}
+use Rattle.plan_file.specs.Encoding.{contents_bytes}
 use Rattle.plan_file.specs.Plan.{entry_count, row_of}
 use Rattle.byte_words.specs.Buffers.{over}
 use Rattle.plan_file.specs.declared.Row.{Row}
@@ -19,27 +18,22 @@ pub loop-row-init : goal.loop-row-init
 unfolding contents_bytes entry_count
 loop-row-init c = (refl, omega arith, omega arith, sym (over_nothing _ 8))
 
-pub overflow_mul-offset-in-loop-row : goal.overflow_mul-offset-in-loop-row
-overflow_mul-offset-in-loop-row c =
-    let short : c.from.result.count * c.entry_bytes-size.result ≤ c.from.result.count * entry_length Second = size_short c.args.edition _ c.entry_bytes-size.ensures _ in
-    omega (arith, short)
+pub overflow_mul-offset : goal.overflow_mul-offset
+overflow_mul-offset c = omega (arith, size_short c.args.edition _ c.entry_bytes-size.ensures c.from.result.count)
 
-pub overflow_add-offset-in-loop-row : goal.overflow_add-offset-in-loop-row
-overflow_add-offset-in-loop-row c =
-    let short : c.from.result.count * c.entry_bytes-size.result ≤ c.from.result.count * entry_length Second = size_short c.args.edition _ c.entry_bytes-size.ensures _ in
-    omega (arith, short)
+pub overflow_add-offset : goal.overflow_add-offset
+overflow_add-offset c = omega (arith, size_short c.args.edition _ c.entry_bytes-size.ensures c.from.result.count)
 
 pub loop-row-preserved : goal.loop-row-preserved
 loop-row-preserved c =
-    let short : c.from.result.count * c.entry_bytes-size.result ≤ c.from.result.count * entry_length Second = size_short c.args.edition _ c.entry_bytes-size.ensures _ in
     let size = c.entry_bytes-size.result in
     let row = memory_row c.args.rows.now _ _ c.loop-row-test.true refl in
     let r = ap (λ (r : Row). r.count) c.from.ensures in (
       omega (arith, c.put_row.auto.file),
       omega (arith, ap (λ n. n * size) (count_more row), ap (λ n. n * size) r),
-      omega (arith, r, short),
+      omega (arith, r, size_short c.args.edition _ c.entry_bytes-size.ensures c.from.result.count),
       c.put_row.ensures
-          ∙ rw c.loop-row.invariant.3
+          ∙ rw (c.row_start.ensures, c.loop-row.invariant.3)
           (over_next _ 8 _ _ _ (contents_length row _ _) (omega arith)
           ∙ ap (over _ 8) (contents_more row _ _ _ c.loop-row.invariant.1)),
     )

@@ -6,7 +6,7 @@ use Rattle.planner_c.proofs.conversions.maiplur_convert_forward.Goals as goal
 pub returns : goal.returns
 returns c =
     let e = c.forward.ensures in record {
-      values_after = c.give.ensures ∙ of_number c.forward.result ∙ ap sized e.convert_call.answer;
-      out_after = rw e.convert_call.answer at e.convert_call.there;
+      answered = c.give.ensures ∙ of_number c.forward.result ∙ ap sized e.convert_call.answer;
+      written = rw e.convert_call.answer at e.convert_call.there;
       converted_again = rw e.convert_call.answer at e.converted_again;
     }

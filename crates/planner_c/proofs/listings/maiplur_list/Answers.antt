@@ -6,7 +6,7 @@ use Rattle.planner_c.proofs.listings.maiplur_list.Goals as goal
 pub returns : goal.returns
 returns c =
     let e = c.list_plan.ensures in record {
-      values_after = c.give.ensures ∙ of_number c.list_plan.result ∙ ap sized e.text.answer;
-      text_after = rw e.text.answer at e.text.there;
-      file_len_bound = e.short;
+      answered = c.give.ensures ∙ of_number c.list_plan.result ∙ ap sized e.text.answer;
+      written = rw e.text.answer at e.text.there;
+      short = e.short;
     }

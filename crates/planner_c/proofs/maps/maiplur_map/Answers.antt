@@ -6,7 +6,7 @@ use Rattle.planner_c.proofs.maps.maiplur_map.Goals as goal
 pub returns : goal.returns
 returns c =
     let e = c.map_node.ensures in record {
-      values_after = c.give.ensures ∙ of_number c.map_node.result ∙ ap sized e.result_value;
-      levels_after = rw e.result_value at e.out_after;
-      node_best_map_or_none = rw e.result_value at e.node_best_map_or_none;
+      answered = c.give.ensures ∙ of_number c.map_node.result ∙ ap sized e.answered;
+      written = rw e.answered at e.written;
+      best = rw e.answered at e.best;
     }

@@ -8,6 +8,6 @@ pub returns : goal.returns
 returns c =
     let k = c.check_file in
     let p = c.give.ensures ∙ of_check k.result in record {
-      values_after = p ∙ ap checked k.ensures.answer;
-      variant = zero_exactly k.result _ p k.ensures.exactly;
+      answered = p ∙ ap checked k.ensures.answer;
+      exactly = zero_exactly k.result _ p k.ensures.exactly;
     }

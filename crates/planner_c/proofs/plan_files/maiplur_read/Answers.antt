@@ -6,8 +6,8 @@ use Rattle.planner_c.proofs.plan_files.maiplur_read.Goals as goal
 pub returns : goal.returns
 returns c =
     let e = c.read_plan.ensures in record {
-      values_after = c.give.ensures ∙ of_plan c.read_plan.result ∙ ap sized_plan e.read_call.answer;
-      rows_after = rw e.read_call.answer at e.read_call.rows_there;
-      entries_after = rw e.read_call.answer at e.read_call.words_there;
+      answered = c.give.ensures ∙ of_plan c.read_plan.result ∙ ap sized_plan e.read_call.answer;
+      rows = rw e.read_call.answer at e.read_call.rows_there;
+      entries = rw e.read_call.answer at e.read_call.words_there;
       written_again = rw e.read_call.answer at e.written_again;
     }

@@ -6,7 +6,7 @@ use Rattle.planner_c.proofs.plan_files.maiplur_write.Goals as goal
 pub returns : goal.returns
 returns c =
     let e = c.write_in.ensures in record {
-      values_after = c.give.ensures ∙ of_number c.write_in.result ∙ ap sized e.answer;
-      file_after = rw e.answer at e.file_after;
-      read_again = rw e.answer at e.read_again;
+      answered = c.give.ensures ∙ of_number c.write_in.result ∙ ap sized e.answered;
+      written = rw e.answered at e.written;
+      read_again = rw e.answered at e.read_again;
     }

@@ -8,7 +8,7 @@ pub returns : goal.returns
 returns c =
     let a = c.args in
     let t = session_in a.words.now in record {
-      values_after = map_returned t a.levels.now c.map.ensures _ (c.give.ensures ∙ of_number c.map.result);
-      levels_after = map_buffer t a.levels.now c.map.ensures;
-      node_best_map_or_none = map_best t a.levels.now c.map.ensures;
+      answered = map_returned t a.levels.now c.map.ensures _ (c.give.ensures ∙ of_number c.map.result);
+      written = map_buffer t a.levels.now c.map.ensures;
+      best = map_best t a.levels.now c.map.ensures;
     }

@@ -10,11 +10,15 @@ use Rattle.session.proofs.in_words.splice.Goals as goal
 pub remember-requires-clause-held : goal.remember-requires-clause-held
 remember-requires-clause-held c =
     let a = c.args in
-    let e = splice_back a.words.now (omega arith) a.position a.gone _ c.requires.within.0 c.requires.few _ _ c.splice-left.ensures.left c.splice-left.ensures.list in
-    subst (λ (s : Session). AllHold (node_in s).entries) (sym e) c.requires.held
+    let parts = c.split_at_mut-rest.ensures in
+    let node = rw (c.unwrap.ensures, parts.back) at c.first_chunk_mut.ensures.cases in
+    let e = splice_back a.words.now (omega arith) a.position a.gone _ c.requires.within.0 c.requires.few _ _ c.splice-left.ensures.left (rw node.same at c.splice-left.ensures.list) in
+    rw (parts.front, parts.back) (subst (λ (s : Session). AllHold (node_in s).entries) (sym e) c.requires.held)
 
 pub returns : goal.returns
 returns c =
     let a = c.args in
-    let e = splice_back a.words.now (omega arith) a.position a.gone _ c.requires.within.0 c.requires.few _ _ c.splice-left.ensures.left c.splice-left.ensures.list in
-    c.remember.ensures ∙ ap (λ (s : Session). words_in (remembered s)) e
+    let parts = c.split_at_mut-rest.ensures in
+    let node = rw (c.unwrap.ensures, parts.back) at c.first_chunk_mut.ensures.cases in
+    let e = splice_back a.words.now (omega arith) a.position a.gone _ c.requires.within.0 c.requires.few _ _ c.splice-left.ensures.left (rw node.same at c.splice-left.ensures.list) in
+    c.remember.ensures ∙ rw (parts.front, parts.back) (ap (λ (s : Session). words_in (remembered s)) e)

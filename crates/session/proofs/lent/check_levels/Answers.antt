@@ -1,12 +1,12 @@
-use mathlib.Core.Path.{sym}
-use Rattle.session.proofs.Checking.{levels_low, levels_high, levels_within}
+use mathlib.Core.Path.{◌∙◌, sym, ap}
+use Rattle.refusals.specs.Refusals.{at, must_hold}
+use Rattle.session.specs.Operations.{levels_check}
 use Rattle.session.proofs.lent.check_levels.Goals as goal
 
-pub returns-then-levels-lt1 : goal.returns-then-levels-lt1
-returns-then-levels-lt1 c = sym (levels_low _ c.if-levels-lt1.true)
-
-pub returns-then-levels-gt-MOST_LEVELS : goal.returns-then-levels-gt-MOST_LEVELS
-returns-then-levels-gt-MOST_LEVELS c = sym (levels_high _ c.if-levels-lt1.false c.if-levels-gt-MOST_LEVELS.true)
+pub returns-then-not-levels_hold : goal.returns-then-not-levels_hold
+unfolding levels_check
+returns-then-not-levels_hold c = ap (λ holds. must_hold holds (at 4 0 0)) (sym c.if-not-levels_hold.true ∙ c.levels_hold.ensures)
 
 pub returns : goal.returns
-returns c = sym (levels_within _ c.if-levels-lt1.false c.if-levels-gt-MOST_LEVELS.false)
+unfolding levels_check
+returns c = ap (λ holds. must_hold holds (at 4 0 0)) (sym c.if-not-levels_hold.false ∙ c.levels_hold.ensures)

@@ -12,12 +12,11 @@ use Rattle.task_model.proofs.entries.check_numbers.Goals as goal
 use Rattle.task_model.proofs.entries.check_numbers.Goals.{else-marks-place-via-then-marks-place+else-has_number, else-marks-place-via-else-marks-place}
 
 pub loop-position-init : goal.loop-position-init
-loop-position-init g c = let es : List Entry = g.L.EntryList.entries c.args.list.now in (c.told-marks, passed_first es g.row.N _ _)
+loop-position-init g c = (c.told-marks, passed_first _ g.row.N _ _)
 
 pub returns-then-has_number : goal.returns-then-has_number
 returns-then-has_number g c =
-    let es : List Entry = g.L.EntryList.entries c.args.list.now in
-    passed_stop es g.row.N _ _ _ c.loop-position.invariant.1 _ c.number-number.ensures
+    passed_stop _ g.row.N _ _ _ c.loop-position.invariant.1 _ c.number-number.ensures
     (omega (arith, c.loop-position-test.true, c.len-position-end.ensures)) _
     (sym c.has_number.ensures ∙ c.if-has_number.true)
 
@@ -37,5 +36,4 @@ loop-position-preserved g c =
 
 pub returns : goal.returns
 returns g c =
-    let es : List Entry = g.L.EntryList.entries c.args.list.now in
-    passed_end es g.row.N _ _ _ c.loop-position.invariant.1 _ (omega (arith, c.loop-position-test.false, c.len-position-end.ensures))
+    passed_end _ g.row.N _ _ _ c.loop-position.invariant.1 _ (omega (arith, c.loop-position-test.false, c.len-position-end.ensures))

@@ -10,27 +10,24 @@ use Rattle.task_model.proofs.Numbers.{none_first, none_next, none_end, has_numbe
 use Rattle.task_model.proofs.entries.has_number.Goals as goal
 
 -- the number of an entry among the first ones
-among : (es : List Entry) (count j n : ℕ) → j < count → n ≡ (entry_at es j).number → n ≡ (entry_at (take count es) j).number
-among es count j n h e = e ∙ ap (λ (x : Entry). x.number) (sym (get_or-take count es j no_entry h))
+among : (es : List Entry) (count : ℕ) {j n : ℕ} → j < count → n ≡ (entry_at es j).number → n ≡ (entry_at (take count es) j).number
+among es count {j} h e = e ∙ ap (λ (x : Entry). x.number) (sym (get_or-take count es j no_entry h))
 
 pub loop-position-init : goal.loop-position-init
 loop-position-init g c = none_first _ _
 
 pub returns-then-number : goal.returns-then-number
 returns-then-number g c =
-    let es : List Entry = g.L.EntryList.entries c.args.list.now in
     sym
-    (has_number_lem _ (take c.args.count es) c.loop-position.position
-    (omega (arith, c.loop-position-test.true, length-take-le c.args.count es c.requires))
-    (sym (among es _ _ _ c.loop-position-test.true c.number.ensures) ∙ c.if-number.true))
+    (has_number_lem _ _ c.loop-position.position
+    (omega (arith, c.loop-position-test.true, length-take-le c.args.count _ c.requires))
+    (sym (among _ _ c.loop-position-test.true c.number.ensures) ∙ c.if-number.true))
 
 pub loop-position-preserved : goal.loop-position-preserved
 loop-position-preserved g c =
-    let es : List Entry = g.L.EntryList.entries c.args.list.now in
-    none_next _ (take c.args.count es) _ c.loop-position.invariant
-    (λ e. c.if-number.false (among es _ _ _ c.loop-position-test.true c.number.ensures ∙ e))
+    none_next _ _ _ c.loop-position.invariant (λ e. c.if-number.false (among _ _ c.loop-position-test.true c.number.ensures ∙ e))
 
 pub returns : goal.returns
 returns g c =
-    let es : List Entry = g.L.EntryList.entries c.args.list.now in
-    none_end _ _ _ c.loop-position.invariant (omega (arith, c.loop-position-test.false, length-take-le c.args.count es c.requires))
+    none_end _ _ _ c.loop-position.invariant
+    (omega (arith, c.loop-position-test.false, length-take-le c.args.count _ c.requires))

@@ -9,7 +9,7 @@ use Rattle.plan_file.proofs.File.{file_holds}
 use Rattle.plan_file.proofs.checked.PlanFile.entries.Goals as goal
 
 pub overflow_sub-self : goal.overflow_sub-self
-overflow_sub-self c = omega (arith, c.nodes.ensures.value, (file_holds _ c.args.self.now.accepted).header.contents)
+overflow_sub-self c = omega (arith, ap (λ p. p.1) c.contents.ensures, (file_holds _ c.args.self.now.accepted).header.contents)
 
 pub returns : goal.returns
 returns c =
@@ -18,7 +18,7 @@ returns c =
     (omega (
       arith,
       (file_holds f c.args.self.now.accepted).ends,
-      c.nodes.ensures.value,
+      ap (λ p. p.1) c.contents.ensures,
       ap (λ ed. entry_count (rows_in f) * entry_length ed) c.edition.ensures,
     ))
     c.entries_in.ensures

@@ -13,8 +13,8 @@ returns-then-not-opens_known c = rw (header_opening c.args.file.now (omega arith
 pub returns-then-not-counted : goal.returns-then-not-counted
 returns-then-not-counted c = rw (header_count c.args.file.now (omega arith) (sym c.opens_known.ensures ∙ not-false _ c.if-not-opens_known.false-raw) (sym c.counted.ensures ∙ not-true _ c.if-not-counted.true-raw))
 
-pub returns-then-file-nodes : goal.returns-then-file-nodes
-returns-then-file-nodes c = rw (header_cut c.args.file.now (omega arith) (sym c.opens_known.ensures ∙ not-false _ c.if-not-opens_known.false-raw) (sym c.counted.ensures ∙ not-false _ c.if-not-counted.false-raw) (omega arith))
+pub returns-then-file-bodies_start : goal.returns-then-file-bodies_start
+returns-then-file-bodies_start c = rw (header_cut c.args.file.now (omega arith) (sym c.opens_known.ensures ∙ not-false _ c.if-not-opens_known.false-raw) (sym c.counted.ensures ∙ not-false _ c.if-not-counted.false-raw) (omega arith))
 
 pub returns : goal.returns
 returns c = rw (header_accepted c.args.file.now (omega arith) (sym c.opens_known.ensures ∙ not-false _ c.if-not-opens_known.false-raw) (sym c.counted.ensures ∙ not-false _ c.if-not-counted.false-raw) (omega arith), ← c.nodes-nodes.ensures.0)

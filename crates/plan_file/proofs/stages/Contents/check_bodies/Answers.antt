@@ -36,7 +36,7 @@ module _ (ed : Edition) (f : List ℕ) (n i : ℕ) (r : Row) (start : ℕ) (h : 
     passed size s p = sym (bodies_here check (entries_run ed f) at_row start _ (ap (λ m. start + r.count * m) s) accepted (sym p)) ∙ all
 
 pub loop-row-init : goal.loop-row-init
-loop-row-init g c = (c.requires, refl)
+loop-row-init g c = rw c.bodies_start-start.ensures (c.requires, refl)
 
 pub invariant_of-body : goal.invariant_of-body
 invariant_of-body g c =
@@ -49,13 +49,13 @@ returns-in_err-check_all g c =
     rw (p.1, p.2)
     (stopped g.E.Layout.edition _ _ _ _ _ c.loop-row-test.true c.row-count.ensures g.C.ListCheck.says_all c.loop-row.invariant.1 _ c.in_err-check_all.ensures)
 
-pub overflow_mul-start-in-loop-row : goal.overflow_mul-start-in-loop-row
-overflow_mul-start-in-loop-row g c =
+pub overflow_mul-start : goal.overflow_mul-start
+overflow_mul-start g c =
     let size = c.ENTRY_BYTES.ensures ∙ g.met.E.Layout.entry_bytes in
     omega (arith, bodies_fit g.E.Layout.edition _ _ _ _ c.loop-row.start c.loop-row-test.true c.row-count.ensures _ size c.loop-row.invariant.0)
 
-pub overflow_add-start-in-loop-row : goal.overflow_add-start-in-loop-row
-overflow_add-start-in-loop-row g c =
+pub overflow_add-start : goal.overflow_add-start
+overflow_add-start g c =
     let size = c.ENTRY_BYTES.ensures ∙ g.met.E.Layout.entry_bytes in
     omega (arith, bodies_fit g.E.Layout.edition _ _ _ _ c.loop-row.start c.loop-row-test.true c.row-count.ensures _ size c.loop-row.invariant.0)
 

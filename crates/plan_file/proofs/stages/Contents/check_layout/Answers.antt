@@ -1,11 +1,14 @@
-use Prim.Native.Nat.{◌*◌, ◌≤◌}
-use mathlib.Core.Path.{◌∙◌, refl, sym}
+use Prim.Native.Nat.{ℕ, ◌+◌, ◌*◌, ◌<◌}
+use mathlib.Core.Path.{◌≡◌, ◌∙◌, refl, sym}
+use mathlib.Core.Bool.{Bool, true, false}
+use mathlib.Core.List.{List}
 use native.Mathlib.Omega.{arith}
-use lib.ListN.{length}
+use lib.ListN.{length, drop}
 use borrow.Author.Tests.{not-true, not-false, eq-eqb, ne_eqb}
-use Rattle.plan_file.specs.declared.Edition.TheVariants.{Second}
-use Rattle.plan_file.specs.Decoding.{offset_at, rows_from}
-use Rattle.plan_file.specs.Encoding.{entry_length}
+use Rattle.refusals.specs.Refusals.{Outcome, at, refused}
+use Rattle.plan_file.specs.declared.Row.{Row}
+use Rattle.plan_file.specs.Check.{row_test, layout_check}
+use Rattle.plan_file.specs.Decoding.{row_at, offset_at, rows_from}
 use Rattle.byte_words.proofs.Runs.{AtHand, run_none}
 use Rattle.plan_file.proofs.Contents.{rows_run, file_row}
 use Rattle.plan_file.proofs.Encoding.{size_short}
@@ -13,46 +16,48 @@ use Rattle.plan_file.proofs.Rows.{layout_here, layout_end}
 use Rattle.refusals.proofs.Outcomes.{must_hold-accepts, must_hold-refuses}
 use Rattle.plan_file.proofs.stages.Contents.check_layout.Goals as goal
 
+-- row `i` of a file, and then the rows after it, by the test of the row
+module _ (size : ℕ) (f : List ℕ) (n i least required : ℕ) (r : Row) (h : i < n) (e : r ≡ row_at f i) (a : Bool) (t : a ≡ row_test least r)
+    {o : Outcome} (all : layout_check size f i least required (drop i (rows_from f 0 n)) ≡ o) where
+  at_row : AtHand (rows_from f 0 n) i r
+  at_row = file_row f n i r h e
+
+  row_refused : a ≡ false → refused (at 4 i 0) ≡ o
+  row_refused p = sym (layout_here at_row size f least required _ _ (sym t ∙ p) refl) ∙ all
+
+  offset_refused : a ≡ true → (offset_at f i ≡ required → ⊥) → refused (at 5 i 0) ≡ o
+  offset_refused p q = sym (layout_here at_row size f least required _ _ (sym t ∙ p) (ne_eqb (offset_at f i) required q)) ∙ all
+
+  passed : a ≡ true → offset_at f i ≡ required
+      → layout_check size f (i + 1) (r.number + 1) (required + r.count * size) (drop (i + 1) (rows_from f 0 n)) ≡ o
+  passed p q = sym (layout_here at_row size f least required _ _ (sym t ∙ p) (eq-eqb (offset_at f i) required q)) ∙ all
+
 pub loop-row-init : goal.loop-row-init
-loop-row-init c = (omega arith, omega arith, refl)
+loop-row-init c = (omega arith, omega arith, rw c.bodies_start-required.ensures)
 
 pub returns-then-not-held : goal.returns-then-not-held
-returns-then-not-held c =
-    let at_row : AtHand (rows_from c.args.self.now.file.now 0 c.args.self.now.nodes) c.loop-row.row c.row-r.result = file_row _ _ _ _ c.loop-row-test.true c.row-r.ensures in
-    rw (← c.entry_bytes-size.ensures)
-    (sym (layout_here (at_row) _ _ _ _ _ _ (sym c.row_holds-held.ensures ∙ not-true _ c.if-not-held.true-raw) refl)
-    ∙ c.loop-row.invariant.2)
+returns-then-not-held c = rw (← c.entry_bytes-size.ensures)
+    (row_refused _ _ _ _ _ _ _ c.loop-row-test.true c.row-r.ensures _ c.row_holds-held.ensures c.loop-row.invariant.2
+    (not-true _ c.if-not-held.true-raw))
 
 pub returns-then-not-placed : goal.returns-then-not-placed
-returns-then-not-placed c =
-    let at_row : AtHand (rows_from c.args.self.now.file.now 0 c.args.self.now.nodes) c.loop-row.row c.row-r.result = file_row _ _ _ _ c.loop-row-test.true c.row-r.ensures in
-    rw (← c.entry_bytes-size.ensures)
-    (sym
-    (layout_here (at_row) _ _ _ _ _ _ (sym c.row_holds-held.ensures ∙ not-false _ c.if-not-held.false-raw)
-    (ne_eqb (offset_at c.args.self.now.file.now c.loop-row.row) c.loop-row.required (λ e. omega (arith, c.offset.ensures))))
-    ∙ c.loop-row.invariant.2)
+returns-then-not-placed c = rw (← c.entry_bytes-size.ensures)
+    (offset_refused _ _ _ _ _ _ _ c.loop-row-test.true c.row-r.ensures _ c.row_holds-held.ensures c.loop-row.invariant.2
+    (not-false _ c.if-not-held.false-raw) (λ e. omega (arith, c.offset.ensures)))
 
-pub overflow_mul-required-in-loop-row : goal.overflow_mul-required-in-loop-row
-overflow_mul-required-in-loop-row c =
-    let short : c.row-r.result.count * c.entry_bytes-size.result ≤ c.row-r.result.count * entry_length Second = size_short c.args.edition _ c.entry_bytes-size.ensures _ in
-    omega (arith, short)
+pub overflow_mul-required : goal.overflow_mul-required
+overflow_mul-required c = omega (arith, size_short c.args.edition _ c.entry_bytes-size.ensures c.row-r.result.count)
 
-pub overflow_add-required-in-loop-row : goal.overflow_add-required-in-loop-row
-overflow_add-required-in-loop-row c =
-    let short : c.row-r.result.count * c.entry_bytes-size.result ≤ c.row-r.result.count * entry_length Second = size_short c.args.edition _ c.entry_bytes-size.ensures _ in
-    omega (arith, short)
+pub overflow_add-required : goal.overflow_add-required
+overflow_add-required c = omega (arith, size_short c.args.edition _ c.entry_bytes-size.ensures c.row-r.result.count)
 
 pub loop-row-preserved : goal.loop-row-preserved
-loop-row-preserved c =
-    let at_row : AtHand (rows_from c.args.self.now.file.now 0 c.args.self.now.nodes) c.loop-row.row c.row-r.result = file_row _ _ _ _ c.loop-row-test.true c.row-r.ensures in
-    let short : c.row-r.result.count * c.entry_bytes-size.result ≤ c.row-r.result.count * entry_length Second = size_short c.args.edition _ c.entry_bytes-size.ensures _ in (
-      omega arith,
-      omega (arith, short),
-      sym
-          (layout_here (at_row) _ _ _ _ _ _ (sym c.row_holds-held.ensures ∙ not-false _ c.if-not-held.false-raw)
-          (eq-eqb (offset_at c.args.self.now.file.now c.loop-row.row) c.loop-row.required (omega (arith, c.offset.ensures))))
-          ∙ c.loop-row.invariant.2,
-    )
+loop-row-preserved c = (
+  omega arith,
+  omega (arith, size_short c.args.edition _ c.entry_bytes-size.ensures c.row-r.result.count),
+  passed _ _ _ _ _ _ _ c.loop-row-test.true c.row-r.ensures _ c.row_holds-held.ensures c.loop-row.invariant.2
+      (not-false _ c.if-not-held.false-raw) (omega (arith, c.offset.ensures)),
+)
 
 pub returns-then-self-required : goal.returns-then-self-required
 returns-then-self-required c = rw (← c.entry_bytes-size.ensures)

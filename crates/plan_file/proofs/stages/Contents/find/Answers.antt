@@ -1,29 +1,44 @@
+use Rattle.std.proofs.Common.{◌≡◌, ℕ, zero, suc, ◌+◌, ◌≤◌, ◌<◌, List, refl, arith, rules, tests}
 use mathlib.Core.Path.{◌∙◌, sym}
-use native.Mathlib.Omega.{arith}
 use native.Mathlib.Nat.{zero-add}
-use Rattle.plan_file.specs.Decoding.{rows_from}
-use Rattle.byte_words.proofs.Runs.{AtHand, run_none, run_length}
+use lib.ListN.{drop}
+use Rattle.std.specs.Prelude.{Option, Some, None, MatchOption}
+use Rattle.std.proofs.lemmas.Iterator.{first_from_Range}
+use Rattle.plan_file.specs.Decoding.{row_at, rows_from}
+use Rattle.plan_file.specs.Find.{row_of_number, first_row}
+use Rattle.byte_words.proofs.Runs.{run_none, run_length}
 use Rattle.plan_file.proofs.Contents.{rows_run, file_row}
 use Rattle.plan_file.proofs.Finding.{search_found, search_next, search_end, some_row, no_row_lem}
 use Rattle.plan_file.proofs.stages.Contents.find.Goals as goal
 
-pub loop-row-init : goal.loop-row-init
-loop-row-init c = rw zero-add
+module _ (number : ℕ) (f : List ℕ) (n : ℕ) where
+  -- the search goes on behind rows with other numbers
+  behind : (i : ℕ) → i ≤ n → ((k : ℕ) → 0 ≤ k → k < i → (row_at f k).number ≡ number → ⊥)
+      → i + row_of_number number (drop i (rows_from f 0 n)) ≡ row_of_number number (rows_from f 0 n)
+  behind zero h none = zero-add (row_of_number number (rows_from f 0 n))
+  behind (suc i) h none =
+      let e : suc i ≡ i + 1 = omega arith in
+      rw e (sym (search_next number (file_row f n i (row_at f i) (omega arith) refl) (none i (omega arith) (omega arith)))
+      ∙ behind i (omega arith) (λ k l u. none k l (omega arith)))
 
-pub returns-then-row-number : goal.returns-then-row-number
-returns-then-row-number c =
-    let at_row : AtHand (rows_from c.args.self.now.file.now 0 c.args.self.now.nodes) c.loop-row.row c.row.result = file_row _ _ _ _ c.loop-row-test.true c.row.ensures in
-    sym
-    (some_row _ _ _ (sym (search_found _ at_row c.if-row-number.true) ∙ c.loop-row.invariant)
-    (omega (arith, run_length (rows_run c.args.self.now.file.now) 0 c.args.self.now.nodes)))
-
-pub loop-row-preserved : goal.loop-row-preserved
-loop-row-preserved c =
-    let at_row : AtHand (rows_from c.args.self.now.file.now 0 c.args.self.now.nodes) c.loop-row.row c.row.result = file_row _ _ _ _ c.loop-row-test.true c.row.ensures in
-    sym (search_next _ at_row c.if-row-number.false) ∙ c.loop-row.invariant
+  by_range : (o : Option ℕ)
+      → MatchOption o ((k : ℕ) → 0 ≤ k → k < n → (row_at f k).number ≡ number → ⊥)
+      (λ i. (0 ≤ i) × (i < n) × ((row_at f i).number ≡ number) × ((k : ℕ) → 0 ≤ k → k < i → (row_at f k).number ≡ number → ⊥))
+      → o ≡ first_row number (rows_from f 0 n)
+  by_range None none =
+      sym
+      (no_row_lem number _ n (sym (search_end number n _ (run_none (rows_run f) 0 n n (omega arith))) ∙ behind n (omega arith) none)
+      (omega (arith, run_length (rows_run f) 0 n)))
+  by_range (Some i) h =
+      sym
+      (some_row number _ i (sym (search_found number (file_row f n i (row_at f i) h.1 refl) h.2) ∙ behind i (omega arith) h.3)
+      (omega (arith, run_length (rows_run f) 0 n)))
 
 pub returns : goal.returns
 returns c =
-    sym
-    (no_row_lem _ _ _ (sym (search_end _ _ _ (run_none (rows_run _) _ _ _ c.loop-row-test.false)) ∙ c.loop-row.invariant)
-    (omega (arith, run_length (rows_run c.args.self.now.file.now) 0 c.args.self.now.nodes)))
+    let f = c.args.self.now.file.now in
+    let number = c.args.number in
+    by_range number f c.args.self.now.nodes c.find.result
+    (first_from_Range _ _ _ _ (λ i. (row_at f i).number ≡ number) (λ i. (row_at f i).number ≡ number → ⊥) c.find.ensures.ran
+    (λ x q k. grind (arith, tests))
+    (λ x q k. (search rules, grind (arith, tests))))
