@@ -9,7 +9,7 @@ use native.Mathlib.Decide.{dec_lt}
 use lib.ListN.{length, get_or, length-append, length-replicate, get_or-append, get_or-eq_default}
 use lib.Seq.{get_or-drop, drop_at, ext_get_or}
 use Rattle.task_model.specs.declared.Entry.{Entry}
-use Rattle.task_model.specs.Limits.{most_levels, most_entries}
+use Rattle.task_model.specs.Limits.{most_entries, Node}
 use Rattle.node_words.specs.Lists.{zeros}
 use Rattle.completion.specs.Group.{group_level}
 use Rattle.completion.specs.Test.{completion_test, time_in}
@@ -24,14 +24,14 @@ use Rattle.map_store.specs.Putting.{Put, Agrees}
 use Rattle.map_store.proofs.Lists.{length-up_to, get_or-up_to, get_or-zeros, length-padded, get_or-padded}
 
 -- the store by the map that the search finds
-module _ (test : EntryTest) (es : List Entry) where
-  pub store_some : (m : List ℕ) → map_under test es most_levels ≡ some m → store_under test es ≡ keeping test es (some m)
+module _ (test : EntryTest) (n : Node) where
+  pub store_some : (m : List ℕ) → map_under test n.entries n.levels ≡ some m → store_under test n ≡ keeping test n.entries (some m)
   unfolding store_under
-  store_some m p = ap (keeping test es) p
+  store_some m p = ap (keeping test n.entries) p
 
-  pub store_none : map_under test es most_levels ≡ none → store_under test es ≡ zeros store_size
+  pub store_none : map_under test n.entries n.levels ≡ none → store_under test n ≡ zeros store_size
   unfolding store_under keeping
-  store_none p = ap (keeping test es) p
+  store_none p = ap (keeping test n.entries) p
 
 -- what a store with the map m has at each place
 module _ (test : EntryTest) (es : List Entry) (n : ℕ) (many : length es ≡ n) (m : List ℕ) (sized : length m ≡ n) (few : n ≤ most_entries) where

@@ -6,5 +6,6 @@ pub mod Groups
 pub mod Asking
 pub mod Earliest
 pub mod Theorems
+pub mod AtLevels
 pub mod WithoutJitter
 pub mod StoreCases

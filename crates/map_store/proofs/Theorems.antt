@@ -1,7 +1,7 @@
 -- The theorems of a store: what is asked of the store of a node is what is worked out afresh from the node.
 use Prim.Native.Nat.{ℕ, ◌+◌, ◌*◌, ◌%◌, ◌≤◌, ◌<◌}
-use mathlib.Core.Path.{◌≡◌, ◌∙◌, refl, sym, ap, subst}
-use mathlib.Core.Bool.{Bool, true, false, false≢true}
+use mathlib.Core.Path.{◌≡◌, ◌∙◌, refl, sym, ap}
+use mathlib.Core.Bool.{Bool, true, false}
 use mathlib.Core.Logic.{◌⊎◌, inl, inr, ⊎_elim, by_cases}
 use mathlib.Core.Option.{Option, none, some}
 use mathlib.Core.List.{List, [], ◌∷◌}
@@ -10,17 +10,17 @@ use native.Mathlib.Nat.{mod-eq_of_lt}
 use native.Mathlib.Decide.{dec_le, dec_lt}
 use lib.ListN.{length, get_or}
 use lib.Dec.{leb, ltb}
-use borrow.Author.Tests.{le-leb, lt-leb, lt-ltb, le-ltb}
+use borrow.Author.Tests.{le-leb, lt-ltb, le-ltb}
 use Rattle.refusals.specs.Refusals.{Numbered, at, ◌and_then◌, must_hold}
 use Rattle.refusals.specs.Answers.{gives, refuses, left}
 use Rattle.task_model.specs.declared.Entry.{Entry}
-use Rattle.task_model.specs.Limits.{most_levels, most_entries, Node, AllHold, NodeHolds}
+use Rattle.task_model.specs.Limits.{most_entries, Node, AllHold, NodeHolds}
 use Rattle.node_words.specs.Lists.{zeros}
 use Rattle.completion.specs.Test.{completion_test, time_in}
 use Rattle.level_map.specs.Assignments.{level_of, levels_used, Assignment}
 use Rattle.level_map.specs.Map.{the_map}
 use Rattle.level_map.specs.Answer.{is_some, levels_in, map_of, levels_under, held_check, held_check_under, held_answer}
-use Rattle.level_map.proofs.Theorems.{mapping, map_fewer, map_too_few, none_fewer, held_short, held_map, held_none, map_empty}
+use Rattle.level_map.proofs.Theorems.{mapping, held_short, held_map, held_none, map_empty}
 use Rattle.map_store.specs.Store.{store_size, levels_at, up_to, padded, times_under, keeping, store_of, has_map, stored_used, stored_levels, stored_time}
 use Rattle.map_store.specs.Asking.{map_check, map_asked, time_check, time_asked, fresh_time_check, fresh_time}
 use Rattle.map_store.proofs.Lists.{up_to-list}
@@ -28,40 +28,38 @@ use Rattle.map_store.proofs.Filling.{store_some, store_none, keeping_size, keepi
 use Rattle.map_store.proofs.Asking.{has_one, has_none, asked_short, asked_none, asked_given, timed_outside, timed_none, timed_given}
 
 -- there is a map or there is none
-by_map : (o : Option (List ℕ)) → ((m : List ℕ) × (o ≡ some m)) ⊎ (o ≡ none)
+pub by_map : (o : Option (List ℕ)) → ((m : List ℕ) × (o ≡ some m)) ⊎ (o ≡ none)
 by_map none = inr refl
 by_map (some m) = inl (m, refl)
 
-same_map : {m m' : List ℕ} → some m ≡ some m' → m ≡ m'
-same_map p = cc
-
--- Every store of entries within the limits has all its words,
-pub store_size_lem : (es : List Entry) → AllHold es → length es ≤ most_entries → length (store_of es) ≡ store_size
-store_size_lem es hold few =
+-- Every store of a node within the limits has all its words,
+pub store_size_lem : (n : Node) → AllHold n.entries → length n.entries ≤ most_entries → length (store_of n) ≡ store_size
+store_size_lem n hold few =
+    let es = n.entries in
     ⊎_elim
     (λ y.
-    ap length (store_some completion_test es y.0 y.1)
-    ∙ keeping_size completion_test es (length es) refl y.0 (mapping es hold most_levels y.0 y.1).passing.assignment.each few)
-    (λ p. ap length (store_none completion_test es p))
-    (by_map (the_map es most_levels))
+    ap length (store_some completion_test n y.0 y.1)
+    ∙ keeping_size completion_test es (length es) refl y.0 (mapping es hold n.levels y.0 y.1).passing.assignment.each few)
+    (λ p. ap length (store_none completion_test n p))
+    (by_map (the_map es n.levels))
 
--- and that of no entries has a map, of 0 levels.
-pub store_empty : store_of [] ≡ 1 ∷ zeros (1 + 2 * most_entries)
+-- and that of a node without entries has a map, of 0 levels.
+pub store_empty : (levels : ℕ) → store_of (record { levels = levels; entries = [] }) ≡ 1 ∷ zeros (1 + 2 * most_entries)
 unfolding keeping padded times_under up_to
-store_empty = store_some completion_test [] [] (map_empty most_levels)
+store_empty levels = store_some completion_test (record { levels = levels; entries = [] }) [] (map_empty levels)
 
--- The store of the entries of a node, and the map m of the node itself.
+-- The store of a node, and the map m of the node.
 pub record Kept (n : Node) (m : List ℕ) : Type 0 where
   pub found : the_map n.entries n.levels ≡ some m
-  pub has : has_map (store_of n.entries) n.levels ≡ true
-  pub used : stored_used (store_of n.entries) ≡ levels_used m
-  pub levels : stored_levels (store_of n.entries) (length n.entries) ≡ m
-  pub times : (i : ℕ) → i < length n.entries → stored_time (store_of n.entries) i ≡ time_in (completion_test n.entries (level_of m) i)
+  pub has : has_map (store_of n) n.levels ≡ true
+  pub used : stored_used (store_of n) ≡ levels_used m
+  pub levels : stored_levels (store_of n) (length n.entries) ≡ m
+  pub times : (i : ℕ) → i < length n.entries → stored_time (store_of n) i ≡ time_in (completion_test n.entries (level_of m) i)
 
 -- Neither has a map.
 pub record Lacks (n : Node) : Type 0 where
   pub none : the_map n.entries n.levels ≡ none
-  pub has : has_map (store_of n.entries) n.levels ≡ false
+  pub has : has_map (store_of n) n.levels ≡ false
 
 -- a time that is worked out afresh, by each of its checks
 module _ (n : Node) (i : ℕ) where
@@ -83,106 +81,86 @@ module _ (n : Node) (holds : NodeHolds n) where
   abbrev es : List Entry
   es = n.entries
 
-  -- with the map m on 64 levels
-  module _ (m : List ℕ) (p : the_map n.entries most_levels ≡ some m) where
-    stored : store_of es ≡ keeping completion_test es (some m)
-    stored = store_some completion_test es m p
+  module _ (m : List ℕ) (p : the_map n.entries n.levels ≡ some m) where
+    stored : store_of n ≡ keeping completion_test es (some m)
+    stored = store_some completion_test n m p
 
-    fits : Assignment (length es) most_levels m
-    fits = (mapping es holds.each most_levels m p).passing.assignment
+    fits : Assignment (length es) n.levels m
+    fits = (mapping es holds.each n.levels m p).passing.assignment
 
-    one : get_or (store_of es) 0 0 ≡ 1
+    one : get_or (store_of n) 0 0 ≡ 1
     unfolding keeping
     one = ap (λ l. get_or l 0 0) stored
 
-    count : get_or (store_of es) 1 0 ≡ levels_used m
+    count : get_or (store_of n) 1 0 ≡ levels_used m
     unfolding keeping
     count = ap (λ l. get_or l 1 0) stored
 
-    by_count : (b : Bool) → leb (levels_used m) n.levels ≡ b → has_map (store_of es) n.levels ≡ b
-    by_count b q = has_one (store_of es) n.levels one ∙ rw count q
+    -- whether it is one on so many levels
+    pub stored_on : (levels : ℕ) (b : Bool) → leb (levels_used m) levels ≡ b → has_map (store_of n) levels ≡ b
+    stored_on levels b q = has_one (store_of n) levels one ∙ rw count q
 
-    level_byte : (i : ℕ) → i < length m → get_or (store_of es) (levels_at + i) 0 % 256 ≡ get_or m i 0
+    level_byte : (i : ℕ) → i < length m → get_or (store_of n) (levels_at + i) 0 % 256 ≡ get_or m i 0
     level_byte i h =
         let k : i < length es = omega (arith, fits.each) in
         ap (λ x. x % 256)
         (ap (λ l. get_or l (levels_at + i) 0) stored
         ∙ keeping_level completion_test es (length es) refl m fits.each holds.few_entries i (omega (arith, holds.few_entries)))
-        ∙ mod-eq_of_lt (omega (arith, fits.high i k))
+        ∙ mod-eq_of_lt (omega (arith, fits.high i k, holds.few_levels))
 
-    pub kept : levels_used m ≤ n.levels → Kept n m
+    pub store_kept : Kept n m
     unfolding stored_levels
-    kept few =
+    store_kept =
         record {
-          found = map_fewer es holds.each most_levels n.levels holds.few_levels m p few;
-          has = by_count true (le-leb _ _ few);
+          found = p;
+          has = stored_on n.levels true (le-leb _ _ (mapping es holds.each n.levels m p).chosen.within);
           used = count;
-          levels = ap (λ k. stored_levels (store_of es) k) (sym fits.each) ∙ up_to-list _ m level_byte;
+          levels = ap (λ k. stored_levels (store_of n) k) (sym fits.each) ∙ up_to-list _ m level_byte;
           times = λ i h.
               ap (λ l. stored_time l i) stored
               ∙ keeping_time completion_test es (length es) refl m fits.each holds.few_entries i
               ∙ times_at_lem completion_test es (length es) refl m fits.each holds.few_entries i h;
         }
 
-    too_few : n.levels < levels_used m → Lacks n
-    too_few many =
-        record {
-          none = map_too_few es holds.each most_levels n.levels holds.few_levels m p many;
-          has = by_count false (lt-leb _ _ many);
-        }
-
-  without : the_map n.entries most_levels ≡ none → Lacks n
-  without p =
-      record {
-        none = none_fewer es holds.each most_levels n.levels holds.few_levels p;
-        has = has_none (store_of es) n.levels (λ q. let z : get_or (store_of es) 0 0 ≡ 0 = ap (λ l. get_or l 0 0) (store_none completion_test es p) in omega arith);
-      }
+  pub stored_none : the_map n.entries n.levels ≡ none → (levels : ℕ) → has_map (store_of n) levels ≡ false
+  stored_none p levels =
+      has_none (store_of n) levels (λ q. let z : get_or (store_of n) 0 0 ≡ 0 = ap (λ l. get_or l 0 0) (store_none completion_test n p) in omega arith)
 
   -- The store has the map of the node, with its count of levels, its levels and its times; or both have none.
   pub store_right : ((m : List ℕ) × Kept n m) ⊎ Lacks n
   store_right =
       ⊎_elim
-      (λ y.
-      by_cases (dec_le (levels_used y.0) n.levels)
-      (λ few. inl (y.0, kept y.0 y.1 few))
-      (λ z. inr (too_few y.0 y.1 (omega arith))))
-      (λ p. inr (without p))
-      (by_map (the_map es most_levels))
-
-  pub store_kept : (m : List ℕ) → the_map n.entries n.levels ≡ some m → Kept n m
-  store_kept m p =
-      ⊎_elim
-      (λ y. let e : y.0 ≡ m = same_map (sym y.1.found ∙ p) in subst (Kept n) e y.1)
-      (λ z. absurd (false≢true (ap is_some (sym z.none ∙ p))))
-      store_right
+      (λ y. inl (y.0, store_kept y.0 y.1))
+      (λ p. inr (record { none = p; has = stored_none p n.levels }))
+      (by_map (the_map es n.levels))
 
   -- So asking is refused, and answered, exactly as mapping the node is, and leaves the same in the buffer.
-  pub store_has : has_map (store_of n.entries) n.levels ≡ is_some (the_map n.entries n.levels)
+  pub store_has : has_map (store_of n) n.levels ≡ is_some (the_map n.entries n.levels)
   store_has =
       ⊎_elim
       (λ y. y.1.has ∙ sym (ap is_some y.1.found))
       (λ z. z.has ∙ sym (ap is_some z.none))
       store_right
 
-  pub map_check_lem : (room : ℕ) → map_check (store_of n.entries) n.levels (length n.entries) room ≡ held_check n room
+  pub map_check_lem : (room : ℕ) → map_check (store_of n) n.levels (length n.entries) room ≡ held_check n room
   unfolding map_check held_check_under
   map_check_lem room = ap (λ b. must_hold (leb (length es) room) (at 10 0 0) and_then must_hold b (at 11 0 0)) store_has
 
-  pub map_answer_lem : (room : ℕ) → map_asked (store_of n.entries) n.levels (length n.entries) room ≡ held_answer n room
+  pub map_answer_lem : (room : ℕ) → map_asked (store_of n) n.levels (length n.entries) room ≡ held_answer n room
   map_answer_lem room =
       by_cases (dec_le (length es) room)
       (λ enough.
       ⊎_elim
       (λ y.
-      asked_given (store_of es) n.levels (length es) room enough y.1.has
+      asked_given (store_of n) n.levels (length es) room enough y.1.has
       ∙ ap gives y.1.used
       ∙ sym (held_map n room enough y.0 y.1.found).0)
       (λ z.
-      asked_none (store_of es) n.levels (length es) room enough z.has
+      asked_none (store_of n) n.levels (length es) room enough z.has
       ∙ sym (held_none n room enough z.none))
       store_right)
       (λ short.
-      asked_short (store_of es) n.levels (length es) room (omega arith) ∙ sym (held_short n room (omega arith)))
+      asked_short (store_of n) n.levels (length es) room (omega arith) ∙ sym (held_short n room (omega arith)))
 
   map_levels : (m : List ℕ) → the_map n.entries n.levels ≡ some m → map_of n ≡ m
   unfolding levels_under
@@ -196,7 +174,7 @@ module _ (n : Node) (holds : NodeHolds n) where
       (λ short. (at 10 0 0, held_short n room (omega arith)))
 
   pub map_written : (room : ℕ) (buffer : List ℕ)
-      → left (held_answer n room) (stored_levels (store_of n.entries) (length n.entries)) buffer
+      → left (held_answer n room) (stored_levels (store_of n) (length n.entries)) buffer
       ≡ left (held_answer n room) (map_of n) buffer
   map_written room buffer =
       ⊎_elim
@@ -205,21 +183,21 @@ module _ (n : Node) (holds : NodeHolds n) where
       store_right
 
   -- Asking for a time is refused, and answered, exactly as if the map were found and the entry timed under it.
-  pub time_check_lem : (i : ℕ) → time_check (store_of n.entries) n.levels (length n.entries) i ≡ fresh_time_check completion_test n i
+  pub time_check_lem : (i : ℕ) → time_check (store_of n) n.levels (length n.entries) i ≡ fresh_time_check completion_test n i
   unfolding time_check fresh_time_check
   time_check_lem i = ap (λ b. must_hold (ltb i (length es)) (at 12 0 0) and_then must_hold b (at 11 0 0)) store_has
 
-  pub time_answer_lem : (i : ℕ) → time_asked (store_of n.entries) n.levels (length n.entries) i ≡ fresh_time completion_test n i
+  pub time_answer_lem : (i : ℕ) → time_asked (store_of n) n.levels (length n.entries) i ≡ fresh_time completion_test n i
   time_answer_lem i =
       by_cases (dec_lt i (length es))
       (λ inside.
       ⊎_elim
       (λ y.
-      timed_given (store_of es) n.levels (length es) i inside y.1.has
+      timed_given (store_of n) n.levels (length es) i inside y.1.has
       ∙ ap gives (y.1.times i inside ∙ ap (λ m. time_in (completion_test es (level_of m) i)) (sym (map_levels y.0 y.1.found)))
       ∙ sym (fresh_given n i inside (ap is_some y.1.found)))
       (λ z.
-      timed_none (store_of es) n.levels (length es) i inside z.has
+      timed_none (store_of n) n.levels (length es) i inside z.has
       ∙ sym (fresh_none n i inside (ap is_some z.none)))
       store_right)
-      (λ out. timed_outside (store_of es) n.levels (length es) i (omega arith) ∙ sym (fresh_outside n i (omega arith)))
+      (λ out. timed_outside (store_of n) n.levels (length es) i (omega arith) ∙ sym (fresh_outside n i (omega arith)))

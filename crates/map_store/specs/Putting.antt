@@ -1,5 +1,5 @@
 -- What the loops write into a store. No promise of an entry for users mentions it.
-use Rattle.std.specs.Prelude.{ℕ, ◌+◌, ◌≤◌, ◌<◌, ◌≡◌, List, length, get_or, Option, None, Some}
+use Rattle.std.specs.Prelude.{ℕ, ◌+◌, ◌≤◌, ◌<◌, ◌≡◌, true, false, List, length, get_or, leb, eqb, Option, None, Some}
 use Rattle.task_model.specs.declared.Entry.{Entry}
 use Rattle.completion.specs.Demand.{demand_with}
 use Rattle.task_model.specs.Limits.{entry_at, most_entries}
@@ -23,6 +23,16 @@ pub record Agrees (due : List ℕ) (first count : ℕ) (words : List ℕ) : Type
   pub times : (j : ℕ) → j < first → get_or words (times_at + j) 0 ≡ get_or due (times_at + j) 0
   pub levels_beyond : (j : ℕ) → count ≤ j → j < most_entries → get_or words (levels_at + j) 0 ≡ get_or due (levels_at + j) 0
   pub times_beyond : (j : ℕ) → count ≤ j → j < most_entries → get_or words (times_at + j) 0 ≡ get_or due (times_at + j) 0
+
+-- What is known, as a time for an entry with this B: 0 if nothing is known of entries with as much blocking.
+unfoldable pub known_time : Option Known → ℕ → ℕ
+known_time None blocking = 0
+known_time (Some k) blocking = elim (leb k.blocking blocking) [ true ↦ k.time | false ↦ 0 ]
+
+-- What is known once the entry e is timed: its time, if it has no remote calls, and else what was known before.
+unfoldable pub known_next : Option Known → Entry → Option ℕ → Option Known
+known_next known e None = known
+known_next known e (Some t) = elim (eqb e.calls 0) [ true ↦ Some (record { blocking = e.blocking; time = t }) | false ↦ known ]
 
 -- What is known of the entries from `first` to `last`, a group: none whose B is at least `k.blocking` ends before `k.time`.
 abbrev pub Earliest : List Entry → ℕ → ℕ → Option Known → Type 0

@@ -1,8 +1,8 @@
 -- The store of a node: its map and every entry's completion time under it, in words of 32 bits.
-use Rattle.std.specs.Prelude.{ℕ, zero, suc, ◌+◌, ◌-◌, ◌*◌, ◌%◌, Bool, ◌&&◌, List, [], ◌∷◌, ◌++◌, length, get_or, leb, eqb}
+use Rattle.std.specs.Prelude.{ℕ, zero, suc, ◌+◌, ◌-◌, ◌*◌, ◌%◌, Bool, true, false, ◌&&◌, List, [], ◌∷◌, ◌++◌, length, get_or, leb, eqb}
 use Rattle.std.proofs.Math.Option.{Option, none, some}
 use Rattle.task_model.specs.declared.Entry.{Entry}
-use Rattle.task_model.specs.Limits.{most_levels, most_entries}
+use Rattle.task_model.specs.Limits.{most_entries, Node}
 use Rattle.node_words.specs.Lists.{zeros}
 use Rattle.completion.specs.Test.{completion_test, time_in}
 use Rattle.level_map.specs.Assignments.{level_of, levels_used, EntryTest}
@@ -39,18 +39,16 @@ unfoldable pub keeping : EntryTest → List Entry → Option (List ℕ) → List
 keeping test es none = zeros store_size
 keeping test es (some m) = 1 ∷ levels_used m ∷ (padded m ++ padded (times_under test es m))
 
--- The store of entries under a test: that of their map on as many levels as a node may have. On fewer levels the map is the
--- same, if they are enough for it, and otherwise there is none (`map_fewer` and `map_too_few` in level_map). So the store
--- holds whatever the level count is.
-unfoldable pub store_under : EntryTest → List Entry → List ℕ
-store_under test es = keeping test es (map_under test es most_levels)
+-- The store of a node under a test: that of its map.
+unfoldable pub store_under : EntryTest → Node → List ℕ
+store_under test n = keeping test n.entries (map_under test n.entries n.levels)
 
--- The store of entries, under the completion time test.
-abbrev pub store_of : List Entry → List ℕ
-store_of es = store_under completion_test es
+-- The store of a node, under the completion time test.
+abbrev pub store_of : Node → List ℕ
+store_of n = store_under completion_test n
 
--- What a store says, whatever words it has. It has a map on `levels` levels if its first word is 1 and the map uses no more
--- levels than that.
+-- What a store says, whatever words it has. It has a map on `levels` levels if its first word is 1 and its second, how many
+-- levels the map uses, is no more than that.
 unfoldable pub has_map : List ℕ → ℕ → Bool
 has_map store levels = eqb (get_or store 0 0) 1 && leb (get_or store 1 0) levels
 
@@ -65,3 +63,17 @@ stored_levels store n = up_to (λ j. get_or store (levels_at + j) 0 % 256) n
 -- The completion time of the entry at i under it.
 abbrev pub stored_time : List ℕ → ℕ → ℕ
 stored_time store i = get_or store (times_at + i) 0
+
+-- What the words `store` become once the level count is set, from `before` to that of the node n. If they have a map on the new
+-- count, they stay. If they have none, there is none on fewer levels or as many either, and all words are 0; on more levels
+-- than before the store is worked out afresh. So the store of a node becomes that of the node with the new count
+-- (`levels_set_lem`).
+unfoldable pub store_at_levels : EntryTest → (before : ℕ) → Node → List ℕ → List ℕ
+store_at_levels test before n store =
+    elim (has_map store n.levels) [
+      | true ↦ store
+      | false ↦ elim (leb n.levels before) [
+        | true ↦ zeros store_size
+        | false ↦ store_under test n
+      ]
+    ]

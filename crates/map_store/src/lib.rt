@@ -7,14 +7,15 @@ ghost use Rattle.std.proofs.Math.Option.{some};
 ghost use Rattle.refusals.specs.Answers.{answered, left};
 ghost use Rattle.task_model.specs.Limits.{most_levels, most_entries};
 ghost use Rattle.node_words.specs.Held.{held_entries};
+ghost use Rattle.node_words.specs.Words.{node_of};
 ghost use Rattle.node_words.specs.Lists.{zeros};
 ghost use Rattle.completion.specs.Group.{group_level};
 ghost use Rattle.completion.specs.Test.{completion_test, time_in};
 ghost use Rattle.level_map.specs.Assignments.{levels_used};
 ghost use Rattle.level_map.specs.Found.{levels_in};
-ghost use Rattle.map_store.specs.Store.{times_at, store_of, keeping, has_map, stored_levels};
+ghost use Rattle.map_store.specs.Store.{times_at, store_of, store_at_levels, keeping, has_map, stored_levels};
 ghost use Rattle.map_store.specs.Asking.{map_asked, time_asked};
-ghost use Rattle.map_store.specs.Putting.{Put};
+ghost use Rattle.map_store.specs.Putting.{Put, known_time, known_next};
 
 use completion::entry_sums::wcet_sum;
 use level_map::cuts::{Cuts, Group};
@@ -22,7 +23,7 @@ use level_map::find_cuts;
 use node_words::held::HeldEntries;
 use on_time::completion_time;
 use refusals::Refusal;
-use task_model::{Entry, MOST_ENTRIES, MOST_LEVELS};
+use task_model::{Entry, MOST_ENTRIES};
 
 // Where the levels begin, and where the times do. Before them stand whether there is a map, 1 or 0, and how many levels it
 // uses: a store is words that C lends, so it has a flag and a count where Rust has an Option.
@@ -43,8 +44,9 @@ struct Known {
 }
 
 // A time before which an entry with this B does not end; 0 is one if nothing is known.
+#[tactic(auto, unfolding(crate::specs::Putting::known_time))]
 fn known_for(known: Option<Known>, blocking: u32) -> u32
-    ensures { (result ≡ 0) ⊎ IsSomeAnd known (λ k. (k.blocking ≤ blocking) × (result ≡ k.time)) }
+    ensures { result ≡ known_time known blocking }
 {
     match known {
         Some(k) if k.blocking <= blocking => k.time,
@@ -54,8 +56,9 @@ fn known_for(known: Option<Known>, blocking: u32) -> u32
 
 // What is known once an entry of the group is timed. With no remote calls, its demand counts each other entry of the group
 // once, so no entry with as much blocking or more has a lower one.
+#[tactic(auto, unfolding(crate::specs::Putting::known_next))]
 fn known_after(known: Option<Known>, e: Entry, time: Option<u32>) -> Option<Known>
-    ensures { (result ≡ known) ⊎ IsSomeAnd result (λ k. (e.calls ≡ 0) × (k.blocking ≡ e.blocking) × (time ≡ Some k.time)) }
+    ensures { result ≡ known_next known e time }
 {
     match time {
         Some(time) if e.calls == 0 => Some(Known {
@@ -99,13 +102,12 @@ fn put_groups(node: &HeldEntries, cuts: &Cuts, store: &mut StoreWords)
     }
 }
 
-// Works out the store of a node's entries. The map is searched for on as many levels as a node may have; whether it fits the
-// node's own levels is asked later, so a store outlives a change of the level count.
-pub fn store_map(node: &HeldEntries, store: &mut StoreWords)
-    ensures { store.new ≡ store_of (held_entries node.now) }
+// Works out the store of a node: searches for its map, and times every entry under it.
+pub fn store_map(node: &HeldEntries, levels: u8, store: &mut StoreWords)
+    ensures { store.new ≡ store_of (node_of node.now.words.now node.now.count levels) }
 {
     store.fill(0);
-    let Some(cuts) = find_cuts(node, MOST_LEVELS) else {
+    let Some(cuts) = find_cuts(node, levels) else {
         return;
     };
     store[0] = 1;
@@ -118,6 +120,21 @@ fn has_map(store: &StoreWords, levels: u32) -> bool
     ensures { result ≡ has_map store.now levels }
 {
     store[0] == 1 && store[1] <= levels
+}
+
+// Sets right a store of the same entries once the level count is set; it was `before`. A map that uses no more levels than there
+// are now stays the map. Without such a map only more levels than before are worth a search.
+pub fn store_at_levels(node: &HeldEntries, before: u32, levels: u8, store: &mut StoreWords)
+    ensures { store.new ≡ store_at_levels completion_test before (node_of node.now.words.now node.now.count levels) store.old }
+{
+    if has_map(store, levels as u32) {
+        return;
+    }
+    if levels as u32 <= before {
+        store.fill(0);
+        return;
+    }
+    store_map(node, levels, store);
 }
 
 // Writes the stored levels of the first `count` entries from the start of `out`, one byte each. (The store has room for all
@@ -162,8 +179,8 @@ pub fn stored_time(store: &StoreWords, levels: u8, count: usize, i: usize) -> Re
     if count <= i {
         return Err(Refusal::OutsideList);
     }
-    if has_map(store, levels as u32) {
-        return Ok(store[TIMES_AT + i]);
+    if !has_map(store, levels as u32) {
+        return Err(Refusal::NoMap);
     }
-    Err(Refusal::NoMap)
+    Ok(store[TIMES_AT + i])
 }

@@ -7,22 +7,23 @@ use native.Mathlib.Omega.{arith}
 use lib.ListN.{length, take, drop, get_or, set, length-append, length-drop, take-append-drop}
 use lib.Seq.{take_all, take_at, drop_at, drop-drop, length-take-le}
 use borrow.Rule.Slice.PartMut.{put_mid}
-use Rattle.std.proofs.lemmas.List.{take_rest, drop-take}
 use Rattle.refusals.specs.declared.Refusal.{Refusal}
 use Rattle.std.specs.Prelude.{Result, Ok, Err}
 use Rattle.refusals.specs.Refusals.{Numbered, Outcome, accepted, refused, numbered}
 use Rattle.task_model.specs.declared.Entry.{Entry}
-use Rattle.task_model.specs.Limits.{most_entries, Node, AllHold, NodeHolds, NodeValid}
+use Rattle.task_model.specs.Limits.{most_entries, Node, NodeHolds, NodeValid}
 use Rattle.task_model.proofs.Theorems.{node_accepted}
 use Rattle.node_words.specs.Words.{node_size, words_of, node_of}
 use Rattle.node_words.specs.Lists.{zeros, zero_padded, splice}
 use Rattle.node_words.proofs.Entries.{length-entries}
 use Rattle.node_words.proofs.Lists.{size_spliced}
 use Rattle.refusals.proofs.Outcomes.{either}
-use Rattle.map_store.specs.Store.{store_size, store_of}
+use Rattle.completion.specs.Test.{completion_test}
+use Rattle.map_store.specs.Store.{store_size, store_of, store_at_levels}
 use Rattle.map_store.proofs.Theorems.{store_size_lem, store_empty}
+use Rattle.map_store.proofs.AtLevels.{levels_size}
 use Rattle.session.specs.declared.Session.{Session}
-use Rattle.session.specs.State.{node_in, session_with, session_of, spliced, remembered}
+use Rattle.session.specs.State.{node_in, session_with, session_of, spliced, restored, remembered, remembered_from}
 use Rattle.session.specs.Operations.{
   rules,
   Change,
@@ -88,13 +89,6 @@ pub both_copied : (s : Session) → Sized s → (ws st : List ℕ) → ws ≡ s.
 both_copied s sized ws st p q =
     rw (p, q, take_at s.words (zeros store_size) node_size sized.node, drop_at s.words (zeros store_size) node_size sized.node, append-nil s.store)
 
--- the words of the node, lent from those before the store
-pub node_lent : (w : List ℕ) → length w ≡ session_size → {front node : List ℕ} → front ≡ take (length w - store_size) w
-    → node ≡ take (length front - node_at) (drop node_at front) → node ≡ take node_size (drop node_at w)
-node_lent w h {front} {node} p q =
-    let k : length w - store_size ≡ node_at + node_size = omega arith in
-    q ∙ take_rest front node_at ∙ ap (drop node_at) p ∙ rw k (drop-take node_at node_size w)
-
 -- the session of a node within the limits
 pub with_sized : (store : List ℕ) (n : Node) → length n.entries ≤ most_entries → length store ≡ store_size → Sized (session_with store n)
 unfolding session_with
@@ -123,10 +117,10 @@ module _ (w : List ℕ) (size : length w ≡ session_size) where
   store_long (inserting p e) h = store_size_lem _ h.each h.few_entries
   store_long (removing p) h = store_size_lem _ h.each h.few_entries
   store_long (replacing p e) h = store_size_lem _ h.each h.few_entries
-  store_long (setting_levels l) h = (words_sized w size).store
+  store_long (setting_levels l) h = levels_size _ _ h.each h.few_entries _ (words_sized w size).store
 
   pub made_sized : (o : Operation) → step_check o (node_in (session_in w)) ≡ accepted → Sized (session_made o (session_in w))
-  made_sized (opening levels) a = with_sized _ (empty_node levels) (omega arith) (ap length store_empty)
+  made_sized (opening levels) a = with_sized _ (empty_node levels) (omega arith) (ap length (store_empty levels))
   made_sized (changing x) a =
       let h = change_holds _ _ _ x a in
       with_sized _ (changed x (node_in (session_in w))) h.few_entries (store_long x h)
@@ -189,7 +183,7 @@ unfolding session_with zero_padded words_of
 opened_words [] levels h cleared p = absurd (omega arith)
 opened_words (x ∷ xs) levels h cleared p =
     let e : length (x ∷ xs) - 1 ≡ 1 + node_size + store_size = omega arith in
-    ap (λ l. set (set l 0 levels) store_at 1) (p ∙ ap (λ n. x ∷ zeros n) e) ∙ sym (ap (λ l. levels ∷ 0 ∷ (zeros node_size ++ l)) store_empty)
+    ap (λ l. set (set l 0 levels) store_at 1) (p ∙ ap (λ n. x ∷ zeros n) e) ∙ sym (ap (λ l. levels ∷ 0 ∷ (zeros node_size ++ l)) (store_empty levels))
 
 -- the words of the node, as they are lent, and the words with what comes back for them
 abbrev pub part : List ℕ → List ℕ
@@ -238,36 +232,64 @@ module _ (w : List ℕ) (x : Change) (a : accepted ≡ step_check (changing x) (
       (session_with store (changed x (node_in (session_in w))))
   made_is q store = session_made_lem (part w) (get_or w 1 0) (get_or w 0 0) x part_ready _ q store
 
-  -- with the store worked out afresh
-  module _ (call : CallableChange x) (same : (changed x (node_in (session_in w))).levels ≡ get_or w 0 0) where
-    spliced_is : spliced (position_of x) (gone_of x) (new_of x) (session_in w) ≡ session_with (drop store_at w) made
-    spliced_is =
-        ap (λ l. record (spliced (position_of x) (gone_of x) (new_of x) (session_in w)) { levels = l }) (sym same)
-        ∙ made_is (ap (λ es. zero_padded (words_of es)) (sym (changed_is x (node_in (session_in w))))) (drop store_at w)
+  -- the changed session, with its store as it was
+  abbrev unstored : Session
+  unstored = session_with (drop store_at w) made
 
-    read_made : node_in (session_with (drop store_at w) made) ≡ made
+  module _ (call : CallableChange x) where
+    read_made : node_in unstored ≡ made
     read_made = read_with made (change_kept _ _ _ x (sym a) call) (drop store_at w)
 
-    pub splice_held : AllHold (node_in (spliced (position_of x) (gone_of x) (new_of x) (session_in w))).entries
-    splice_held = subst (λ (m : Node). AllHold m.entries) (sym (ap node_in spliced_is ∙ read_made)) holds.each
+    unstored_held : NodeHolds (node_in unstored)
+    unstored_held = subst NodeHolds (sym read_made) holds
 
-    pub splice_follows : store_after_by rules x (session_in w) ≡ store_of (changed x (node_in (session_in w))).entries → {last : List ℕ}
-        → last ≡ words_in (remembered (spliced (position_of x) (gone_of x) (new_of x) (session_in w))) → FollowsIn (changing x) w (Ok tt) last
+    -- and with the store that is due
+    restored_follows : (work : List ℕ → Node → List ℕ) → store_after_by rules x (session_in w) ≡ work (drop store_at w) made → {last : List ℕ}
+        → last ≡ words_in (restored work unstored) → FollowsIn (changing x) w (Ok tt) last
     unfolding session_with
-    splice_follows q e =
+    restored_follows work q e =
         in_accepted (changing x) w a _
-        (ap remembered spliced_is ∙ ap (λ (m : Node). session_with (store_of m.entries) made) read_made ∙ ap (λ l. session_with l made) (sym q))
+        (ap (λ (m : Node). session_with (work (drop store_at w) m) made) read_made ∙ ap (λ l. session_with l made) (sym q))
         e
 
--- setting the level count leaves the store as it was
-pub levels_set : (w : List ℕ) → length w ≡ session_size → (levels : ℕ) → accepted ≡ step_check (changing (setting_levels levels)) (node_in (session_in w))
-    → {ws : List ℕ} → ws ≡ zero_padded (words_of (node_in (session_in w)).entries)
-    → FollowsIn (changing (setting_levels levels)) w (Ok tt) (set (with_part w ws) 0 levels)
-unfolding changed
-levels_set w size levels a {ws} q =
-    let same : get_or w 1 0 ≡ counted (setting_levels levels) (get_or w 1 0) = omega arith in
-    in_accepted (changing (setting_levels levels)) w a _ (made_is w (setting_levels levels) a q (drop store_at w))
-    (ap (λ l. set l 0 levels) (back w ws size) ∙ ap (λ n. levels ∷ n ∷ (ws ++ drop store_at w)) same)
+    -- where entries change: worked out afresh
+    module _ (same : (changed x (node_in (session_in w))).levels ≡ get_or w 0 0) where
+      spliced_is : spliced (position_of x) (gone_of x) (new_of x) (session_in w) ≡ unstored
+      spliced_is =
+          ap (λ l. record (spliced (position_of x) (gone_of x) (new_of x) (session_in w)) { levels = l }) (sym same)
+          ∙ made_is (ap (λ es. zero_padded (words_of es)) (sym (changed_is x (node_in (session_in w))))) (drop store_at w)
+
+      pub splice_held : NodeHolds (node_in (spliced (position_of x) (gone_of x) (new_of x) (session_in w)))
+      splice_held = subst (λ (s : Session). NodeHolds (node_in s)) (sym spliced_is) unstored_held
+
+      pub splice_follows : store_after_by rules x (session_in w) ≡ store_of (changed x (node_in (session_in w))) → {last : List ℕ}
+          → last ≡ words_in (remembered (spliced (position_of x) (gone_of x) (new_of x) (session_in w))) → FollowsIn (changing x) w (Ok tt) last
+      splice_follows q e = restored_follows (λ store n. store_of n) q (e ∙ ap (λ s. words_in (remembered s)) spliced_is)
+
+-- where the level count is set: made of the store as it was
+module _ (w : List ℕ) (size : length w ≡ session_size) (levels : ℕ) (a : accepted ≡ step_check (changing (setting_levels levels)) (node_in (session_in w)))
+    {ws : List ℕ} (q : ws ≡ zero_padded (words_of (node_in (session_in w)).entries)) where
+  abbrev setting : Change
+  setting = setting_levels levels
+
+  levels_in : session_in (set (with_part w ws) 0 levels) ≡ unstored w setting a
+  unfolding changed session_with
+  levels_in =
+      let same : get_or w 1 0 ≡ counted setting (get_or w 1 0) = omega arith in
+      ap (λ l. session_in (set l 0 levels)) (back w ws size)
+      ∙ ap (λ n. session_in (levels ∷ n ∷ (ws ++ drop store_at w))) same
+      ∙ ap (λ s. session_in (words_in s)) (made_is w setting a q (drop store_at w))
+      ∙ session_back _ (padded_size _ (holds w setting a).few_entries)
+
+  pub levels_held : NodeHolds (node_in (session_in (set (with_part w ws) 0 levels)))
+  levels_held = subst (λ (s : Session). NodeHolds (node_in s)) (sym levels_in) (unstored_held w setting a tt)
+
+  pub levels_follow : {last : List ℕ} → last ≡ words_in (remembered_from (get_or w 0 0) (session_in (set (with_part w ws) 0 levels)))
+      → FollowsIn (changing setting) w (Ok tt) last
+  unfolding changed
+  levels_follow e =
+      restored_follows w setting a tt (λ store n. store_at_levels completion_test (get_or w 0 0) n store) refl
+      (e ∙ ap (λ s. words_in (remembered_from (get_or w 0 0) s)) levels_in)
 
 pub rows_words : (os : List Operation) (w : List ℕ) → session_in (words_after_all os w) ≡ session_after_all os (session_in w)
 unfolding words_after_all session_after_all

@@ -47,7 +47,7 @@ module _ (n : Node) (k : Kept n) where
   read_with store = ap (λ es. record { levels = n.levels; entries = es }) (read_entries n.entries _ kept_fit)
 
   pub read_back : node_in (session_of n) ≡ n
-  read_back = read_with (store_of n.entries)
+  read_back = read_with (store_of n)
 
 -- the number in a word has 16 bits, so a node that passes its checks is kept in its words
 pub number_short : (ws : List ℕ) (count j : ℕ) → j < count → (entry_at (entries_of ws count) j).number < 65536

@@ -10,8 +10,10 @@ use Rattle.refusals.specs.Refusals.{Numbered, accepted, refused, ◌and_then◌}
 use Rattle.task_model.specs.Limits.{most_levels, most_entries, Node, EntryHolds, NodeHolds, NumbersDiffer, NodeValid}
 use Rattle.refusals.proofs.Outcomes.{either}
 use Rattle.task_model.proofs.Theorems.{node_accepted}
-use Rattle.map_store.specs.Store.{store_of}
+use Rattle.completion.specs.Test.{completion_test}
+use Rattle.map_store.specs.Store.{store_of, store_at_levels}
 use Rattle.map_store.proofs.Theorems as stored
+use Rattle.map_store.proofs.AtLevels.{levels_set_lem}
 use Rattle.session.specs.State.{node_in, session_with, session_of}
 use Rattle.session.specs.Asking.{ask_check, call_check}
 use Rattle.task_model.specs.Checks.{node_check}
@@ -166,7 +168,8 @@ made_session (changing (inserting p e)) n k = ap (λ m. session_of (changed (ins
 made_session (changing (removing p)) n k = ap (λ m. session_of (changed (removing p) m)) (read_back n k)
 made_session (changing (replacing p e)) n k = ap (λ m. session_of (changed (replacing p e) m)) (read_back n k)
 made_session (changing (setting_levels l)) n k =
-    ap (λ m. session_with (store_of n.entries) (changed (setting_levels l) m)) (read_back n k)
+    ap (λ m. session_with (store_at_levels completion_test n.levels (changed (setting_levels l) m) (store_of n)) (changed (setting_levels l) m)) (read_back n k)
+    ∙ ap (λ st. session_with st (changed (setting_levels l) n)) (levels_set_lem n k.valid.within l)
 made_session (asking q) n k = refl
 
 -- what is asked of the session of a node is what is worked out from the node

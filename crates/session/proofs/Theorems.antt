@@ -9,7 +9,7 @@ use native.Mathlib.Omega.{arith}
 use lib.ListN.{length}
 use Rattle.task_model.specs.declared.Entry.{Entry}
 use Rattle.refusals.specs.Refusals.{Numbered, at, accepted, refused}
-use Rattle.task_model.specs.Limits.{most_levels, Node, entry_at, NumbersDiffer}
+use Rattle.task_model.specs.Limits.{most_levels, Node, NodeValid, entry_at, NumbersDiffer}
 use Rattle.task_model.specs.Checks.{node_check}
 use Rattle.task_model.proofs.Laws.{node_sizes}
 use Rattle.node_words.proofs.Entries.{length-entries}
@@ -29,14 +29,14 @@ use Rattle.session.specs.declared.Session.{Session}
 use Rattle.node_words.specs.Words.{node_size}
 use Rattle.session.specs.State.{node_in, session_with, session_of, Sound, blank_session}
 use Rattle.node_words.specs.Lists.{zeros}
-use Rattle.session.specs.Operations.{Query, Operation, opening, changing, asking, inserting, mapping, timing, map_timing, AllCallable, operation_check, operation_check_by, empty_node, node_after_all, answers_all, lent_check_by, step_check, step_check_by}
+use Rattle.session.specs.Operations.{rules, Change, CallableChange, Query, Operation, opening, changing, asking, inserting, removing, replacing, changed, mapping, timing, map_timing, AllCallable, operation_check, operation_check_by, empty_node, node_after_all, answers_all, lent_check_by, step_check, step_check_by}
 use Rattle.refusals.specs.Answers.{gives, refuses, left}
 use Rattle.session.specs.Timing.{time_answer}
 use Rattle.map_store.specs.Store.{store_of, has_map, stored_used, stored_levels, stored_time}
 use Rattle.map_store.proofs.Theorems.{store_has, store_kept}
 use Rattle.session.specs.Asking.{call_check, map_given, map_time_given}
 use Rattle.session.specs.Mapping.{map_answer, map_time_answer, Remembers}
-use Rattle.session.specs.Steps.{session_after, session_after_all, answers_of}
+use Rattle.session.specs.Steps.{store_after_by, session_after, session_after_all, answers_of}
 use Rattle.session.specs.InWords.{session_size, session_in, words_in, words_after, words_after_all}
 use Rattle.session.proofs.Reading.{Kept, read_back}
 use Rattle.session.proofs.Checking.{
@@ -53,7 +53,7 @@ use Rattle.session.proofs.Checking.{
   after_accepted,
 }
 use Rattle.session.proofs.Mapping.{asked_time, own_answer, own_time, sound_map, sound_left, sound_time, sound_best}
-use Rattle.session.proofs.InWords.{words_back, session_back, words_refused, words_accepted, rows_words}
+use Rattle.session.proofs.InWords.{change_kept, words_back, session_back, words_refused, words_accepted, rows_words}
 use Rattle.session.proofs.Sequences.{kept_empty, own_checks, rows_session, rows_answers, rows_kept}
 
 -- From the opening, by any row of operations, refused ones included, and whatever the memory held before. `levels` is
@@ -110,6 +110,32 @@ sound_checks o s h = own_checks o (node_in s) h.valid
 -- A sound session is determined by its level count and its list of entries.
 pub sound_same : (s t : Session) → Sound s → Sound t → node_in s ≡ node_in t → s ≡ t
 sound_same s t h g p = h.determined ∙ ap session_of p ∙ sym g.determined
+
+-- An accepted insert, remove or replace leaves a sound session, whatever its store held before.
+module _ (s : Session) where
+  afresh_sound : (c : Change) → CallableChange c → step_check (changing c) (node_in s) ≡ accepted
+      → store_after_by rules c s ≡ store_of (changed c (node_in s)) → Sound (session_after (changing c) s)
+  afresh_sound c call a p =
+      let k = change_kept s.words s.count s.levels c a call in
+      let e : session_after (changing c) s ≡ session_of (changed c (node_in s))
+      = after_accepted (changing c) s a ∙ ap (λ st. session_with st (changed c (node_in s))) p in
+      subst Sound (sym e)
+      (record {
+        valid = subst NodeValid (sym (read_back (changed c (node_in s)) k)) k.valid;
+        determined = ap session_of (sym (read_back (changed c (node_in s)) k));
+      })
+
+  pub insert_sound : (position : ℕ) (e : Entry) → e.number < 65536
+      → step_check (changing (inserting position e)) (node_in s) ≡ accepted → Sound (session_after (changing (inserting position e)) s)
+  insert_sound position e short a = afresh_sound (inserting position e) short a refl
+
+  pub remove_sound : (position : ℕ) → step_check (changing (removing position)) (node_in s) ≡ accepted
+      → Sound (session_after (changing (removing position)) s)
+  remove_sound position a = afresh_sound (removing position) tt a refl
+
+  pub replace_sound : (position : ℕ) (e : Entry) → e.number < 65536
+      → step_check (changing (replacing position e)) (node_in s) ≡ accepted → Sound (session_after (changing (replacing position e)) s)
+  replace_sound position e short a = afresh_sound (replacing position e) short a refl
 
 -- A refused call changes nothing.
 pub refused_unchanged : (o : Operation) (s : Session) (r : Numbered) → step_check o (node_in s) ≡ refused r → session_after o s ≡ s
@@ -194,7 +220,7 @@ map_time_refusal s i r = ((λ p. rw p), λ p. giving_refuses (call_check (asking
 
 -- A sound session remembers: its store holds what is worked out afresh from its entries and its level count.
 module _ (s : Session) (h : Sound s) where
-  store_is : s.store ≡ store_of (node_in s).entries
+  store_is : s.store ≡ store_of (node_in s)
   unfolding session_with
   store_is = ap (λ (t : Session). t.store) h.determined
 
@@ -279,7 +305,8 @@ pub words_unchanged : (o : Operation) (w : List ℕ) (r : Numbered) → step_che
     → words_after o w ≡ w
 words_unchanged o w r p = words_refused o w r p
 
--- Mapping and timing leave them untouched, whatever they answer.
+-- By definition, mapping and timing, in a group or under the map, leave them untouched, whatever they answer. (The functions are
+-- lent the words by `&`, so their types say so.)
 pub words_asked : (q : Query) (w : List ℕ) → length w ≡ session_size → words_after (asking q) w ≡ w
 words_asked q w h =
     ⊎_elim

@@ -60,7 +60,7 @@ use Rattle.session.specs.Timing.{time_answer, time_answer_by}
 use Rattle.session.specs.declared.Session.{Session}
 use Rattle.completion.specs.Test.{time_in}
 use Rattle.completion.specs.WithoutJitter.{punctual_test}
-use Rattle.map_store.proofs.WithoutJitter.{store_punctual, fresh_check_punctual}
+use Rattle.map_store.proofs.WithoutJitter.{store_punctual, at_levels_punctual, fresh_check_punctual}
 use Rattle.session.specs.State.{node_in, session_with}
 use Rattle.session.specs.Steps.{store_after_by, session_made, session_made_by, session_after, session_after_by}
 use Rattle.session.specs.InWords.{session_in, words_left, words_after, words_after_by}
@@ -176,10 +176,11 @@ module _ (s : Session) (h : Punctual (node_in s).entries) where
   store_after (inserting position e) z = store_punctual _ (changed_punctual (node_in s) h (inserting position e) z)
   store_after (removing position) z = store_punctual _ (changed_punctual (node_in s) h (removing position) z)
   store_after (replacing position e) z = store_punctual _ (changed_punctual (node_in s) h (replacing position e) z)
-  store_after (setting_levels levels) z = refl
+  store_after (setting_levels levels) z =
+      at_levels_punctual _ (changed_punctual (node_in s) h (setting_levels levels) z) s.levels s.store
 
   made_same : (o : Operation) → PunctualOperation o → session_made o s ≡ session_made_by punctual_rules o s
-  made_same (opening levels) z = ap (λ l. session_with l (empty_node levels)) (store_punctual [] (λ j l. absurd (omega arith)))
+  made_same (opening levels) z = ap (λ l. session_with l (empty_node levels)) (store_punctual (empty_node levels) (λ j l. absurd (omega arith)))
   made_same (changing c) z = ap (λ l. session_with l (changed c (node_in s))) (store_after c z)
   made_same (asking q) z = refl
 

@@ -3,7 +3,7 @@ use Rattle.std.specs.Prelude.{ℕ, ◌≡◌, List, [], ◌∷◌, Result}
 use Rattle.refusals.specs.declared.Refusal.{Refusal}
 use Rattle.refusals.specs.Refusals.{Outcome, accepted, refused, outcome}
 use Rattle.session.specs.declared.Session.{Session}
-use Rattle.map_store.specs.Store.{store_under}
+use Rattle.map_store.specs.Store.{store_under, store_at_levels}
 use Rattle.session.specs.State.{node_in, session_with, session_under}
 use Rattle.session.specs.Operations.{
   Rules,
@@ -24,13 +24,14 @@ use Rattle.session.specs.Operations.{
 }
 use Rattle.session.specs.Asking.{call_check}
 
--- The store after an accepted change. Where entries change it is worked out afresh, whatever it was. It does not depend on
--- the level count, so setting that keeps it as it was.
+-- The store after an accepted change. Where entries change it is worked out afresh, whatever it was. Setting the level count
+-- keeps a map that uses no more levels, and clears the store otherwise; but on more levels than before the map is then worked
+-- out afresh.
 abbrev pub store_after_by : Rules → Change → Session → List ℕ
-store_after_by by (inserting position e) s = store_under by.test (changed (inserting position e) (node_in s)).entries
-store_after_by by (removing position) s = store_under by.test (changed (removing position) (node_in s)).entries
-store_after_by by (replacing position e) s = store_under by.test (changed (replacing position e) (node_in s)).entries
-store_after_by by (setting_levels levels) s = s.store
+store_after_by by (inserting position e) s = store_under by.test (changed (inserting position e) (node_in s))
+store_after_by by (removing position) s = store_under by.test (changed (removing position) (node_in s))
+store_after_by by (replacing position e) s = store_under by.test (changed (replacing position e) (node_in s))
+store_after_by by (setting_levels levels) s = store_at_levels by.test s.levels (changed (setting_levels levels) (node_in s)) s.store
 
 -- The session after an accepted operation: the session of an empty node, the changed node with the store after the change, or,
 -- after a query, the same session.

@@ -2,16 +2,17 @@
 // are made in place; a refused change writes nothing. Numbers in parentheses are the refusals, in the order of the checks.
 // These are words, and not a struct, for C lends them. A position and an entry are two arguments here and in the checks: a
 // caller gives them once for a change, so a struct of both would be made anew in each call.
-ghost use Rattle.std.specs.Prelude.{◌≡◌, ◌+◌, ◌-◌, ◌≤◌, length};
+ghost use Rattle.std.specs.Prelude.{◌≡◌, ◌+◌, ◌-◌, ◌≤◌, length, get_or, drop};
 ghost use Rattle.std.specs.Option.{option_to_list};
-ghost use Rattle.task_model.specs.Limits.{most_entries, AllHold};
-ghost use Rattle.session.specs.State.{node_in, remembered, spliced};
+ghost use Rattle.task_model.specs.Limits.{most_entries, NodeHolds};
+ghost use Rattle.node_words.specs.Words.{node_of};
+ghost use Rattle.session.specs.State.{node_in, remembered, remembered_from, spliced};
 ghost use Rattle.session.specs.Operations.{changing, opening, inserting, removing, replacing, setting_levels};
-ghost use Rattle.session.specs.InWords.{session_in, words_in, FollowsIn};
+ghost use Rattle.session.specs.InWords.{node_at, store_at, session_in, words_in, FollowsIn};
 
 use super::SessionWords;
 use super::lent::{HoldsSession, LentSession, check_levels};
-use map_store::store_map;
+use map_store::{store_at_levels, store_map};
 use node_words::NODE_WORDS;
 use node_words::held::HeldEntries;
 use node_words::list::{clear_from, keep_list, splice as splice_list};
@@ -37,26 +38,44 @@ impl HoldsSession for SessionWords {
     }
 }
 
+// The entries in the words before the store.
+fn entries_before(front: &[u32]) -> HeldEntries<'_>
+    requires size { length front.now ≡ store_at }
+    requires held { NodeHolds (node_of (drop node_at front.now) (get_or front.now 1 0) (get_or front.now 0 0)) }
+    ensures words { result.words.now ≡ drop node_at front.now }
+    ensures count { result.count ≡ get_or front.now 1 0 }
+{
+    HeldEntries {
+        words: front[NODE_AT..].as_array().unwrap(),
+        count: front[1] as usize,
+    }
+}
+
 // Works out the store afresh, after a change of the entries.
 fn remember(words: &mut SessionWords)
-    requires few { (session_in words.old).count ≤ most_entries }
-    requires held { AllHold (node_in (session_in words.old)).entries }
+    requires { NodeHolds (node_in (session_in words.old)) }
     ensures { words.new ≡ words_in (remembered (session_in words.old)) }
 {
-    let count = words[1] as usize;
+    let levels = words[0] as u8;
     let (front, store) = words.split_last_chunk_mut().unwrap();
-    let node = HeldEntries {
-        words: front[NODE_AT..].as_array().unwrap(),
-        count,
-    };
-    store_map(&node, store);
+    store_map(&entries_before(front), levels, store);
+}
+
+// Sets the store right once the level count is set; it was `before`.
+fn remember_from(words: &mut SessionWords, before: u32)
+    requires { NodeHolds (node_in (session_in words.old)) }
+    ensures { words.new ≡ words_in (remembered_from before (session_in words.old)) }
+{
+    let levels = words[0] as u8;
+    let (front, store) = words.split_last_chunk_mut().unwrap();
+    store_at_levels(&entries_before(front), before, levels, store);
 }
 
 // Puts an entry, if there is one, in place of the `gone` entries from a position on, and works out the store afresh.
 fn splice(words: &mut SessionWords, position: usize, gone: usize, new: Option<Entry>)
     requires within { (position + gone ≤ (session_in words.old).count) × ((session_in words.old).count ≤ most_entries) }
     requires few { (spliced position gone (option_to_list new) (session_in words.old)).count ≤ most_entries }
-    requires held { AllHold (node_in (spliced position gone (option_to_list new) (session_in words.old))).entries }
+    requires held { NodeHolds (node_in (spliced position gone (option_to_list new) (session_in words.old))) }
     ensures { words.new ≡ words_in (remembered (spliced position gone (option_to_list new) (session_in words.old))) }
 {
     let count = words[1] as usize;
@@ -80,16 +99,17 @@ pub fn open(words: &mut SessionWords, levels: u8) -> Result<(), Refusal>
     Ok(())
 }
 
-// Sets the level count (4). The store stays as it is: it does not depend on the level count.
+// Sets the level count (4). Only a session without a map that gets more levels is searched for one.
 pub fn set_levels(words: &mut SessionWords, levels: u8) -> Result<(), Refusal>
     ensures { FollowsIn (changing (setting_levels levels)) words.old result words.new }
 {
     let lent = words.lent();
-    let count = lent.count;
+    let (before, count) = (lent.levels, lent.count);
     lent.check_set_levels(levels)?;
     let (_, rest) = words.split_at_mut(NODE_AT);
     keep_list(rest.first_chunk_mut().unwrap(), count);
     words[0] = levels as u32;
+    remember_from(words, before);
     Ok(())
 }
 

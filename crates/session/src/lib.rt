@@ -161,7 +161,7 @@ pub fn replaced(s: Session, position: usize, e: Entry) -> Changed
     Changed::by(s, |words| in_words::replace(words, position, e))
 }
 
-// Sets the level count. The store stays as it is.
+// Sets the level count.
 pub fn with_levels(s: Session, levels: u8) -> Changed
     ensures { Follows (changing (setting_levels levels)) s result.answer result.session }
 {

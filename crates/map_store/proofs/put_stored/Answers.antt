@@ -1,9 +1,8 @@
-use Rattle.std.proofs.Common.{◌≡◌, ◌∙◌, refl, ap, ◌+◌, ◌++◌, ◌<◌, ◌≤◌, ℕ, List, [], take, drop, length, arith}
-use lib.ListN.{length-set, length-take}
+use Rattle.std.proofs.Common.{◌≡◌, refl, [], take, drop, length, arith}
+use lib.ListN.{length-set}
 use lib.Seq.{length-take-le}
 use Rattle.std.proofs.lemmas.List.{drop_all}
 use Rattle.std.proofs.lemmas.Grind.{common_steps}
-use Rattle.map_store.specs.Store.{stored_levels}
 use Rattle.map_store.proofs.Lists.{stored_none, stored_next}
 use Rattle.map_store.proofs.put_stored.Goals as goal
 

@@ -10,8 +10,19 @@ use Rattle.on_time.specs.Deciding.{completion_time}
 use Rattle.on_time.proofs.Early.{time_or_zero}
 use Rattle.map_store.specs.Store.{times_at}
 use Rattle.map_store.proofs.Putting.{put_next}
-use Rattle.map_store.proofs.Earliest.{earliest_after}
+use Rattle.map_store.proofs.Earliest.{known_before, earliest_after}
 use Rattle.map_store.proofs.put_times.Goals as goal
+
+pub completion_time-time-requires-clause-not_before : goal.completion_time-time-requires-clause-not_before
+completion_time-time-requires-clause-not_before c u h =
+    let es = held_entries c.args.node.now in
+    let l = c.loop-position in
+    let at = c.timed-timed.ensures in
+    let own : c.entry.result.entry ≡ entry_at es l.position = rw (at.node, at.position) at c.entry.ensures in
+    let b = ap (λ (e : Entry). e.blocking) own in
+    rw c.known_for-from.ensures
+    (known_before es c.args.group.first (c.args.group.end - 1) l.position (omega arith) (omega arith) l.known l.invariant.known _ b u
+    (rw (at.node, at.group.0, at.group.1, at.position, b) at h))
 
 pub loop-position-preserved : goal.loop-position-preserved
 loop-position-preserved c =
@@ -28,6 +39,6 @@ loop-position-preserved c =
     record {
       put = put_next times_at _ _ _ l.position _ _ (omega arith) (omega arith)
           (c.unwrap_or.ensures ∙ ap (λ o. unwrap_or o 0) time ∙ time_or_zero (completion_test es (group_level first last) l.position)) l.invariant.put;
-      known = earliest_after es first last l.position (omega arith) (omega arith) n.held (omega (arith, length-entries n.words.now 0 n.count))
-          l.known l.invariant.known _ own _ time _ c.known_after-known.ensures;
+      known = rw c.known_after-known.ensures (earliest_after es first last l.position (omega arith) (omega arith) n.held (omega (arith, length-entries n.words.now 0 n.count))
+          l.known l.invariant.known _ own _ time);
     }

@@ -5,7 +5,7 @@ use Rattle.node_words.specs.Words.{words_of, entries_of}
 use Rattle.node_words.specs.Lists.{zero_padded}
 use Rattle.session.specs.declared.Session.{Session}
 use Rattle.session.specs.Operations.{setting_levels}
-use Rattle.session.proofs.InWords.{asked, in_refused, part, part_ready, levels_set}
+use Rattle.session.proofs.InWords.{asked, in_refused, part, part_ready, levels_held, levels_follow}
 use Rattle.session.proofs.in_words.set_levels.Goals as goal
 
 pub returns-in_err-check_set_levels : goal.returns-in_err-check_set_levels
@@ -21,12 +21,21 @@ keep_list-requires c =
     let count = ap (λ (s : Session). s.count) c.lent-lent.ensures in
     omega (arith, ready.few)
 
-pub returns : goal.returns
-returns c =
+pub remember_from-requires : goal.remember_from-requires
+remember_from-requires c =
     let w = c.args.words.now in
-    let levels = c.args.levels in
     let parts = c.split_at_mut-rest.ensures in
     let node = rw (c.unwrap.ensures, parts.back) at c.first_chunk_mut.ensures.cases in
     rw (parts.front, parts.back)
-    (levels_set w (omega arith) levels (asked (setting_levels levels) c.lent-lent.ensures c.in_ok-check_set_levels.ensures)
+    (levels_held w (omega arith) c.args.levels (asked (setting_levels c.args.levels) c.lent-lent.ensures c.in_ok-check_set_levels.ensures)
     ((rw node.same at c.keep_list.ensures) ∙ ap (λ (s : Session). zero_padded (words_of (entries_of (part w) s.count))) c.lent-lent.ensures))
+
+pub returns : goal.returns
+returns c =
+    let w = c.args.words.now in
+    let parts = c.split_at_mut-rest.ensures in
+    let node = rw (c.unwrap.ensures, parts.back) at c.first_chunk_mut.ensures.cases in
+    let before = ap (λ (s : Session). s.levels) c.lent-lent.ensures in
+    levels_follow w (omega arith) c.args.levels (asked (setting_levels c.args.levels) c.lent-lent.ensures c.in_ok-check_set_levels.ensures)
+    ((rw node.same at c.keep_list.ensures) ∙ ap (λ (s : Session). zero_padded (words_of (entries_of (part w) s.count))) c.lent-lent.ensures)
+    (rw (parts.front, parts.back, before) at c.remember_from.ensures)
