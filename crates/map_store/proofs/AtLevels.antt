@@ -1,14 +1,15 @@
 -- Setting the level count: what it makes of a store.
 use Prim.Native.Nat.{ℕ, ◌≤◌, ◌<◌}
-use mathlib.Core.Path.{◌≡◌, ◌∙◌, refl, sym, ap}
-use mathlib.Core.Bool.{Bool, true, false}
-use mathlib.Core.Logic.{◌⊎◌, inl, inr, ⊎_elim, by_cases}
+use mathlib.Core.Path.{◌≡◌, ◌∙◌, sym, ap}
+use mathlib.Core.Bool.{true, false}
+use mathlib.Core.Logic.{⊎_elim, by_cases}
 use mathlib.Core.Option.{none, some}
 use mathlib.Core.List.{List}
 use native.Mathlib.Omega.{arith}
 use native.Mathlib.Decide.{dec_le}
 use lib.ListN.{length}
 use borrow.Author.Tests.{le-leb, lt-leb}
+use Rattle.task_model.proofs.Tests.{true_or_false}
 use Rattle.task_model.specs.Limits.{most_entries, Node, AllHold, NodeHolds}
 use Rattle.node_words.specs.Lists.{zeros}
 use Rattle.completion.specs.Test.{completion_test}
@@ -18,10 +19,6 @@ use Rattle.level_map.proofs.Theorems.{mapping, map_fewer, map_too_few, none_fewe
 use Rattle.map_store.specs.Store.{store_size, store_under, store_of, has_map, store_at_levels}
 use Rattle.map_store.proofs.Filling.{store_some, store_none}
 use Rattle.map_store.proofs.Theorems.{by_map, store_size_lem, stored_on, stored_none}
-
-either_way : (b : Bool) → (b ≡ true) ⊎ (b ≡ false)
-either_way true = inl refl
-either_way false = inr refl
 
 -- what setting the level count makes of any words, by each of its tests
 module _ (test : EntryTest) (before : ℕ) (n : Node) (store : List ℕ) where
@@ -48,7 +45,7 @@ levels_size before n hold few store size =
     by_cases (dec_le n.levels before)
     (λ h. ap length (levels_cleared completion_test before n store p h))
     (λ z. ap length (levels_afresh completion_test before n store p (omega arith)) ∙ store_size_lem n hold few))
-    (either_way (has_map store n.levels))
+    (true_or_false (has_map store n.levels))
 
 -- and the store of a node becomes the store of the node with the new count.
 module _ (n : Node) (holds : NodeHolds n) (levels : ℕ) where

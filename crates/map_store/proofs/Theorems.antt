@@ -1,31 +1,31 @@
 -- The theorems of a store: what is asked of the store of a node is what is worked out afresh from the node.
 use Prim.Native.Nat.{ℕ, ◌+◌, ◌*◌, ◌%◌, ◌≤◌, ◌<◌}
 use mathlib.Core.Path.{◌≡◌, ◌∙◌, refl, sym, ap}
-use mathlib.Core.Bool.{Bool, true, false}
-use mathlib.Core.Logic.{◌⊎◌, inl, inr, ⊎_elim, by_cases}
+use mathlib.Core.Bool.{Bool, true, false, false≢true}
+use mathlib.Core.Logic.{◌⊎◌, inl, inr, ⊎_elim}
 use mathlib.Core.Option.{Option, none, some}
 use mathlib.Core.List.{List, [], ◌∷◌}
 use native.Mathlib.Omega.{arith}
 use native.Mathlib.Nat.{mod-eq_of_lt}
-use native.Mathlib.Decide.{dec_le, dec_lt}
 use lib.ListN.{length, get_or}
 use lib.Dec.{leb, ltb}
-use borrow.Author.Tests.{le-leb, lt-ltb, le-ltb}
-use Rattle.refusals.specs.Refusals.{Numbered, at, ◌and_then◌, must_hold}
-use Rattle.refusals.specs.Answers.{gives, refuses, left}
+use borrow.Author.Tests.{le-leb, ltb-true}
+use Rattle.refusals.specs.Refusals.{Numbered, Outcome, accepted, at, ◌and_then◌, must_hold}
+use Rattle.refusals.proofs.Outcomes.{both_accepted, demanded, giving_same, left_same}
+use Rattle.refusals.specs.Answers.{giving, left}
 use Rattle.task_model.specs.declared.Entry.{Entry}
 use Rattle.task_model.specs.Limits.{most_entries, Node, AllHold, NodeHolds}
 use Rattle.node_words.specs.Lists.{zeros}
 use Rattle.completion.specs.Test.{completion_test, time_in}
 use Rattle.level_map.specs.Assignments.{level_of, levels_used, Assignment}
 use Rattle.level_map.specs.Map.{the_map}
-use Rattle.level_map.specs.Answer.{is_some, levels_in, map_of, levels_under, held_check, held_check_under, held_answer}
-use Rattle.level_map.proofs.Theorems.{mapping, held_short, held_map, held_none, map_empty}
+use Rattle.level_map.specs.Answer.{is_some, levels_in, map_of, levels_under, held_check, held_check_under, held_answer, held_answer_under}
+use Rattle.level_map.proofs.Theorems.{mapping, map_empty}
 use Rattle.map_store.specs.Store.{store_size, levels_at, up_to, padded, times_under, keeping, store_of, has_map, stored_used, stored_levels, stored_time}
 use Rattle.map_store.specs.Asking.{map_check, map_asked, time_check, time_asked, fresh_time_check, fresh_time}
 use Rattle.map_store.proofs.Lists.{up_to-list}
 use Rattle.map_store.proofs.Filling.{store_some, store_none, keeping_size, keeping_level, keeping_time, times_at_lem}
-use Rattle.map_store.proofs.Asking.{has_one, has_none, asked_short, asked_none, asked_given, timed_outside, timed_none, timed_given}
+use Rattle.map_store.proofs.Asking.{has_one, has_none}
 
 -- there is a map or there is none
 pub by_map : (o : Option (List ℕ)) → ((m : List ℕ) × (o ≡ some m)) ⊎ (o ≡ none)
@@ -49,7 +49,7 @@ unfolding keeping padded times_under up_to
 store_empty levels = store_some completion_test (record { levels = levels; entries = [] }) [] (map_empty levels)
 
 -- The store of a node, and the map m of the node.
-pub record Kept (n : Node) (m : List ℕ) : Type 0 where
+pub record Stores (n : Node) (m : List ℕ) : Type 0 where
   pub found : the_map n.entries n.levels ≡ some m
   pub has : has_map (store_of n) n.levels ≡ true
   pub used : stored_used (store_of n) ≡ levels_used m
@@ -60,22 +60,6 @@ pub record Kept (n : Node) (m : List ℕ) : Type 0 where
 pub record Lacks (n : Node) : Type 0 where
   pub none : the_map n.entries n.levels ≡ none
   pub has : has_map (store_of n) n.levels ≡ false
-
--- a time that is worked out afresh, by each of its checks
-module _ (n : Node) (i : ℕ) where
-  pub fresh_outside : length n.entries ≤ i → fresh_time completion_test n i ≡ refuses (at 12 0 0)
-  unfolding fresh_time fresh_time_check
-  fresh_outside h = rw (le-ltb i (length n.entries) h)
-
-  module _ (h : i < length n.entries) where
-    pub fresh_none : is_some (the_map n.entries n.levels) ≡ false → fresh_time completion_test n i ≡ refuses (at 11 0 0)
-    unfolding fresh_time fresh_time_check
-    fresh_none p = rw (lt-ltb i (length n.entries) h, p)
-
-    pub fresh_given : is_some (the_map n.entries n.levels) ≡ true
-        → fresh_time completion_test n i ≡ gives (time_in (completion_test n.entries (level_of (map_of n)) i))
-    unfolding fresh_time fresh_time_check
-    fresh_given p = rw (lt-ltb i (length n.entries) h, p)
 
 module _ (n : Node) (holds : NodeHolds n) where
   abbrev es : List Entry
@@ -108,7 +92,7 @@ module _ (n : Node) (holds : NodeHolds n) where
         ∙ keeping_level completion_test es (length es) refl m fits.each holds.few_entries i (omega (arith, holds.few_entries)))
         ∙ mod-eq_of_lt (omega (arith, fits.high i k, holds.few_levels))
 
-    pub store_kept : Kept n m
+    pub store_kept : Stores n m
     unfolding stored_levels
     store_kept =
         record {
@@ -127,7 +111,7 @@ module _ (n : Node) (holds : NodeHolds n) where
       has_none (store_of n) levels (λ q. let z : get_or (store_of n) 0 0 ≡ 0 = ap (λ l. get_or l 0 0) (store_none completion_test n p) in omega arith)
 
   -- The store has the map of the node, with its count of levels, its levels and its times; or both have none.
-  pub store_right : ((m : List ℕ) × Kept n m) ⊎ Lacks n
+  pub store_right : ((m : List ℕ) × Stores n m) ⊎ Lacks n
   store_right =
       ⊎_elim
       (λ y. inl (y.0, store_kept y.0 y.1))
@@ -146,41 +130,30 @@ module _ (n : Node) (holds : NodeHolds n) where
   unfolding map_check held_check_under
   map_check_lem room = ap (λ b. must_hold (leb (length es) room) (at 10 0 0) and_then must_hold b (at 11 0 0)) store_has
 
-  pub map_answer_lem : (room : ℕ) → map_asked (store_of n) n.levels (length n.entries) room ≡ held_answer n room
-  map_answer_lem room =
-      by_cases (dec_le (length es) room)
-      (λ enough.
-      ⊎_elim
-      (λ y.
-      asked_given (store_of n) n.levels (length es) room enough y.1.has
-      ∙ ap gives y.1.used
-      ∙ sym (held_map n room enough y.0 y.1.found).0)
-      (λ z.
-      asked_none (store_of n) n.levels (length es) room enough z.has
-      ∙ sym (held_none n room enough z.none))
-      store_right)
-      (λ short.
-      asked_short (store_of n) n.levels (length es) room (omega arith) ∙ sym (held_short n room (omega arith)))
-
   map_levels : (m : List ℕ) → the_map n.entries n.levels ≡ some m → map_of n ≡ m
   unfolding levels_under
   map_levels m p = ap levels_in p
 
-  -- without a map the answer is a refusal
-  refused_answer : Lacks n → (room : ℕ) → (r : Numbered) × (held_answer n room ≡ refuses r)
-  refused_answer z room =
-      by_cases (dec_le (length es) room)
-      (λ enough. (at 11 0 0, held_none n room enough z.none))
-      (λ short. (at 10 0 0, held_short n room (omega arith)))
+  -- with both checks accepted there is a map
+  kept_if : (o : Outcome) (r : Numbered) → o and_then must_hold (is_some (the_map n.entries n.levels)) r ≡ accepted → (m : List ℕ) × Stores n m
+  kept_if o r p =
+      ⊎_elim
+      (λ y. y)
+      (λ z. absurd (false≢true (sym (ap is_some z.none) ∙ demanded (is_some (the_map n.entries n.levels)) r (both_accepted o _ p).1)))
+      store_right
+
+  pub map_answer_lem : (room : ℕ) → map_asked (store_of n) n.levels (length n.entries) room ≡ held_answer n room
+  unfolding map_asked held_answer_under held_check_under
+  map_answer_lem room =
+      ap (λ o. giving o (stored_used (store_of n))) (map_check_lem room)
+      ∙ giving_same _ _ _ (λ a. let y = kept_if _ _ a in y.1.used ∙ ap levels_used (sym (map_levels y.0 y.1.found)))
 
   pub map_written : (room : ℕ) (buffer : List ℕ)
       → left (held_answer n room) (stored_levels (store_of n) (length n.entries)) buffer
       ≡ left (held_answer n room) (map_of n) buffer
+  unfolding held_answer_under held_check_under
   map_written room buffer =
-      ⊎_elim
-      (λ y. ap (λ l. left (held_answer n room) l buffer) (y.1.levels ∙ sym (map_levels y.0 y.1.found)))
-      (λ z. rw (refused_answer z room).1)
-      store_right
+      left_same _ _ _ _ buffer (λ a. let y = kept_if _ _ a in y.1.levels ∙ sym (map_levels y.0 y.1.found))
 
   -- Asking for a time is refused, and answered, exactly as if the map were found and the entry timed under it.
   pub time_check_lem : (i : ℕ) → time_check (store_of n) n.levels (length n.entries) i ≡ fresh_time_check completion_test n i
@@ -188,16 +161,11 @@ module _ (n : Node) (holds : NodeHolds n) where
   time_check_lem i = ap (λ b. must_hold (ltb i (length es)) (at 12 0 0) and_then must_hold b (at 11 0 0)) store_has
 
   pub time_answer_lem : (i : ℕ) → time_asked (store_of n) n.levels (length n.entries) i ≡ fresh_time completion_test n i
+  unfolding time_asked fresh_time fresh_time_check
   time_answer_lem i =
-      by_cases (dec_lt i (length es))
-      (λ inside.
-      ⊎_elim
-      (λ y.
-      timed_given (store_of n) n.levels (length es) i inside y.1.has
-      ∙ ap gives (y.1.times i inside ∙ ap (λ m. time_in (completion_test es (level_of m) i)) (sym (map_levels y.0 y.1.found)))
-      ∙ sym (fresh_given n i inside (ap is_some y.1.found)))
-      (λ z.
-      timed_none (store_of n) n.levels (length es) i inside z.has
-      ∙ sym (fresh_none n i inside (ap is_some z.none)))
-      store_right)
-      (λ out. timed_outside (store_of n) n.levels (length es) i (omega arith) ∙ sym (fresh_outside n i (omega arith)))
+      ap (λ o. giving o (stored_time (store_of n) i)) (time_check_lem i)
+      ∙ giving_same _ _ _
+      (λ a.
+      let y = kept_if _ _ a in
+      y.1.times i (ltb-true i (length es) (demanded (ltb i (length es)) _ (both_accepted _ _ a).0))
+      ∙ ap (λ m. time_in (completion_test es (level_of m) i)) (sym (map_levels y.0 y.1.found)))

@@ -52,7 +52,7 @@ AllStored [] = Unit
 AllStored (c ∷ cs) = StoreHolds c × AllStored cs
 
 -- The table. P has a map on 2 levels and none on 1: it loses its map when one level is set, and has it again with two. R and
--- S have none on any count. An empty node has one, of 0 levels, and a store of zeros has none. 10 comes before 11, and 12
+-- S have none on 64 levels. An empty node has one, of 0 levels, and a store of zeros has none. 10 comes before 11, and 12
 -- before 11.
 unfoldable pub store_cases : List StoreClaim
 store_cases =

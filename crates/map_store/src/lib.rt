@@ -5,7 +5,7 @@
 ghost use Rattle.std.specs.Prelude.{◌≡◌, ◌⊎◌, ◌∷◌, ◌++◌, ◌-◌, ◌*◌, ◌≤◌, IsSomeAnd, Some, length, drop};
 ghost use Rattle.std.proofs.Math.Option.{some};
 ghost use Rattle.refusals.specs.Answers.{answered, left};
-ghost use Rattle.task_model.specs.Limits.{most_levels, most_entries};
+ghost use Rattle.task_model.specs.Limits.{most_entries};
 ghost use Rattle.node_words.specs.Held.{held_entries};
 ghost use Rattle.node_words.specs.Words.{node_of};
 ghost use Rattle.node_words.specs.Lists.{zeros};
@@ -156,7 +156,7 @@ pub fn stored_map(
     count: usize,
     out: &mut [u8],
 ) -> Result<u8, Refusal>
-    requires { (levels ≤ most_levels) × (count ≤ most_entries) }
+    requires { count ≤ most_entries }
     ensures answered { answered result ≡ map_asked store.now levels count (length out.old) }
     ensures written { out.new ≡ left (answered result) (stored_levels store.now count) out.old }
 {

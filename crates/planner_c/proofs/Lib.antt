@@ -1,5 +1,6 @@
 -- Laws for the proofs of functions, and the theorems of sessions and files.
 pub mod Changing
+pub mod Calls
 pub mod Mapping
 pub mod Checking
 pub mod Results

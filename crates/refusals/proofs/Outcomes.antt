@@ -3,9 +3,11 @@ use Prim.Native.Nat.{ℕ}
 use mathlib.Core.Path.{◌≡◌, ◌∙◌, refl, ap}
 use mathlib.Core.Bool.{Bool, true, false}
 use mathlib.Core.Logic.{◌⊎◌, inl, inr}
+use mathlib.Core.List.{List, ◌++◌}
 use native.Mathlib.Omega.{arith}
+use lib.ListN.{length, drop}
 use Rattle.refusals.specs.Refusals.{Numbered, at, Outcome, accepted, refused, ◌and_then◌, must_hold}
-use Rattle.refusals.specs.Answers.{gives, refuses, giving}
+use Rattle.refusals.specs.Answers.{gives, refuses, giving, left}
 
 -- an answer is accepted or refused, and not both
 pub either : (o : Outcome) → (o ≡ accepted) ⊎ ((r : Numbered) × (o ≡ refused r))
@@ -69,3 +71,12 @@ giving_refuses (refused s) a r p = cc
 pub giving_gives : {A : Type 0} (o : Outcome) (a b : A) → gives b ≡ giving o a → (o ≡ accepted) × (b ≡ a)
 giving_gives accepted a b p = (refl, cc)
 giving_gives (refused s) a b p = absurd (let z : ◌≡◌ {A = ℕ} 0 1 = cc in omega arith)
+
+-- two answers after the same checks are the same if the results are where the checks accept; and so is what they leave
+pub giving_same : {A : Type 0} (o : Outcome) (a b : A) → (o ≡ accepted → a ≡ b) → giving o a ≡ giving o b
+giving_same accepted a b h = ap gives (h refl)
+giving_same (refused r) a b h = refl
+
+pub left_same : {A : Type 0} (o : Outcome) (a : A) (k l old : List ℕ) → (o ≡ accepted → k ≡ l) → left (giving o a) k old ≡ left (giving o a) l old
+left_same accepted a k l old h = ap (λ x. x ++ drop (length x) old) (h refl)
+left_same (refused r) a k l old h = refl

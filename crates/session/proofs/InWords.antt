@@ -23,7 +23,8 @@ use Rattle.map_store.specs.Store.{store_size, store_of, store_at_levels}
 use Rattle.map_store.proofs.Theorems.{store_size_lem, store_empty}
 use Rattle.map_store.proofs.AtLevels.{levels_size}
 use Rattle.session.specs.declared.Session.{Session}
-use Rattle.session.specs.State.{node_in, session_with, session_of, spliced, restored, remembered, remembered_from}
+use Rattle.session.specs.State.{node_in, session_with, session_of}
+use Rattle.session.specs.Lent.{spliced, with_store_by, remembered, remembered_at_levels}
 use Rattle.session.specs.Operations.{
   rules,
   Change,
@@ -244,10 +245,10 @@ module _ (w : List ℕ) (x : Change) (a : accepted ≡ step_check (changing x) (
     unstored_held = subst NodeHolds (sym read_made) holds
 
     -- and with the store that is due
-    restored_follows : (work : List ℕ → Node → List ℕ) → store_after_by rules x (session_in w) ≡ work (drop store_at w) made → {last : List ℕ}
-        → last ≡ words_in (restored work unstored) → FollowsIn (changing x) w (Ok tt) last
+    store_follows : (work : List ℕ → Node → List ℕ) → store_after_by rules x (session_in w) ≡ work (drop store_at w) made → {last : List ℕ}
+        → last ≡ words_in (with_store_by work unstored) → FollowsIn (changing x) w (Ok tt) last
     unfolding session_with
-    restored_follows work q e =
+    store_follows work q e =
         in_accepted (changing x) w a _
         (ap (λ (m : Node). session_with (work (drop store_at w) m) made) read_made ∙ ap (λ l. session_with l made) (sym q))
         e
@@ -264,7 +265,7 @@ module _ (w : List ℕ) (x : Change) (a : accepted ≡ step_check (changing x) (
 
       pub splice_follows : store_after_by rules x (session_in w) ≡ store_of (changed x (node_in (session_in w))) → {last : List ℕ}
           → last ≡ words_in (remembered (spliced (position_of x) (gone_of x) (new_of x) (session_in w))) → FollowsIn (changing x) w (Ok tt) last
-      splice_follows q e = restored_follows (λ store n. store_of n) q (e ∙ ap (λ s. words_in (remembered s)) spliced_is)
+      splice_follows q e = store_follows (λ store n. store_of n) q (e ∙ ap (λ s. words_in (remembered s)) spliced_is)
 
 -- where the level count is set: made of the store as it was
 module _ (w : List ℕ) (size : length w ≡ session_size) (levels : ℕ) (a : accepted ≡ step_check (changing (setting_levels levels)) (node_in (session_in w)))
@@ -284,12 +285,12 @@ module _ (w : List ℕ) (size : length w ≡ session_size) (levels : ℕ) (a : a
   pub levels_held : NodeHolds (node_in (session_in (set (with_part w ws) 0 levels)))
   levels_held = subst (λ (s : Session). NodeHolds (node_in s)) (sym levels_in) (unstored_held w setting a tt)
 
-  pub levels_follow : {last : List ℕ} → last ≡ words_in (remembered_from (get_or w 0 0) (session_in (set (with_part w ws) 0 levels)))
+  pub levels_follow : {last : List ℕ} → last ≡ words_in (remembered_at_levels (get_or w 0 0) (session_in (set (with_part w ws) 0 levels)))
       → FollowsIn (changing setting) w (Ok tt) last
   unfolding changed
   levels_follow e =
-      restored_follows w setting a tt (λ store n. store_at_levels completion_test (get_or w 0 0) n store) refl
-      (e ∙ ap (λ s. words_in (remembered_from (get_or w 0 0) s)) levels_in)
+      store_follows w setting a tt (λ store n. store_at_levels completion_test (get_or w 0 0) n store) refl
+      (e ∙ ap (λ s. words_in (remembered_at_levels (get_or w 0 0) s)) levels_in)
 
 pub rows_words : (os : List Operation) (w : List ℕ) → session_in (words_after_all os w) ≡ session_after_all os (session_in w)
 unfolding words_after_all session_after_all

@@ -7,6 +7,7 @@ pub mod Sequences
 pub mod InWords
 pub mod Held
 pub mod Theorems
+pub mod Calls
 pub mod Repeats
 pub mod Mapping
 pub mod WithoutJitter

@@ -66,7 +66,7 @@ module _ (s : Session) (h : Sound s) where
 
   -- what its store and its count are
   module _ {A : Type 0} (ask : List ℕ → ℕ → ℕ → A) where
-    of_node : ask s.store s.levels s.count ≡ ask (store_of (node_in s)) (node_in s).levels (length (node_in s).entries)
+    pub of_node : ask s.store s.levels s.count ≡ ask (store_of (node_in s)) (node_in s).levels (length (node_in s).entries)
     unfolding session_with
     of_node = ap (λ (t : Session). ask t.store s.levels t.count) h.determined
 

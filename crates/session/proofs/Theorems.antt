@@ -1,6 +1,6 @@
 -- The theorems of the session.
 use Prim.Native.Nat.{ℕ, ◌≤◌, ◌<◌}
-use mathlib.Core.Path.{◌≡◌, ◌∙◌, refl, sym, ap, ap₂, subst}
+use mathlib.Core.Path.{◌≡◌, ◌∙◌, refl, sym, ap, subst}
 use mathlib.Core.Logic.{⊎_elim, ◌↔◌}
 use mathlib.Core.Bool.{true, false≢true}
 use mathlib.Core.Option.{some}
@@ -52,7 +52,7 @@ use Rattle.session.proofs.Checking.{
   after_refused,
   after_accepted,
 }
-use Rattle.session.proofs.Mapping.{asked_time, own_answer, own_time, sound_map, sound_left, sound_time, sound_best}
+use Rattle.session.proofs.Mapping.{of_node, asked_time, own_answer, own_time, sound_map, sound_left, sound_time, sound_best}
 use Rattle.session.proofs.InWords.{change_kept, words_back, session_back, words_refused, words_accepted, rows_words}
 use Rattle.session.proofs.Sequences.{kept_empty, own_checks, rows_session, rows_answers, rows_kept}
 
@@ -220,10 +220,6 @@ map_time_refusal s i r = ((λ p. rw p), λ p. giving_refuses (call_check (asking
 
 -- A sound session remembers: its store holds what is worked out afresh from its entries and its level count.
 module _ (s : Session) (h : Sound s) where
-  store_is : s.store ≡ store_of (node_in s)
-  unfolding session_with
-  store_is = ap (λ (t : Session). t.store) h.determined
-
   count_is : s.count ≡ length (node_in s).entries
   unfolding session_with
   count_is = ap (λ (t : Session). t.count) h.determined
@@ -233,10 +229,10 @@ module _ (s : Session) (h : Sound s) where
       let n = node_in s in
       let within = h.valid.within in
       record {
-        has = ap (λ st. has_map st s.levels) store_is ∙ store_has n within;
-        used = λ m p. ap stored_used store_is ∙ (store_kept n within m p).used;
-        levels = λ m p. ap₂ stored_levels store_is count_is ∙ (store_kept n within m p).levels;
-        times = λ m p i l. ap (λ st. stored_time st i) store_is ∙ (store_kept n within m p).times i l;
+        has = of_node s h (λ st l c. has_map st l) ∙ store_has n within;
+        used = λ m p. of_node s h (λ st l c. stored_used st) ∙ (store_kept n within m p).used;
+        levels = λ m p. of_node s h (λ st l c. stored_levels st c) ∙ (store_kept n within m p).levels;
+        times = λ m p i l. of_node s h (λ st l c. stored_time st i) ∙ (store_kept n within m p).times i l;
       }
 
   -- Mapping it checks 10, then 11, and answers and writes as mapping its node afresh does,

@@ -25,8 +25,7 @@ use Rattle.session.specs.Operations.{
 use Rattle.session.specs.Asking.{call_check}
 
 -- The store after an accepted change. Where entries change it is worked out afresh, whatever it was. Setting the level count
--- keeps a map that uses no more levels, and clears the store otherwise; but on more levels than before the map is then worked
--- out afresh.
+-- keeps a store that has a map on the new count; else it works it out afresh if the count rises, and else clears it.
 abbrev pub store_after_by : Rules → Change → Session → List ℕ
 store_after_by by (inserting position e) s = store_under by.test (changed (inserting position e) (node_in s))
 store_after_by by (removing position) s = store_under by.test (changed (removing position) (node_in s))
@@ -70,3 +69,15 @@ answers_of (o ∷ os) s = call_check o s ∷ answers_of os (session_after o s)
 pub record Follows (o : Operation) (s : Session) (a : Result Unit Refusal) (t : Session) : Type 0 where
   pub answer : outcome a ≡ step_check o (node_in s)
   pub session : t ≡ session_after o s
+
+-- A call of the operation o on the session s answers x and leaves the session t. A query is lent the session by `&`: it leaves s.
+pub record Called (o : Operation) (s : Session) (x : Outcome) (t : Session) : Type 0 where
+  pub answer : x ≡ call_check o s
+  pub session : t ≡ session_after o s
+
+-- Calls in a row, each on the session that the one before it left: they answer xs, and the last one leaves t.
+abbrev pub CalledAll : List Operation → Session → List Outcome → Session → Type 0
+CalledAll [] s xs t = (xs ≡ []) × (t ≡ s)
+CalledAll (o ∷ os) s xs t =
+    (x : Outcome) × (ys : List Outcome) × (between : Session)
+    × (xs ≡ x ∷ ys) × Called o s x between × CalledAll os between ys t

@@ -6,8 +6,9 @@ ghost use Rattle.std.specs.Prelude.{◌≡◌, ◌+◌, ◌-◌, ◌≤◌, leng
 ghost use Rattle.std.specs.Option.{option_to_list};
 ghost use Rattle.task_model.specs.Limits.{most_entries, NodeHolds};
 ghost use Rattle.node_words.specs.Words.{node_of};
-ghost use Rattle.session.specs.State.{node_in, remembered, remembered_from, spliced};
+ghost use Rattle.session.specs.State.{node_in};
 ghost use Rattle.session.specs.Operations.{changing, opening, inserting, removing, replacing, setting_levels};
+ghost use Rattle.session.specs.Lent.{remembered, remembered_at_levels, spliced};
 ghost use Rattle.session.specs.InWords.{node_at, store_at, session_in, words_in, FollowsIn};
 
 use super::SessionWords;
@@ -62,9 +63,9 @@ fn remember(words: &mut SessionWords)
 }
 
 // Sets the store right once the level count is set; it was `before`.
-fn remember_from(words: &mut SessionWords, before: u32)
+fn remember_at_levels(words: &mut SessionWords, before: u32)
     requires { NodeHolds (node_in (session_in words.old)) }
-    ensures { words.new ≡ words_in (remembered_from before (session_in words.old)) }
+    ensures { words.new ≡ words_in (remembered_at_levels before (session_in words.old)) }
 {
     let levels = words[0] as u8;
     let (front, store) = words.split_last_chunk_mut().unwrap();
@@ -109,7 +110,7 @@ pub fn set_levels(words: &mut SessionWords, levels: u8) -> Result<(), Refusal>
     let (_, rest) = words.split_at_mut(NODE_AT);
     keep_list(rest.first_chunk_mut().unwrap(), count);
     words[0] = levels as u32;
-    remember_from(words, before);
+    remember_at_levels(words, before);
     Ok(())
 }
 

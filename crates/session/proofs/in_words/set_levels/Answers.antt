@@ -21,8 +21,8 @@ keep_list-requires c =
     let count = ap (λ (s : Session). s.count) c.lent-lent.ensures in
     omega (arith, ready.few)
 
-pub remember_from-requires : goal.remember_from-requires
-remember_from-requires c =
+pub remember_at_levels-requires : goal.remember_at_levels-requires
+remember_at_levels-requires c =
     let w = c.args.words.now in
     let parts = c.split_at_mut-rest.ensures in
     let node = rw (c.unwrap.ensures, parts.back) at c.first_chunk_mut.ensures.cases in
@@ -38,4 +38,4 @@ returns c =
     let before = ap (λ (s : Session). s.levels) c.lent-lent.ensures in
     levels_follow w (omega arith) c.args.levels (asked (setting_levels c.args.levels) c.lent-lent.ensures c.in_ok-check_set_levels.ensures)
     ((rw node.same at c.keep_list.ensures) ∙ ap (λ (s : Session). zero_padded (words_of (entries_of (part w) s.count))) c.lent-lent.ensures)
-    (rw (parts.front, parts.back, before) at c.remember_from.ensures)
+    (rw (parts.front, parts.back, before) at c.remember_at_levels.ensures)

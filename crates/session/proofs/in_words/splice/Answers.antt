@@ -2,7 +2,8 @@ use native.Mathlib.Omega.{arith}
 use mathlib.Core.Path.{◌∙◌, sym, ap, subst}
 use Rattle.task_model.specs.Limits.{NodeHolds}
 use Rattle.session.specs.declared.Session.{Session}
-use Rattle.session.specs.State.{node_in, remembered}
+use Rattle.session.specs.State.{node_in}
+use Rattle.session.specs.Lent.{remembered}
 use Rattle.session.specs.InWords.{words_in}
 use Rattle.session.proofs.InWords.{splice_back}
 use Rattle.session.proofs.in_words.splice.Goals as goal

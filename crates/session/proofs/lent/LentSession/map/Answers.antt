@@ -14,10 +14,7 @@ pub overflow_cast-self : goal.overflow_cast-self
 overflow_cast-self c = omega (arith, (found_within (session_lent c.args.self.now) c.in_ok-check.ensures).few_levels)
 
 pub stored_map-requires : goal.stored_map-requires
-stored_map-requires c =
-    let s = session_lent c.args.self.now in
-    let e = c.in_ok-check.ensures in
-    ((found_within s e).few_levels, omega (arith, found_few s e))
+stored_map-requires c = omega (arith, found_few (session_lent c.args.self.now) c.in_ok-check.ensures)
 
 pub returns : goal.returns
 returns c = maps_held _ _ (sym c.in_ok-check.ensures) _ _ c.stored_map.ensures.answered c.stored_map.ensures.written
