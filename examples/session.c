@@ -65,6 +65,15 @@ static void show_change(const char *change, uint32_t refused, const size_t value
     }
 }
 
+/* One level is too few for the map, which is there again with two. */
+static void try_levels(maiplur_session *session) {
+    size_t values[3];
+    show_change("set levels", maiplur_session_set_levels(session, 1, values), values);
+    show_map_times(session);
+    show_change("set levels", maiplur_session_set_levels(session, 2, values), values);
+    show_map_times(session);
+}
+
 /* The third task must end earlier; then the second goes, and one level is left. */
 static void try_changes(maiplur_session *session) {
     static const uint32_t earlier[6] = {TASK + 3, 68, 150, 137, 0, 0};
@@ -130,6 +139,7 @@ int main(void) {
     }
     show_map_times(&session);
     show_time(&session);
+    try_levels(&session);
     try_changes(&session);
     try_jitter(&session);
     try_copy(&session);

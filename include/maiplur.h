@@ -148,26 +148,25 @@ uint32_t maiplur_list(const uint8_t *file, size_t file_length, uint8_t *text, si
  * count is outside the limits, then 7, 8 and 14 entry by entry, then 16, with row 0 and the entry's position. A session that
  * was opened and changed by these functions always passes. Then come the function's own checks, in the order of its comment.
  *
- * The last four fields are the store: the map of the entries on 64 levels, or that there is none, and each entry's completion
- * time under it. With fewer levels the map is the same if it uses few enough, and there is none otherwise. So the session has
- * a map exactly if `mapped` is 1 and `used` is at most `levels`. If there is no map even on 64 levels, the store is all
- * zeros; that of an empty node has `mapped` 1 and `used` 0.
+ * The last four fields are the store: the map of the session, or that there is none, and each entry's completion time under
+ * it. If there is no map, the store is all zeros; that of an empty node has `mapped` 1 and `used` 0.
  *
  * Only the functions should write the struct. Opening, inserting, removing and replacing leave the store that belongs to the
- * entries, whatever it held before; setting the level count keeps it, and no check looks at it. maiplur_session_map and
- * maiplur_session_map_time answer from it. So if a caller writes entries into the struct by hand, they answer for whatever the
- * store holds, which is wrong until the next insert, remove or replace that is not refused. A struct may be copied whole.
+ * entries and the level count, whatever it held before; setting the level count goes by what the store says, and no check
+ * looks at the store. maiplur_session_map and maiplur_session_map_time answer from it: it has a map if `mapped` is 1 and
+ * `used` at most `levels`. So if a caller writes the struct by hand, they answer for whatever the store holds, which may be
+ * wrong until the next opening, insert, remove or replace that is not refused. A struct may be copied whole.
  *
  * A change that inserts, removes or replaces an entry searches for the map and finds the times: some microseconds for the
  * nodes of a station. It makes no round that the load rules out, so that the node named at the top, whose listing takes half
  * a minute, takes milliseconds; but a node whose entries miss their deadlines by little can take a second or two. Setting the
- * level count and asking search nothing.
+ * level count searches only if the session has no map and gets more levels. Asking searches nothing.
  */
 typedef struct {
     uint32_t levels;      /* 1 to 64 */
     uint32_t count;       /* entries, 0 to 64 */
     uint32_t words[384];  /* six to an entry, as above; zero beyond the entries */
-    uint32_t mapped;      /* 1 if the entries have a map on 64 levels, else 0 */
+    uint32_t mapped;      /* 1 if the session has a map, else 0 */
     uint32_t used;        /* how many levels that map uses */
     uint32_t map[64];     /* the level of each entry under it; 0 beyond the entries */
     uint32_t times[64];   /* the completion time of each entry under it; 0 beyond the entries */
@@ -177,7 +176,9 @@ typedef struct {
  */
 uint32_t maiplur_session_open(maiplur_session *session, uint8_t levels, size_t values[3]);
 
-/* Sets the level count, and keeps the store. Refuses levels that are not 1 to 64 (4). */
+/* Sets the level count. A map that uses no more levels stays; one that uses more is lost (11 when asked for). A session
+ * without a map is searched for one if the count rises. Refuses levels that are not 1 to 64 (4).
+ */
 uint32_t maiplur_session_set_levels(maiplur_session *session, uint8_t levels, size_t values[3]);
 
 /* Inserts an entry, given by its six words, before a position; the position just after the last entry appends. Refuses a

@@ -1,18 +1,17 @@
 //! A session in lent memory: its level count, its entry count, six words for
 //! each of 64 entries, and the store. Every word beyond the last entry is zero.
 //!
-//! The store says what the map of these entries on 64 levels is: whether there
-//! is one, how many levels it uses, and the level and the completion time of
-//! each entry under it. With fewer levels the map is the same if it uses few
-//! enough, and there is none otherwise. If there is none on 64 levels, every
-//! word of the store is zero.
+//! The store says what the map of the node is, on the session's own level count:
+//! whether there is one, how many levels it uses, and the level and the
+//! completion time of each entry under it. If there is none, every word of the
+//! store is zero.
 //!
 //! Memory from elsewhere may hold anything. Every operation except opening
 //! first checks it as a node of a file: 4, then 7, 8 and 14 entry by entry, then
 //! 16, with the place. No check looks at the store: the map and the times under
 //! it are what the store says, right or not.
 
-use crate::model::{Entry, MAX_ENTRIES, MAX_LEVELS};
+use crate::model::{Entry, MAX_ENTRIES};
 use crate::refusal::{Refusal, BUFFER, NO_MAP, POSITION, ROW};
 use crate::session::{Op, Reply, Session};
 use crate::words::{entry_of, entry_words, ENTRY_WORDS};
@@ -53,9 +52,9 @@ pub const NO_STORE: Store = Store {
 };
 
 impl Store {
-    /// The store of these entries, worked out from them.
-    pub fn of(entries: &[Entry]) -> Store {
-        let session = Session::holding(MAX_LEVELS, entries).expect("a session holds these");
+    /// The store of these entries on so many levels, worked out from them.
+    pub fn of(entries: &[Entry], levels: u8) -> Store {
+        let session = Session::holding(levels.into(), entries).expect("a session holds these");
         let Some((map, times)) = session.map_and_times() else {
             return NO_STORE;
         };
@@ -123,17 +122,17 @@ impl Store {
     }
 }
 
-/// Most lists of entries whose stores are kept at a time.
+/// Most nodes whose stores are kept at a time.
 const MOST_KEPT: usize = 1_000;
 
 thread_local! {
-    /// Stores that were worked out, because the tests often come back to a list.
-    static KEPT: RefCell<HashMap<Vec<Entry>, Store>> = RefCell::default();
+    /// Stores that were worked out, because the tests often come back to a node.
+    static KEPT: RefCell<HashMap<(u8, Vec<Entry>), Store>> = RefCell::default();
 }
 
-/// The store of these entries; that of a list which was met lately, with any
-/// numbers, is not worked out again.
-pub fn store_of(entries: &[Entry]) -> Store {
+/// The store of these entries on so many levels; that of a node which was met
+/// lately, with any numbers, is not worked out again.
+pub fn store_of(entries: &[Entry], levels: u8) -> Store {
     let unnumbered = |entry: &Entry| Entry {
         number: 0,
         ..*entry
@@ -143,13 +142,15 @@ pub fn store_of(entries: &[Entry]) -> Store {
         if kept.len() == MOST_KEPT {
             kept.clear();
         }
-        *kept.entry(list).or_insert_with(|| Store::of(entries))
+        *kept
+            .entry((levels, list))
+            .or_insert_with(|| Store::of(entries, levels))
     })
 }
 
 /// The words of an open session.
 pub fn words_of(session: &Session) -> Words {
-    words_with(session, &store_of(session.entries()))
+    words_with(session, &store_of(session.entries(), session.levels()))
 }
 
 /// The words of a session with this store, right or not.
@@ -176,32 +177,37 @@ pub fn session_in(words: &Words) -> Result<Session, Refusal> {
     Session::holding(levels, &entries)
 }
 
-/// Whether the words hold a session, and its store is that of its entries.
+/// Whether the words hold a session, and its store is that of its node.
 pub fn is_right(words: &Words) -> bool {
-    session_in(words).is_ok_and(|session| Store::within(words) == store_of(session.entries()))
+    session_in(words)
+        .is_ok_and(|session| Store::within(words) == store_of(session.entries(), session.levels()))
 }
 
-/// The words of a session without the store of a map that needs more levels than
-/// the session has: what is left by a program that maps on the session's levels
-/// instead of 64.
-pub fn on_own_levels(words: &Words) -> Words {
-    let mut own = *words;
-    if !Store::within(words).has_map(words[0] as u8) {
-        NO_STORE.put(&mut own);
+/// The store once the level count was set to that of the session; it was
+/// `before`, and the lent store may be any. A map that needs no more levels
+/// stays. A node without one has none on fewer levels either, so it is mapped
+/// only on more.
+fn with_levels(lent: Store, before: u8, session: &Session) -> Store {
+    let levels = session.levels();
+    if lent.has_map(levels) {
+        lent
+    } else if levels <= before {
+        NO_STORE
+    } else {
+        store_of(session.entries(), levels)
     }
-    own
 }
 
 /// Makes any operation on lent words. An accepted change leaves the words of
-/// the changed session; but setting the level count leaves the store as it was
-/// lent, since it is that of the entries alone. All other calls leave the words
-/// as they were, and the map and the times under it come from the store.
+/// the changed session; but setting the level count may leave the store as it was
+/// lent. All other calls leave the words as they were, and the map and the times
+/// under it come from the store.
 pub fn apply(words: &mut Words, op: &Op, buffer: &mut [u8]) -> Result<Reply, Refusal> {
     let mut session = match op {
         Op::Open(levels) => Session::open(*levels)?,
         _ => session_in(words)?,
     };
-    let lent = Store::within(words);
+    let (lent, before) = (Store::within(words), session.levels());
     let reply = match *op {
         Op::Map => Reply::Mapped(lent.map_into(&session, buffer)?),
         Op::MapTime(position) => Reply::MapTime(lent.time_of(&session, position)?),
@@ -209,7 +215,7 @@ pub fn apply(words: &mut Words, op: &Op, buffer: &mut [u8]) -> Result<Reply, Ref
     };
     if reply == Reply::Changed {
         *words = match op {
-            Op::SetLevels(_) => words_with(&session, &lent),
+            Op::SetLevels(_) => words_with(&session, &with_levels(lent, before, &session)),
             _ => words_of(&session),
         };
     }

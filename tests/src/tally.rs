@@ -16,6 +16,7 @@ pub struct Tally {
     /// Late by more than 32 bits hold.
     far: u64,
     map_times: MapTimes,
+    level_counts: LevelCounts,
     nodes: u64,
     left_out: u64,
 }
@@ -29,6 +30,17 @@ struct MapTimes {
     none: u64,
     /// Refused as 12.
     outside: u64,
+}
+
+/// Counts of level counts that were set.
+#[derive(Clone, Debug, Default, PartialEq, Eq)]
+struct LevelCounts {
+    /// With a map before and after.
+    kept: u64,
+    lost: u64,
+    regained: u64,
+    /// Without a map before and after.
+    without: u64,
 }
 
 impl Tally {
@@ -70,6 +82,18 @@ impl Tally {
         }
     }
 
+    /// Counts a level count that was set; `had` and `has` say whether the session
+    /// had a map before, and has one after.
+    pub fn set_levels(&mut self, had: bool, has: bool) {
+        let counts = &mut self.level_counts;
+        match (had, has) {
+            (true, true) => counts.kept += 1,
+            (true, false) => counts.lost += 1,
+            (false, true) => counts.regained += 1,
+            (false, false) => counts.without += 1,
+        }
+    }
+
     /// Counts one good node; `done` says whether it was mapped, or left out for
     /// its cost.
     pub fn node(&mut self, done: bool) {
@@ -108,6 +132,17 @@ impl Tally {
         let met = &self.map_times;
         assert!(
             met.answered >= answered && met.none >= none && met.outside >= outside,
+            "{self}"
+        );
+    }
+
+    /// Asserts that at least so many level counts were set that kept a map, that
+    /// lost one, that gave one, and without a map before and after.
+    pub fn assert_level_counts(&self, least: [u64; 4]) {
+        let counts = &self.level_counts;
+        let met = [counts.kept, counts.lost, counts.regained, counts.without];
+        assert!(
+            met.iter().zip(least).all(|(met, least)| *met >= least),
             "{self}"
         );
     }
@@ -156,6 +191,17 @@ impl fmt::Display for Tally {
                 "; {asked} times under the map asked for: {answered} given, "
             )?;
             write!(f, "{none} refused as 11, {outside} as 12")?;
+        }
+        let LevelCounts {
+            kept,
+            lost,
+            regained,
+            without,
+        } = self.level_counts;
+        let set = kept + lost + regained + without;
+        if set > 0 {
+            write!(f, "; {set} level counts set: {kept} kept a map, ")?;
+            write!(f, "{lost} lost one, {regained} gave one, {without} neither")?;
         }
         if self.nodes > 0 {
             let (left_out, nodes) = (self.left_out, self.nodes);

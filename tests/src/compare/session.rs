@@ -5,7 +5,7 @@ use super::rooms;
 use crate::ffi;
 use crate::file::encode;
 use crate::gen::buffers::known;
-use crate::lent::{self, Words};
+use crate::lent::{self, Store, Words};
 use crate::map::Map;
 use crate::model::{Node, Plan};
 use crate::refusal::{Refusal, BUFFER, NO_MAP, POSITION};
@@ -41,7 +41,8 @@ impl Both {
         lent::session_in(&self.due)
     }
 
-    /// Makes one operation; a map is lent `room` bytes.
+    /// Makes one operation; a map is lent `room` bytes. A change leaves what is
+    /// worked out afresh, unless it goes by a forged store.
     pub fn step(&mut self, tally: &mut Tally, op: &Op, room: usize) -> Result<Reply, Refusal> {
         let op = &callable(op);
         let (before, mut due_buffer, mut buffer) = (self.due, known(room), known(room));
@@ -51,20 +52,28 @@ impl Both {
             Ok(Reply::Timed(timing)) => tally.timed(timing),
             _ => {}
         }
-        if let Op::MapTime(_) = op {
-            tally.map_time(&due);
+        match op {
+            Op::MapTime(_) => tally.map_time(&due),
+            Op::SetLevels(_) if due.is_ok() => {
+                tally.set_levels(has_map(&before), has_map(&self.due));
+            }
+            _ => {}
         }
         let answer = proved(&mut self.proved, op, &mut buffer);
         let lent = || format!("{op:?}, {room} bytes, on {before:?}");
         assert_eq!(answer, due, "{}", lent());
         assert_eq!(self.proved.memory(), self.due, "{}", lent());
         assert_eq!(buffer, due_buffer, "{}", lent());
+        if due == Ok(Reply::Changed) {
+            let right = lent::is_right(&self.due);
+            assert!(right || is_forged(op, &before), "{}", lent());
+        }
         due
     }
 
     /// What the session answers if everything is worked out afresh from its
     /// entries and its level count; `None` for memory whose store is not that of
-    /// its entries, which answers what the store says.
+    /// its node, which answers what the store says.
     fn afresh(&self) -> Option<Afresh> {
         let session = self.session().ok()?;
         lent::is_right(&self.due).then(|| Afresh {
@@ -181,6 +190,16 @@ pub fn sequence(tally: &mut Tally, sequence: &Sequence) {
             both.map(tally);
         }
     }
+}
+
+/// Whether the operation goes by a store that is not that of the node.
+fn is_forged(op: &Op, before: &Words) -> bool {
+    matches!(op, Op::SetLevels(_)) && !lent::is_right(before)
+}
+
+/// Whether the words of a session say that it has a map.
+fn has_map(words: &Words) -> bool {
+    Store::within(words).has_map(words[0] as u8)
 }
 
 /// The C functions take a level count as a byte.

@@ -17,7 +17,7 @@ pub struct Session {
     pub count: u32,
     /// Six words per entry.
     pub words: [u32; MAX_ENTRIES * ENTRY_WORDS],
-    /// 1 if the entries have a map on 64 levels.
+    /// 1 if the node has a map.
     pub mapped: u32,
     /// The levels that it uses.
     pub used: u32,

@@ -5,7 +5,9 @@ use super::entries;
 use super::faults::{break_jitter, break_kind, break_ticks};
 use super::jitter::Jitter;
 use super::numbers::repeat_places;
-use crate::lent::{words_of, Store, Words, NO_STORE, SESSION_WORDS, STORE_AT};
+use crate::lent::{
+    session_in, store_of, words_of, Store, Words, NO_STORE, SESSION_WORDS, STORE_AT,
+};
 use crate::model::{Entry, MAX_ENTRIES, MAX_TICKS};
 use crate::rng::Rng;
 use crate::session::Session;
@@ -23,7 +25,11 @@ pub fn sound(rng: &mut Rng, count: usize) -> Words {
         _ => rng.pick(&[Jitter::Zero, Jitter::Zero, Jitter::Small, Jitter::Most]),
     };
     let entries = jitter.put(rng, entries);
-    let levels = rng.count(1, 64);
+    // Often fewer than the map needs.
+    let levels = match rng.chance(1, 4) {
+        true => rng.count(1, 3),
+        false => rng.count(1, 64),
+    };
     words_of(&Session::holding(levels, &entries).expect("the generators give good entries"))
 }
 
@@ -56,6 +62,8 @@ pub fn forged(rng: &mut Rng, words: &Words) -> Store {
             let count = rng.count(0, 6);
             Store::within(&sound(rng, count))
         }
+        // That of the same entries on all levels.
+        2 => session_in(words).map_or(lent, |held| store_of(held.entries(), 64)),
         _ => Store { mapped: 1, ..lent },
     };
     match rng.below(5) {

@@ -30,9 +30,13 @@ pub fn next_op(rng: &mut Rng, session: &Session, course: Course) -> Op {
     let inserts = if growing { 10 } else { 3 };
     // Mapping a long list takes long.
     let maps = if len <= 12 || rng.chance(1, 40) { 4 } else { 0 };
-    let removes = if course == Course::Growing { 1 } else { 3 };
+    // More of these would keep the list from growing.
+    let (removes, sets) = match course {
+        Course::Growing => (1, 1),
+        Course::Short => (3, 2),
+    };
     let opens = u64::from(course == Course::Short && rng.chance(1, 3));
-    let weights = [inserts, removes, 3, 1, 4, maps, maps / 2, opens];
+    let weights = [inserts, removes, 3, sets, 4, maps, maps / 2, opens];
     match weighted(rng, &weights) {
         0 => {
             let (at, entry) = (position(rng, len + 1), entry(rng, course));

@@ -1,9 +1,7 @@
 //! The session in plain Rust: the lent memory is checked as the proved
-//! functions check it, and changed in place. After a change of the list the node
-//! is mapped on the session's own level count, and if there is a map, every entry
-//! is timed under it; so less is stored than the library stores
-//! ([`crate::lent::on_own_levels`]). Who asks for the map or a time has it worked
-//! out again, as one would without a store.
+//! functions check it, and changed in place. After every change the node is
+//! mapped, and if there is a map, every entry is timed under it. Who asks for the
+//! map or a time has it worked out again, as one would without a store.
 
 use super::{completion, demand, entry_holds, map_entries, Entry, Marks, MOST};
 use crate::ffi::session::Session;
@@ -99,8 +97,7 @@ pub fn replace(session: &mut Session, position: usize, words: &[u32; ENTRY_WORDS
     true
 }
 
-/// Sets the level count, and returns whether it did. The store stays as the last
-/// change left it: nothing here reads it.
+/// Sets the level count, and returns whether it did.
 #[inline(never)]
 pub fn set_levels(session: &mut Session, levels: u8) -> bool {
     let Some(count) = count_of(session) else {
@@ -111,10 +108,11 @@ pub fn set_levels(session: &mut Session, levels: u8) -> bool {
     }
     session.levels = u32::from(levels);
     session.words[count * ENTRY_WORDS..].fill(0);
+    store(session);
     true
 }
 
-/// Stores the map of the entries on the session's levels, and the times under it.
+/// Stores the map of the node, and the times under it.
 fn store(session: &mut Session) {
     let count = session.count as usize;
     let entries = &load(session, count)[..count];

@@ -36,13 +36,18 @@ fn clear_rest(session: &mut Session, count: usize) {
     session.words[count * 6..].fill(0);
 }
 
-/// Stores the map of the entries on 64 levels, and the times under it.
-fn store(session: &mut Session) {
-    let entries: &[Words] = &session.words.as_chunks().0[..session.count as usize];
+/// Stores that there is no map.
+fn clear_store(session: &mut Session) {
+    (session.mapped, session.used) = (0, 0);
     session.map = [0; MOST];
     session.times = [0; MOST];
-    let Some(groups) = Groups::of(entries, MOST as u8) else {
-        (session.mapped, session.used) = (0, 0);
+}
+
+/// Stores the map of the node, and the times under it.
+fn store(session: &mut Session) {
+    clear_store(session);
+    let entries: &[Words] = &session.words.as_chunks().0[..session.count as usize];
+    let Some(groups) = Groups::of(entries, session.levels as u8) else {
         return;
     };
     (session.mapped, session.used) = (1, groups.count as u32);
@@ -106,13 +111,23 @@ pub fn open(session: &mut Session, levels: u8) -> Result<(), Refusal> {
     Ok(())
 }
 
-/// Sets the level count; the store stays.
+/// Sets the level count. A map that needs no more levels stays; without one,
+/// only more levels than before are searched.
 #[inline(never)]
 pub fn set_levels(session: &mut Session, levels: u8) -> Result<(), Refusal> {
     let count = held(session)?.len();
     check_levels(levels)?;
+    let before = session.levels;
     session.levels = u32::from(levels);
     clear_rest(session, count);
+    if has_map(session) {
+        return Ok(());
+    }
+    if session.levels <= before {
+        clear_store(session);
+    } else {
+        store(session);
+    }
     Ok(())
 }
 

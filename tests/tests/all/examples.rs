@@ -111,8 +111,9 @@ fn change_line(name: &str, answer: Result<(), Refusal>) -> String {
     }
 }
 
-/// Case P, then case R, then R without its second task and with one level, then
-/// with jitter, then with a copied row, then refused changes.
+/// Case P, also with one level and again with two, then case R, then R without
+/// its second task and with one level, then with jitter, then with a copied row,
+/// then refused changes.
 #[test]
 fn c_session() {
     let program = compiled_c("examples/session.c", "session_c");
@@ -120,6 +121,10 @@ fn c_session() {
     assert!(ended);
     let mut session = Session::holding(2, &cases::p().entries).unwrap();
     let mut due = map_time_lines(&session) + &time_line(&session);
+    for levels in [1, 2] {
+        due += &change_line("set levels", session.set_levels(levels));
+        due += &map_time_lines(&session);
+    }
     due += &change_line("replace", session.replace(2, cases::r().entries[2]));
     due += &(map_time_lines(&session) + &time_line(&session));
     due += &change_line("remove", session.remove(1));

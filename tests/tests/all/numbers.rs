@@ -6,7 +6,7 @@ use oracle::gen::entries;
 use oracle::gen::numbers::{congruent, different, free, has, with};
 use oracle::gen::ops::{levels, next_op, Course};
 use oracle::gen::{plans, unchecked};
-use oracle::lent::{apply, on_own_levels, Words};
+use oracle::lent::{apply, Words};
 use oracle::limits::check_numbers;
 use oracle::model::{Edition, Entry, Node, Plan, MAX_ENTRIES};
 use oracle::options::{rng, times};
@@ -269,14 +269,12 @@ fn plain_and_tuned_sessions_agree() {
     assert!(counts.iter().all(|&count| count > times(500)), "{counts:?}");
 }
 
-/// An insert of the plain program, which stores no map that needs more levels
-/// than the session has. A refused one leaves the words as they were.
+/// An insert of the plain program. A refused one leaves the words as they were.
 fn compare_plain_insert(words: &Words, at: usize, entry: &Entry, due: Result<Words, Refusal>) {
     let mut session = Lent::of(words);
     let done = plain::session::insert(&mut session, at, &entry_words(entry));
     assert_eq!(done, due.is_ok(), "{entry:?} at {at} of {words:?}");
-    let due_words = due.map_or(*words, |due| on_own_levels(&due));
-    assert_eq!(session.memory(), due_words);
+    assert_eq!(session.memory(), due.unwrap_or(*words));
 }
 
 /// Conversions of a plan with a repeat, in all three programs.

@@ -21,6 +21,7 @@ fn a_short_run() {
     sessions.assert_few_left_out(15);
     sessions.assert_timed(times(800), times(800), times(100));
     sessions.assert_map_times(times(500), times(500), times(250));
+    sessions.assert_level_counts([200, 25, 25, 400].map(times));
     for number in (1..=11).chain([14, 16]) {
         assert!(files.met(number) >= times(500), "{number}: {files}");
     }

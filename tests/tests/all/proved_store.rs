@@ -4,7 +4,7 @@
 
 use crate::calls::GOOD;
 use crate::say;
-use crate::store::{stored, worked};
+use crate::store::{listed, stored, telling_counts, worked, Setting};
 use oracle::cases;
 use oracle::compare::session::Both;
 use oracle::ffi::session::Session as Proved;
@@ -25,7 +25,8 @@ use oracle::refusal::{Refusal, BUFFER, NO_MAP, POSITION, ROW};
 use oracle::rng::Rng;
 use oracle::session::{Op, Reply, Session};
 use oracle::tally::Tally;
-use oracle::words::entry_words;
+use oracle::tuned;
+use oracle::words::{entry_words, ENTRY_WORDS};
 use std::sync::mpsc::channel;
 use std::thread;
 use std::time::{Duration, Instant};
@@ -98,7 +99,7 @@ impl Met {
 #[test]
 fn rows_of_operations() {
     let (mut rng, mut met) = (rng(610), Met::default());
-    for _ in 0..times(120) {
+    for _ in 0..times(160) {
         let mut both = Both::of(&[rng.word() as u32; SESSION_WORDS]);
         while both.session().is_err() {
             let opening = Op::Open(levels(&mut rng).min(70));
@@ -108,7 +109,7 @@ fn rows_of_operations() {
         assert!(had, "an empty node has a map");
         for _ in 0..40 {
             let held = both.session().expect("it was opened");
-            let op = match (rng.below(6), held.entries().len()) {
+            let op = match (rng.below(4), held.entries().len()) {
                 (_, 9..) => Op::Remove(rng.index(9)),
                 (0, _) => Op::SetLevels(rng.count(1, 3)),
                 _ => next_op(&mut rng, &held, Course::Short),
@@ -116,12 +117,12 @@ fn rows_of_operations() {
             met.step(&mut both, &op, &mut had);
         }
     }
-    met.assert_least("rows of operations", [40, 30, 1, 1, 300, 40, 500, 100]);
+    met.assert_least("rows of operations", [60, 40, 6, 6, 500, 60, 1_200, 200]);
     for number in [4, 7, 8, 10, 11, 12, 14, 16] {
         assert!(met.tally.met(number) > times(15), "{number}: {met:?}");
     }
     let tally = &met.tally;
-    tally.assert_map_times(times(6_000), times(3_000), times(9_000));
+    tally.assert_map_times(times(8_000), times(3_000), times(40_000));
 }
 
 /// Sessions that hold nodes of plans, with changes as a user makes them, and a
@@ -215,7 +216,7 @@ fn lost_and_regained_at_64() {
     for _ in 0..times(8) {
         let parts = rng.count(2, 6);
         let good = blocks(&mut rng, 64, parts);
-        let used = store_of(&good).used as usize;
+        let used = store_of(&good, 64).used as usize;
         let held = Session::holding(used, &good).expect("a good node");
         let mut both = Both::of(&words_of(&held));
         let mut had = both.ask(&mut met.tally);
@@ -229,8 +230,8 @@ fn lost_and_regained_at_64() {
     met.assert_least("64 entries", [8, 8, 8, 8, 8, 0, 8, 32]);
 }
 
-/// Every level count of a session, up and down again: the map goes and comes
-/// back, and the stored words stay.
+/// Level counts of a session, down, up and in leaps: the map goes and comes back,
+/// and the words are those of the node on each count.
 #[test]
 fn every_level_count() {
     let (mut rng, mut met) = (rng(614), Met::default());
@@ -238,43 +239,74 @@ fn every_level_count() {
         let entries = match round % 3 {
             0 => blocks(&mut rng, 64, 5),
             1 => from_one(vec![GOOD; 64]),
-            _ => session_in(&sound(&mut rng, 8))
-                .expect("sound")
-                .entries()
-                .to_vec(),
+            _ => listed(&sound(&mut rng, 8)),
         };
-        let held = Session::holding(64, &entries).expect("good entries");
-        let mut both = Both::of(&words_of(&held));
-        let (store, mut had) = (Store::within(both.words()), both.ask(&mut met.tally));
-        for levels in (1..=12).chain([63, 64]).rev().chain(1..=12) {
+        let on = |levels| Session::holding(levels, &entries).expect("good entries");
+        let mut both = Both::of(&words_of(&on(64)));
+        let (all, mut had) = (Store::within(both.words()), both.ask(&mut met.tally));
+        let down = (1..=12).chain([63, 64]).rev();
+        for levels in down.chain(1..=12).chain([64, 1, 64, 2, 63, 2]) {
             met.step(&mut both, &Op::SetLevels(levels), &mut had);
-            assert_eq!(Store::within(both.words()), store);
-            assert_eq!(had, store.has_map(levels as u8));
+            let due = Store::of(&entries, levels as u8);
+            assert_eq!(*both.words(), words_with(&on(levels), &due));
+            assert_eq!(due, if had { all } else { NO_STORE });
+            assert_eq!(had, all.has_map(levels as u8));
         }
     }
-    met.assert_least("every level count", [0, 0, 4, 4, 0, 0, 0, 0]);
+    met.assert_least("every level count", [0, 0, 16, 12, 0, 0, 0, 0]);
+}
+
+/// A session of the library that was opened and got these entries.
+fn opened(levels: u8, entries: &[Entry]) -> Proved {
+    let mut session = Proved::of(&[7; SESSION_WORDS]);
+    session.open(levels).expect("a level count");
+    for (at, entry) in entries.iter().enumerate() {
+        let inserted = session.insert(at, &entry_words(entry));
+        inserted.expect("a good entry");
+    }
+    session
+}
+
+/// From any level count to any other, up and down, the words are those of a
+/// session that is opened with that count and gets the same entries.
+#[test]
+fn set_up_and_down() {
+    let (mut rng, mut met) = (rng(616), [0; 4]);
+    for round in 0..times(60) {
+        let count = rng.count(3, 64);
+        let entries = match round % 4 {
+            0 | 1 => blocks(&mut rng, count, (count / 3).min(9)),
+            2 => STATION.node(&mut rng).entries,
+            _ => listed(&sound(&mut rng, count)),
+        };
+        let mut session = opened(rng.range(1, 64) as u8, &entries);
+        for _ in 0..24 {
+            let (near, any) = (rng.count(1, 10) as u8, rng.count(1, 64) as u8);
+            let (levels, had) = (rng.pick(&[1, near, near, any]), session.mapped);
+            assert_eq!(session.set_levels(levels), Ok(()));
+            assert_eq!(session, opened(levels, &entries));
+            met[(2 * had + session.mapped) as usize] += 1;
+        }
+    }
+    say(format!(
+        "none before and after, regained, lost, kept: {met:?}"
+    ));
+    let least = [350, 150, 150, 250].map(times);
+    let mut both = met.iter().zip(least);
+    assert!(both.all(|(met, least)| *met > least), "{met:?}");
 }
 
 /// The cases built by inserts: the maps and the stored times.
 #[test]
 fn worked_figures() {
     for (name, node, levels, times) in worked() {
-        let mut session = Proved::of(&[7; SESSION_WORDS]);
-        session.open(node.levels).expect("a level count");
-        for (at, entry) in node.entries.iter().enumerate() {
-            session
-                .insert(at, &entry_words(entry))
-                .expect("a good entry");
-        }
+        let session = opened(node.levels, &node.entries);
         assert_eq!(session.store(), stored(&node, levels, times), "{name}");
-        let few = levels
-            .last()
-            .is_some_and(|used| *used > u32::from(node.levels));
         let (mut map, mut from_file) = (known(5), known(5));
         let answer = session.map(&mut map);
         let file = ffi::map(&cases::file(node.clone()), 7, &mut from_file);
         assert_eq!((answer, &map), (file, &from_file), "{name}");
-        if few || levels.is_empty() && !node.entries.is_empty() {
+        if levels.is_empty() && !node.entries.is_empty() {
             assert_eq!(answer, Err(Refusal::plain(NO_MAP)), "{name}");
             assert_eq!(session.map_time(0), Err(Refusal::plain(NO_MAP)), "{name}");
         } else {
@@ -285,6 +317,40 @@ fn worked_figures() {
         }
         let outside = session.map_time(node.entries.len());
         assert_eq!(outside, Err(Refusal::plain(POSITION)), "{name}");
+    }
+}
+
+/// Case P, whose map needs two levels, on other level counts: with its right
+/// store, with one that has a map but wrong times, and with one that has none.
+#[test]
+fn worked_level_counts() {
+    let right = stored(&cases::p(), &[1, 2, 2], &[20, 138, 138]);
+    let mut session = opened(2, &cases::p().entries);
+    for levels in [3, 2, 1, 1, 2, 1, 64, 2] {
+        assert_eq!(session.set_levels(levels), Ok(()));
+        let due = if levels == 1 { NO_STORE } else { right };
+        assert_eq!((session.levels, session.store()), (levels.into(), due));
+    }
+    let times = [7; MAX_ENTRIES];
+    let has = Store { times, ..right };
+    let none = Store { mapped: 0, ..has };
+    for (before, levels, lent, due) in [
+        (2, 2, has, has),
+        (3, 2, has, has),
+        (1, 2, has, has),
+        (3, 1, has, NO_STORE),
+        (1, 1, has, NO_STORE),
+        (2, 2, none, NO_STORE),
+        (64, 2, none, NO_STORE),
+        (1, 1, none, NO_STORE),
+        (1, 2, none, right),
+        (2, 64, none, right),
+    ] {
+        let held = Session::holding(before, &cases::p().entries).expect("a good node");
+        let mut session = Proved::of(&words_with(&held, &lent));
+        assert_eq!(session.set_levels(levels), Ok(()));
+        let left = (session.levels, session.store());
+        assert_eq!(left, (levels.into(), due), "{before} to {levels}: {lent:?}");
     }
 }
 
@@ -322,8 +388,10 @@ struct Forged {
     tally: Tally,
     wrong: u64,
     ended: u64,
-    kept: u64,
     refused: u64,
+    /// Level counts set, by what that does, and those that found a map.
+    set: [u64; 3],
+    found: u64,
 }
 
 impl Forged {
@@ -332,13 +400,15 @@ impl Forged {
         let mut both = Both::of(words);
         both.ask(&mut self.tally);
         let Ok(held) = session_in(words) else {
+            self.refuse_levels(words, &[1, words[0] as usize, 64, 65]);
             return;
         };
+        self.refuse_levels(words, &[0, 65, 255]);
         self.wrong += u64::from(!is_right(words));
         let op = next_op(rng, &held, Course::Short);
         let answer = both.step(&mut self.tally, &op, MAX_ENTRIES);
         match (op, answer) {
-            (Op::SetLevels(_), Ok(_)) => self.kept += 1,
+            (Op::SetLevels(_), Ok(_)) => {}
             (_, Ok(Reply::Changed)) => {
                 assert!(is_right(both.words()));
                 self.ended += 1;
@@ -350,11 +420,51 @@ impl Forged {
             _ => {}
         }
         both.ask(&mut self.tally);
+        self.set_levels(words, &held);
+    }
+
+    /// Sets level counts that are refused as 4, or in memory that is no session, as
+    /// that is. The memory stays as it is.
+    fn refuse_levels(&mut self, words: &Words, counts: &[usize]) {
+        let due = session_in(words).err().unwrap_or(Refusal::at_row(ROW, 0));
+        for levels in counts {
+            let mut both = Both::of(words);
+            let answer = both.step(&mut self.tally, &Op::SetLevels(*levels), 0);
+            assert_eq!(answer, Err(due), "{levels}: {words:?}");
+            assert_eq!(both.words(), words);
+        }
+    }
+
+    /// Sets telling level counts, each on the memory as it was lent.
+    fn set_levels(&mut self, words: &Words, held: &Session) {
+        let (lent, before) = (Store::within(words), held.levels().into());
+        for levels in telling_counts(words) {
+            let mut both = Both::of(words);
+            let answer = both.step(&mut self.tally, &Op::SetLevels(levels), 0);
+            assert_eq!(answer, Ok(Reply::Changed));
+            let setting = Setting::of(&lent, before, levels);
+            let due = setting.due(lent, held.entries(), levels);
+            assert_eq!(Store::within(both.words()), due, "{levels}: {words:?}");
+            self.set[setting as usize] += 1;
+            self.found += u64::from(setting == Setting::WorksOut && due.mapped == 1);
+            both.ask(&mut self.tally);
+        }
+    }
+
+    /// Asserts that setting the level count kept at least so many stores, cleared
+    /// them, worked them out afresh, and found a map when it did.
+    fn assert_set(&self, name: &str, least: [u64; 4]) {
+        let [kept, cleared, worked_out] = self.set;
+        let set = [kept, cleared, worked_out, self.found];
+        say(format!("level counts set, {name}: {set:?}"));
+        let mut both = set.iter().zip(least);
+        assert!(both.all(|(met, least)| *met > least), "{set:?}");
     }
 }
 
-/// Memory with any store: asking gives what it says, a change other than setting
-/// the level count ends it, and a refused one keeps it.
+/// Memory with any store: asking gives what it says, a change of the list ends
+/// it, a refused one keeps it, and setting the level count keeps, clears or ends
+/// it.
 #[test]
 fn forged_stores() {
     let (mut rng, mut met) = (rng(615), Forged::default());
@@ -369,17 +479,18 @@ fn forged_stores() {
         met.compare(&mut rng, &words);
     }
     let Forged { tally, .. } = &met;
-    let counts = [met.wrong, met.ended, met.kept, met.refused];
+    let counts = [met.wrong, met.ended, met.refused];
     say(format!("forged stores: {counts:?}; {tally}"));
-    let mut both = counts.iter().zip([1_000, 300, 20, 200]);
+    let mut both = counts.iter().zip([1_500, 350, 700]);
     assert!(both.all(|(met, least)| *met > times(least)), "{counts:?}");
-    tally.assert_map_times(times(4_000), times(4_000), times(4_000));
+    tally.assert_map_times(times(60_000), times(70_000), times(100_000));
+    met.assert_set("forged", [3_500, 2_500, 2_500, 600].map(times));
 }
 
 /// Stores with one word at either end of what it may say, or of what it holds.
 fn forgeries(right: Store) -> Vec<Store> {
-    let other = store_of(&cases::h().entries);
-    let mut stores = vec![NO_STORE, store_of(&[]), other];
+    let other = store_of(&cases::h().entries, 64);
+    let mut stores = vec![right, NO_STORE, store_of(&[], 64), other];
     for mapped in [0, 2, 3, 255, 256, 257, 1 << 16 | 1, 1 << 31 | 1, u32::MAX] {
         stores.push(Store { mapped, ..right });
     }
@@ -410,16 +521,19 @@ fn forgeries(right: Store) -> Vec<Store> {
 
 #[test]
 fn forged_word_by_word() {
-    let mut tally = Tally::default();
-    let entries = cases::p().entries;
+    let (mut met, entries) = (Forged::default(), cases::p().entries);
     for levels in [1, 2, 3, 64] {
         let held = Session::holding(levels, &entries).expect("a good node");
-        for store in forgeries(store_of(&entries)) {
-            Both::of(&words_with(&held, &store)).ask(&mut tally);
+        // On one level it is that of the same entries with more.
+        for store in forgeries(store_of(&entries, 64)) {
+            let words = words_with(&held, &store);
+            Both::of(&words).ask(&mut met.tally);
+            met.set_levels(&words, &held);
         }
     }
-    say(format!("forged word by word: {tally}"));
-    tally.assert_map_times(300, 300, 300);
+    say(format!("forged word by word: {}", met.tally));
+    met.tally.assert_map_times(3_000, 2_000, 9_000);
+    met.assert_set("word by word", [350, 240, 160, 160]);
 }
 
 /// The values of the new call, whatever they held, and the session's bytes.
@@ -444,12 +558,15 @@ fn values_of_a_time_under_the_map() {
         assert_values(&words, i, (u32::from(POSITION), [0; 3]));
     }
     let few = Session::holding(1, &cases::p().entries).expect("a good node");
-    assert_values(&words_of(&few), 2, (u32::from(NO_MAP), [0; 3]));
-    assert_values(&words_of(&few), 3, (u32::from(POSITION), [0; 3]));
+    let exceeding = words_with(&few, &store_of(held.entries(), 2));
+    for few in [words_of(&few), exceeding] {
+        assert_values(&few, 2, (u32::from(NO_MAP), [0; 3]));
+        assert_values(&few, 3, (u32::from(POSITION), [0; 3]));
+    }
     let mut broken = words;
     broken[8] = 3 << 16;
     assert_values(&broken, 3, (7, [0, 1, 0]));
-    let mut times = store_of(held.entries());
+    let mut times = store_of(held.entries(), 2);
     times.times[1] = u32::MAX;
     let longest = (0, [u32::MAX as usize, 0, 0]);
     assert_values(&words_with(&held, &times), 1, longest);
@@ -493,22 +610,19 @@ fn the_order_of_the_checks() {
     }
 }
 
-/// Fills a session with a node whose last entries end after millions of rounds,
-/// and inserts the last entry of six odd nodes.
-fn change_odd_nodes() {
-    let mut session = Proved::of(&[0; SESSION_WORDS]);
-    session.open(64).expect("a level count");
-    for (at, entry) in many_rounds(MAX_ENTRIES).iter().enumerate() {
-        session
-            .insert(at, &entry_words(entry))
-            .expect("a good entry");
-    }
+/// Asserts that a session holds the map of `many_rounds`, whose last 59 entries
+/// end after millions of rounds.
+fn assert_many_rounds(session: &Proved) {
     assert_eq!((session.mapped, session.used), (1, 5));
     let times = &session.times[5..];
-    assert!(
-        times.iter().all(|time| *time == 59 * 3_263_442),
-        "{times:?}"
-    );
+    let due = 59 * 3_263_442;
+    assert!(times.iter().all(|time| *time == due), "{times:?}");
+}
+
+/// Fills a session with the node of `many_rounds`, and inserts the last entry of
+/// six odd nodes.
+fn change_odd_nodes() {
+    assert_many_rounds(&opened(64, &many_rounds(MAX_ENTRIES)));
     for (name, entries) in FAMILIES.into_iter().chain([JUST_LATE[0]]) {
         let mut entries = entries();
         let last = entries.pop().expect("it is full");
@@ -521,20 +635,51 @@ fn change_odd_nodes() {
     }
 }
 
+/// A function that replaces an entry of a session.
+type Replace = fn(&mut Proved, usize, &[u32; ENTRY_WORDS]) -> Result<(), Refusal>;
+
+/// The least time, of five, of one change of the node of `many_rounds`: its last
+/// entry is replaced by itself.
+fn least_of_one_change(replace: Replace) -> Duration {
+    let entries = many_rounds(MAX_ENTRIES);
+    let held = Session::holding(64, &entries).expect("good entries");
+    let (lent, last) = (words_with(&held, &NO_STORE), entry_words(&entries[63]));
+    let change = |_| {
+        let mut session = Proved::of(&lent);
+        let begun = Instant::now();
+        let replaced = replace(&mut session, 63, &last);
+        let taken = begun.elapsed();
+        assert_eq!(replaced, Ok(()));
+        assert_many_rounds(&session);
+        taken
+    };
+    (0..5).map(change).min().expect("five times")
+}
+
 /// No change takes long because of rounds, and the stored times are those that
 /// many rounds would find. All of these changes take less than a second; with
 /// every round they would take hours, so they are not waited for.
+///
+/// One change makes the rounds of a group once, as the tuned program does. If
+/// each of its 59 entries made them, it would take some 50 times as long.
 #[test]
 fn no_change_takes_long() {
     let (sender, done) = channel();
     let begun = Instant::now();
     thread::spawn(move || {
         change_odd_nodes();
-        sender.send(begun.elapsed())
+        let all = begun.elapsed();
+        let one = [Proved::replace, tuned::session::replace].map(least_of_one_change);
+        sender.send((all, one))
     });
     let taken = done.recv_timeout(Duration::from_secs(30));
-    let taken = taken.expect("the changes take less than a second");
-    say(format!("changes to odd nodes: {taken:?}"));
+    let (all, [one, tuned]) = taken.expect("the changes take less than a second");
+    let said = format!("changes to odd nodes: {all:?}; one {one:?}, tuned {tuned:?}");
+    say(said.clone());
+    assert!(
+        one < Duration::from_millis(200) && one < 10 * tuned,
+        "{said}"
+    );
 }
 
 /// 64 entries, each of which ends just by its deadline if every one before it has a
@@ -558,6 +703,8 @@ fn sixty_four_levels() {
     for (levels, has) in [(63, false), (64, true), (1, false), (64, true)] {
         met.step(&mut both, &Op::SetLevels(levels), &mut had);
         assert_eq!(had, has, "{levels}");
+        let due = if has { store } else { NO_STORE };
+        assert_eq!(Store::within(both.words()), due, "{levels}");
     }
 }
 

@@ -11,9 +11,10 @@ use oracle::lent::{
     SESSION_WORDS, STORE_AT,
 };
 use oracle::map::map_entries;
-use oracle::model::Node;
+use oracle::model::{Entry, Node};
 use oracle::options::{rng, times};
 use oracle::refusal::{Refusal, BUFFER, NO_MAP, POSITION};
+use oracle::rng::Rng;
 use oracle::session::{Op, Reply, Session};
 use oracle::tally::Tally;
 
@@ -29,14 +30,14 @@ pub fn built(node: &Node) -> Words {
 }
 
 /// The cases of docs/SPEC.md, with the levels and the times that are stored, or
-/// nothing if there is no map on 64 levels.
+/// nothing if there is no map.
 pub fn worked() -> Vec<(&'static str, Node, &'static [u32], &'static [u32])> {
     vec![
         ("P", cases::p(), &[1, 2, 2], &[20, 138, 138]),
         ("Q", cases::q(), &[1, 2, 2], &[20, 138, 138]),
         ("R", cases::r(), &[], &[]),
-        // One level is too few, and the store has the map all the same.
-        ("F", cases::f(), &[1, 2, 2], &[20, 138, 138]),
+        // P, which needs two levels, with one.
+        ("F", cases::f(), &[], &[]),
         ("H", cases::h(), &[1, 1, 1], &[5, 5, 8]),
         ("S", cases::s(), &[], &[]),
         ("U", cases::u(), &[1, 1, 2], &[60, 60, 148]),
@@ -87,8 +88,8 @@ fn none_is_not_an_empty_map() {
     assert!(!is_right(&zeroed));
 }
 
-/// On any number of levels the map is that on 64 if it uses few enough, and there
-/// is none otherwise.
+/// On any number of levels the map and the store are those on 64 if the map uses
+/// few enough, and there is none otherwise.
 #[test]
 fn fewer_levels() {
     let mut rng = rng(600);
@@ -100,15 +101,14 @@ fn fewer_levels() {
         };
         let entries = match round % 2 {
             0 => blocks(&mut rng, count, count / 3),
-            _ => session_in(&sound(&mut rng, count))
-                .expect("it is sound")
-                .entries()
-                .to_vec(),
+            _ => listed(&sound(&mut rng, count)),
         };
-        let on_all = map_entries(&entries, 64);
+        let (on_all, store) = (map_entries(&entries, 64), Store::of(&entries, 64));
         for levels in (1..=6).chain([count as u8, 64]) {
             let due = on_all.clone().filter(|map| map.used <= levels);
             assert_eq!(map_entries(&entries, levels), due, "{entries:?}");
+            let due_store = due.as_ref().map_or(NO_STORE, |_| store);
+            assert_eq!(Store::of(&entries, levels), due_store, "{entries:?}");
             match (&due, &on_all) {
                 (Some(_), _) => maps += 1,
                 (None, Some(_)) => too_few += 1,
@@ -167,45 +167,152 @@ fn rows_of_operations() {
     tally.assert_map_times(times(2_000), times(500), times(1_000));
 }
 
-/// A change other than setting the level count leaves the right store, whatever
-/// was lent; setting it leaves the lent one.
-#[test]
-fn forged_stores_end_with_a_change() {
-    let mut rng = rng(602);
-    let (mut changed, mut kept) = (0, 0);
-    for _ in 0..times(3_000) {
-        let mut words = match rng.chance(1, 2) {
-            true => sound(&mut rng, 4),
-            false => damaged(&mut rng),
-        };
-        forged(&mut rng, &words).put(&mut words);
-        let Ok(held) = session_in(&words) else {
-            continue;
-        };
-        let op = next_op(&mut rng, &held, Course::Short);
-        let lent = Store::within(&words);
-        let answer = apply(&mut words, &op, &mut [0; 64]);
-        match (op, answer) {
-            (Op::SetLevels(_), Ok(Reply::Changed)) => {
-                assert_eq!(Store::within(&words), lent);
-                kept += 1;
-            }
-            (_, Ok(Reply::Changed)) => {
-                let held = session_in(&words).expect("it was changed");
-                assert_eq!(Store::within(&words), store_of(held.entries()));
-                changed += 1;
-            }
-            _ => assert_eq!(Store::within(&words), lent),
+/// What setting the level count does to a store.
+#[derive(Clone, Copy, Debug, PartialEq, Eq)]
+pub enum Setting {
+    Keeps,
+    Clears,
+    WorksOut,
+}
+
+impl Setting {
+    /// By the first two words of the store, the old count and the new one.
+    pub fn of(store: &Store, before: usize, levels: usize) -> Setting {
+        match (store.mapped, store.used as usize) {
+            (1, used) if used <= levels => Setting::Keeps,
+            _ if levels <= before => Setting::Clears,
+            _ => Setting::WorksOut,
         }
     }
-    assert!(changed > times(150) && kept > times(15), "{changed} {kept}");
+
+    /// The store that it leaves, of these entries on the new count.
+    pub fn due(self, lent: Store, entries: &[Entry], levels: usize) -> Store {
+        match self {
+            Setting::Keeps => lent,
+            Setting::Clears => NO_STORE,
+            Setting::WorksOut => Store::of(entries, levels as u8),
+        }
+    }
+}
+
+/// Telling level counts for a session: one less than it has, as many, and one
+/// more, the same of what its store says that the map uses, and both ends.
+pub fn telling_counts(words: &Words) -> Vec<usize> {
+    let (before, used) = (words[0] as usize, Store::within(words).used as usize);
+    let near = |count: usize| [count.wrapping_sub(1), count, count + 1];
+    let mut counts = [near(before), near(used), [1, 63, 64]].concat();
+    counts.retain(|levels| (1..=64).contains(levels));
+    counts.sort();
+    counts.dedup();
+    counts
+}
+
+/// A change other than setting the level count leaves the right store, whatever
+/// was lent.
+#[test]
+fn forged_stores_end_with_a_change() {
+    let (mut rng, mut changed) = (rng(602), 0);
+    for_forged(&mut rng, 3_000, |rng, held, words| {
+        let op = next_op(rng, held, Course::Short);
+        let lent = Store::within(words);
+        let answer = apply(words, &op, &mut [0; 64]);
+        match (op, answer) {
+            (Op::SetLevels(_), Ok(_)) => {}
+            (_, Ok(Reply::Changed)) => {
+                assert!(is_right(words));
+                changed += 1;
+            }
+            _ => assert_eq!(Store::within(words), lent),
+        }
+    });
+    assert!(changed > times(150), "{changed}");
+}
+
+/// Setting the level count keeps any store that says it has a map on the new
+/// count, word for word. Another one it clears, or on more levels works out
+/// afresh.
+#[test]
+fn forged_stores_on_other_level_counts() {
+    let (mut rng, mut met) = (rng(603), [0; 3]);
+    for_forged(&mut rng, 1_000, |_, held, lent| {
+        let (store, before) = (Store::within(lent), lent[0] as usize);
+        for levels in telling_counts(lent) {
+            let mut words = *lent;
+            let answer = apply(&mut words, &Op::SetLevels(levels), &mut []);
+            assert_eq!(answer, Ok(Reply::Changed));
+            let setting = Setting::of(&store, before, levels);
+            let due = setting.due(store, held.entries(), levels);
+            let session = Session::holding(levels, held.entries()).expect("a good node");
+            assert_eq!(words, words_with(&session, &due), "{levels}: {lent:?}");
+            met[setting as usize] += 1;
+        }
+    });
+    let least = [1_200, 900, 800].map(times);
+    assert!(
+        met.iter().zip(least).all(|(met, least)| *met > least),
+        "{met:?}"
+    );
+}
+
+/// Calls `work` on sessions with forged stores, and on the words that hold them.
+fn for_forged(rng: &mut Rng, rounds: u64, mut work: impl FnMut(&mut Rng, &Session, &mut Words)) {
+    for _ in 0..times(rounds) {
+        let mut words = match rng.chance(1, 2) {
+            true => sound(rng, 4),
+            false => damaged(rng),
+        };
+        forged(rng, &words).put(&mut words);
+        if let Ok(held) = session_in(&words) {
+            work(rng, &held, &mut words);
+        }
+    }
+}
+
+/// From any level count to any other, up and down, the words are those of a
+/// session that is opened with that count and gets the same entries.
+#[test]
+fn set_up_and_down() {
+    let (mut rng, mut met) = (rng(604), [0; 4]);
+    for round in 0..times(60) {
+        let count = rng.count(6, 9);
+        let entries = match round % 3 {
+            0 => listed(&sound(&mut rng, count)),
+            _ => blocks(&mut rng, count, count / 3),
+        };
+        let node = |levels| Node {
+            number: 7,
+            levels,
+            entries: entries.clone(),
+        };
+        let mut words = built(&node(rng.range(1, 4) as u8));
+        for _ in 0..20 {
+            let any = rng.count(1, 64);
+            let (levels, had) = (rng.pick(&[1, 2, 3, 4, any]), words[STORE_AT]);
+            let answer = apply(&mut words, &Op::SetLevels(levels), &mut []);
+            assert_eq!(answer, Ok(Reply::Changed));
+            assert_eq!(words, built(&node(levels as u8)));
+            met[(2 * had + words[STORE_AT]) as usize] += 1;
+        }
+    }
+    // None before and after, regained, lost, and one before and after.
+    let least = [100, 50, 50, 300].map(times);
+    assert!(
+        met.iter().zip(least).all(|(met, least)| *met > least),
+        "{met:?}"
+    );
+}
+
+/// The entries of a session in these words.
+pub fn listed(words: &Words) -> Vec<Entry> {
+    let held = session_in(words).expect("it is sound");
+    held.entries().to_vec()
 }
 
 /// What asking gives for each kind of forged store.
 #[test]
 fn forged_stores_answer_what_they_say() {
     let session = Session::holding(2, &cases::p().entries).unwrap();
-    let right = store_of(session.entries());
+    let right = store_of(session.entries(), 2);
     let ask = |store: &Store, op: Op, room: usize| {
         let (mut words, mut buffer) = (words_with(&session, store), known(room));
         let before = words;

@@ -4,12 +4,14 @@
 //! Rust, whose other calls the benchmarks compare, only conversions, timings and
 //! the changes of sessions are.
 
+use crate::store::{telling_counts, Setting};
 use oracle::file::{self, contents_end, encode, entry_length, longest};
 use oracle::gen::budget::{self, draw_fitting};
 use oracle::gen::buffers::known;
 use oracle::gen::damage::{damage, truncations, AIMS};
 use oracle::gen::entries;
 use oracle::gen::jitter::{most, Jitter};
+use oracle::gen::lent::{forged, sound};
 use oracle::gen::listings::long_listing;
 use oracle::gen::odd::{many_rounds, near_one};
 use oracle::gen::ops::sequence;
@@ -256,7 +258,7 @@ fn long_texts() {
 
 #[test]
 fn sessions() {
-    let (mut rng, mut tally, mut stores) = (rng(343), Tally::default(), [0; 2]);
+    let (mut rng, mut tally, mut stores) = (rng(343), Tally::default(), [[0; 2]; 2]);
     for _ in 0..times(400) {
         let sequence = sequence(&mut rng, &mut tally);
         let (mut session, mut due) = (Session::of(&sequence.start), sequence.start);
@@ -284,16 +286,19 @@ fn sessions() {
         assert!(tally.met(number) > times(10), "{number}: {tally}");
     }
     tally.assert_map_times(times(100), times(100), times(20));
-    let [mapped, exceeding] = stores;
-    assert!(mapped > times(100) && exceeding > times(10), "{stores:?}");
+    let mut counted = stores.as_flattened().iter().zip([100, 10, 20, 5]);
+    assert!(
+        counted.all(|(met, least)| *met > times(least)),
+        "{stores:?}"
+    );
 }
 
 /// The plain program on the same memory: changes, and the map and a time under
-/// it where the store is right. It maps on the session's own levels, so after a
-/// change of the list it stores no map that needs more. Counts the changes after
-/// which it stores a map, and those after which only the library does.
+/// it where the store is right. Counts the changes of the list, and those of the
+/// level count, after which there is a map, and after which there would be one on
+/// more levels.
 fn compare_plain(
-    stores: &mut [u64; 2],
+    stores: &mut [[u64; 2]; 2],
     before: &Words,
     op: &Op,
     answer: Result<Reply, Refusal>,
@@ -318,16 +323,62 @@ fn compare_plain(
     if *op != Op::Map || answer.is_ok() {
         assert_eq!(done, answer.is_ok(), "{op:?} on {before:?}");
     }
-    let due = match op {
-        Op::Insert(..) | Op::Remove(_) | Op::Replace(..) if done => {
-            let own = lent::on_own_levels(due);
-            stores[0] += u64::from(Store::within(&own).mapped);
-            stores[1] += u64::from(own != *due);
-            own
-        }
+    let setting = matches!(op, Op::SetLevels(_));
+    let left = match answer {
+        Ok(Reply::Changed) if setting => afresh(before, due),
         _ => *due,
     };
-    assert_eq!(session.memory(), due, "{op:?} on {before:?}");
+    assert_eq!(session.memory(), left, "{op:?} on {before:?}");
+    if answer == Ok(Reply::Changed) {
+        count_store(&mut stores[usize::from(setting)], due);
+    }
+}
+
+/// What the plain program leaves when it sets the level count, where the library
+/// leaves `due`: the same, unless the store was forged, which the plain program
+/// does not read.
+fn afresh(before: &Words, due: &Words) -> Words {
+    let held = lent::session_in(due).expect("it was changed");
+    let words = lent::words_of(&held);
+    assert!(words == *due || !lent::is_right(before), "{before:?}");
+    words
+}
+
+/// Counts a session with a map, or one that needs more levels for it.
+fn count_store([mapped, exceeding]: &mut [u64; 2], words: &Words) {
+    let held = lent::session_in(words).expect("it was changed");
+    let has = Store::within(words).has_map(held.levels());
+    *mapped += u64::from(has);
+    *exceeding += u64::from(!has && lent::store_of(held.entries(), 64).mapped == 1);
+}
+
+/// Telling level counts on right and forged stores, in the tuned and in the plain
+/// program.
+#[test]
+fn level_counts() {
+    let (mut rng, mut met, mut stores) = (rng(347), [0; 3], [[0; 2]; 2]);
+    for round in 0..times(1_000) {
+        let count = rng.count(1, 8);
+        let mut words = sound(&mut rng, count);
+        if round % 2 == 0 {
+            forged(&mut rng, &words).put(&mut words);
+        }
+        for levels in telling_counts(&words) {
+            let (op, mut session, mut due) = (Op::SetLevels(levels), Session::of(&words), words);
+            let answer = apply(&mut session, &op, &mut []);
+            assert_eq!(answer, lent::apply(&mut due, &op, &mut []));
+            assert_eq!(session.memory(), due, "{op:?} on {words:?}");
+            compare_plain(&mut stores, &words, &op, answer, &due);
+            met[Setting::of(&Store::within(&words), words[0] as usize, levels) as usize] += 1;
+        }
+    }
+    let mut counted = met.iter().zip([2_000, 500, 500]);
+    assert!(counted.all(|(met, least)| *met > times(least)), "{met:?}");
+    let [mapped, exceeding] = stores[1];
+    assert!(
+        mapped > times(2_000) && exceeding > times(200),
+        "{stores:?}"
+    );
 }
 
 /// Nodes whose times take very many rounds, or whose entries differ in B and r on

@@ -26,12 +26,6 @@ pub trait Row {
 
     /// The calls.
     fn call<P: Planner>(&self, lent: &mut Self::Lent);
-
-    /// Whether the plain planner leaves what it should, where the proved library
-    /// leaves `proved`.
-    fn agrees(&self, plain: &Self::Lent, proved: &Self::Lent) -> bool {
-        plain == proved
-    }
 }
 
 /// A table of rows.
@@ -80,8 +74,7 @@ impl<'a> Table<'a> {
             lent
         });
         assert!(lent[1] == lent[0], "{name}: the tuned one differs");
-        let agrees = row.agrees(&lent[2], &lent[0]);
-        assert!(agrees, "{name}: the plain one differs");
+        assert!(lent[2] == lent[0], "{name}: the plain one differs");
         // Each planner makes enough calls for one run: one may be far slower.
         let mut calls = [1; 3];
         for who in 0..3 {

@@ -7,7 +7,7 @@ use crate::rows;
 use crate::stations::{mapped_entries, one_node, Starts};
 use oracle::ffi::session::Session;
 use oracle::gen::entries;
-use oracle::lent::{on_own_levels, words_of};
+use oracle::lent::{words_of, NO_STORE};
 use oracle::model;
 use oracle::rng::Rng;
 use oracle::timing::Timing as Timed;
@@ -45,13 +45,15 @@ fn mapped_changes(table: &mut Table, rng: &mut Rng, starts: Starts) {
     for count in [8, 16, 32, 63] {
         table.row(&Changes::mapped(rng, starts, count));
     }
-    for count in [8, 64] {
-        table.row(&LevelCounts::new(rng, starts, count));
+    for set in [Set::Enough, Set::TooFew] {
+        for count in [8, 64] {
+            table.row(&LevelCounts::new(rng, starts, count, set));
+        }
     }
 }
 
-/// Changes of sessions whose map needs more levels than they have: the library
-/// searches on, and stores the map and the times.
+/// Changes of sessions whose map needs more levels than they have, before and
+/// after: what is stored is that there is none.
 fn exceeding_changes(table: &mut Table, rng: &mut Rng, starts: Starts) {
     for levels in [Levels::OneLess, Levels::One] {
         for count in [8, 16, 32, 63] {
@@ -169,17 +171,17 @@ impl Changes {
         };
         let name =
             format!("insert into or remove from a session of {count} entries {exceeding}{late}");
-        let row = Changes::drawn(rng, starts, count, name, |session| {
+        let row = Changes::drawn(rng, starts, count, name, |held| {
             let levels = match levels {
-                Levels::OneLess => session.used - 1,
+                Levels::OneLess => held.used - 1,
                 Levels::One => 1,
             };
-            (1..session.used)
+            (1..held.used)
                 .contains(&levels)
-                .then_some(Session { levels, ..session })
+                .then(|| without_map(held, levels))
         });
         for session in row.changed::<Proved>().as_flattened() {
-            assert!(session.mapped == 1 && session.used > session.levels);
+            assert_eq!(session.store(), NO_STORE);
         }
         row
     }
@@ -218,8 +220,7 @@ impl Changes {
             assert_eq!(after, before);
         }
         assert_eq!(row.changed::<Tuned>(), proved);
-        let due: Vec<_> = proved.iter().map(|both| both.each_ref().map(own)).collect();
-        assert_eq!(row.changed::<Plain>(), due);
+        assert_eq!(row.changed::<Plain>(), proved);
         row
     }
 
@@ -236,9 +237,11 @@ impl Changes {
     }
 }
 
-/// What the plain program leaves where the library leaves this.
-fn own(session: &Session) -> Session {
-    Session::of(&on_own_levels(&session.memory()))
+/// The session with fewer levels than its map needs.
+fn without_map(session: Session, levels: u32) -> Session {
+    let mut words = Session { levels, ..session }.memory();
+    NO_STORE.put(&mut words);
+    Session::of(&words)
 }
 
 impl Row for Changes {
@@ -263,13 +266,6 @@ impl Row for Changes {
             changed[0] = P::insert(session, black_box(middle), &self.entry);
             changed[1] = P::remove(session, black_box(middle));
         }
-    }
-
-    fn agrees(&self, plain: &Self::Lent, proved: &Self::Lent) -> bool {
-        let due = proved
-            .iter()
-            .map(|(session, changed)| (own(session), *changed));
-        plain.iter().cloned().eq(due)
     }
 }
 
@@ -502,39 +498,89 @@ impl Row for Asking {
     }
 }
 
-/// Sets the level count of a session, and sets it back.
+/// The level count that is set first, before all 64 are set again.
+#[derive(Clone, Copy, PartialEq, Eq)]
+enum Set {
+    /// As many as the map needs: it stays.
+    Enough,
+    /// One, which is too few: the map is lost, and searched for again.
+    TooFew,
+}
+
+/// Sets the level count of several sessions with 64 levels, and sets it back.
 struct LevelCounts {
-    session: Session,
+    sessions: Vec<(Session, u8)>,
     starts: Starts,
+    set: Set,
 }
 
 impl LevelCounts {
-    fn new(rng: &mut Rng, starts: Starts, count: usize) -> LevelCounts {
-        LevelCounts {
-            session: session(64, &mapped_entries(rng, starts, count, 64)),
+    /// Of sessions whose map needs more than one level.
+    fn new(rng: &mut Rng, starts: Starts, count: usize, set: Set) -> LevelCounts {
+        let mut sessions = Vec::new();
+        while sessions.len() < 8 {
+            let held = session(64, &mapped_entries(rng, starts, count, 64));
+            let first = match set {
+                Set::Enough => held.used as u8,
+                Set::TooFew => 1,
+            };
+            if held.used > 1 {
+                sessions.push((held, first));
+            }
+        }
+        let row = LevelCounts {
+            sessions,
             starts,
+            set,
+        };
+        row.assert_set::<Proved>();
+        row.assert_set::<Tuned>();
+        row.assert_set::<Plain>();
+        row
+    }
+
+    /// Asserts that the first count leaves or takes the map, and that the second
+    /// leaves each session as it was.
+    fn assert_set<P: Planner>(&self) {
+        for (before, first) in &self.sessions {
+            let mut session = before.clone();
+            assert!(P::set_levels(&mut session, *first));
+            let due = match self.set {
+                Set::Enough => before.store(),
+                Set::TooFew => NO_STORE,
+            };
+            assert_eq!(session.store(), due);
+            assert!(P::set_levels(&mut session, 64));
+            assert_eq!(session, *before);
         }
     }
 }
 
 impl Row for LevelCounts {
-    type Lent = (Session, [bool; 2]);
+    type Lent = Vec<(Session, [bool; 2])>;
 
     fn name(&self) -> String {
-        let (count, late) = (self.session.count, self.starts.name());
-        format!("set the level count of a session of {count} entries{late}")
+        let (count, late) = (self.sessions[0].0.count, self.starts.name());
+        let set = match self.set {
+            Set::Enough => "keeping its map",
+            Set::TooFew => "losing and regaining its map",
+        };
+        format!("set the level count of a session of {count} entries, {set}{late}")
     }
 
     fn parts(&self) -> usize {
-        2
+        2 * self.sessions.len()
     }
 
     fn lent(&self) -> Self::Lent {
-        (self.session.clone(), [false; 2])
+        let unchanged = |(session, _): &(Session, u8)| (session.clone(), [false; 2]);
+        self.sessions.iter().map(unchanged).collect()
     }
 
-    fn call<P: Planner>(&self, (session, changed): &mut Self::Lent) {
-        changed[0] = P::set_levels(session, black_box(1));
-        changed[1] = P::set_levels(session, black_box(64));
+    fn call<P: Planner>(&self, lent: &mut Self::Lent) {
+        for ((_, first), (session, changed)) in self.sessions.iter().zip(lent) {
+            changed[0] = P::set_levels(session, black_box(*first));
+            changed[1] = P::set_levels(session, black_box(64));
+        }
     }
 }
