@@ -160,7 +160,8 @@ uint32_t maiplur_list(const uint8_t *file, size_t file_length, uint8_t *text, si
  * A change that inserts, removes or replaces an entry searches for the map and finds the times: some microseconds for the
  * nodes of a station. It makes no round that the load rules out, so that the node named at the top, whose listing takes half
  * a minute, takes milliseconds; but a node whose entries miss their deadlines by little can take a second or two. Setting the
- * level count searches only if the session has no map and gets more levels. Asking searches nothing.
+ * level count searches only if the session has no map and gets more levels, and then takes as long as such a change. Asking
+ * searches nothing.
  */
 typedef struct {
     uint32_t levels;      /* 1 to 64 */

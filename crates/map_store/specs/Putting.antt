@@ -1,4 +1,4 @@
--- What the loops write into a store. No promise of an entry for users mentions it.
+-- What the loops write into a store, and what they know of a group. No promise of an entry for users mentions it.
 use Rattle.std.specs.Prelude.{ℕ, ◌+◌, ◌≤◌, ◌<◌, ◌≡◌, true, false, List, length, get_or, leb, eqb, Option, None, Some}
 use Rattle.task_model.specs.declared.Entry.{Entry}
 use Rattle.completion.specs.Demand.{demand_with}
@@ -29,7 +29,7 @@ unfoldable pub known_time : Option Known → ℕ → ℕ
 known_time None blocking = 0
 known_time (Some k) blocking = elim (leb k.blocking blocking) [ true ↦ k.time | false ↦ 0 ]
 
--- What is known once the entry e is timed: its time, if it has no remote calls, and else what was known before.
+-- What is known once the entry e is timed: its time, if it is not late and has no remote calls, and else what was known before.
 unfoldable pub known_next : Option Known → Entry → Option ℕ → Option Known
 known_next known e None = known
 known_next known e (Some t) = elim (eqb e.calls 0) [ true ↦ Some (record { blocking = e.blocking; time = t }) | false ↦ known ]

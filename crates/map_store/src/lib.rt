@@ -122,8 +122,8 @@ fn has_map(store: &StoreWords, levels: u32) -> bool
     store[0] == 1 && store[1] <= levels
 }
 
-// Sets right a store of the same entries once the level count is set; it was `before`. A map that uses no more levels than there
-// are now stays the map. Without such a map only more levels than before are worth a search.
+// Makes of a store of the same entries what it becomes once the level count is set; it was `before`. A map that uses no more
+// levels than there are now stays the map. Without such a map only more levels than before are worth a search.
 pub fn store_at_levels(node: &HeldEntries, before: u32, levels: u8, store: &mut StoreWords)
     ensures { store.new ≡ store_at_levels completion_test before (node_of node.now.words.now node.now.count levels) store.old }
 {

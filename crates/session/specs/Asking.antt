@@ -1,4 +1,4 @@
--- Queries are answered from the store: what they check and give, whatever words the session has.
+-- What queries check and give, whatever words the session has. The map and a time under it are answered from the store.
 use Rattle.std.specs.Prelude.{ℕ}
 use Rattle.refusals.specs.Refusals.{Outcome, ◌and_then◌}
 use Rattle.refusals.specs.Answers.{Answer, giving}

@@ -1,4 +1,5 @@
--- What a session has: the words of a node, and those of a store. That of a node has zero in every word beyond its entries.
+-- What a session has: a level count, an entry count, the words of a node, and those of a store. The session of a node has zero in
+-- every word of the node beyond its entries.
 use Rattle.std.specs.Prelude.{ℕ, ◌≡◌, List, length}
 use Rattle.task_model.specs.Limits.{Node, NodeValid}
 use Rattle.node_words.specs.Lists.{zeros, zero_padded}

@@ -62,7 +62,7 @@ fn remember(words: &mut SessionWords)
     store_map(&entries_before(front), levels, store);
 }
 
-// Sets the store right once the level count is set; it was `before`.
+// Makes of the store what it becomes once the level count is set; it was `before`.
 fn remember_at_levels(words: &mut SessionWords, before: u32)
     requires { NodeHolds (node_in (session_in words.old)) }
     ensures { words.new ≡ words_in (remembered_at_levels before (session_in words.old)) }
