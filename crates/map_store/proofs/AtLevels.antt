@@ -82,9 +82,9 @@ module _ (n : Node) (holds : NodeHolds n) (levels : ℕ) where
       ∙ sym (store_none completion_test set (none_fewer n.entries holds.each n.levels levels h p)))
       (λ z. levels_afresh completion_test n.levels set (store_of n) (stored_none n holds p levels) (omega arith))
 
-  pub levels_set_lem : store_at_levels completion_test n.levels (record { levels = levels; entries = n.entries }) (store_of n)
+  pub levels_set : store_at_levels completion_test n.levels (record { levels = levels; entries = n.entries }) (store_of n)
       ≡ store_of (record { levels = levels; entries = n.entries })
-  levels_set_lem =
+  levels_set =
       ⊎_elim
       (λ y.
       by_cases (dec_le (levels_used y.0) levels)

@@ -66,7 +66,7 @@ stored_time store i = get_or store (times_at + i) 0
 
 -- What the words `store` become once the level count is set, from `before` to that of the node n. If they have a map on the new
 -- count, they stay; else, if the count rises, the store is worked out afresh; else all words are 0. So the store of a node becomes
--- that of the node with the new count (`levels_set_lem`): a map that uses more levels is lost, and without a map on `before`
+-- that of the node with the new count (`levels_set`): a map that uses more levels is lost, and without a map on `before`
 -- levels it has none on fewer either.
 unfoldable pub store_at_levels : EntryTest → (before : ℕ) → Node → List ℕ → List ℕ
 store_at_levels test before n store =

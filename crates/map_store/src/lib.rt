@@ -2,7 +2,7 @@
 
 // The store of a node: its map, with every entry's completion time under it, in words that a session keeps. It is worked out
 // once, and asked as often as one likes.
-ghost use Rattle.std.specs.Prelude.{◌≡◌, ◌⊎◌, ◌∷◌, ◌++◌, ◌-◌, ◌*◌, ◌≤◌, IsSomeAnd, Some, length, drop};
+ghost use Rattle.std.specs.Prelude.{◌≡◌, ◌∷◌, ◌++◌, ◌-◌, ◌*◌, ◌≤◌, length, drop};
 ghost use Rattle.std.proofs.Math.Option.{some};
 ghost use Rattle.refusals.specs.Answers.{answered, left};
 ghost use Rattle.task_model.specs.Limits.{most_entries};

@@ -10,7 +10,7 @@ use Rattle.refusals.proofs.Outcomes.{either}
 use Rattle.task_model.specs.Limits.{most_levels}
 use Rattle.session.specs.declared.Session.{Session}
 use Rattle.session.specs.State.{node_in, Sound}
-use Rattle.session.specs.Operations.{Change, Query, Operation, opening, changing, asking, AllCallable, empty_node, answers_all, step_check}
+use Rattle.session.specs.Operations.{Query, Operation, opening, changing, asking, AllCallable, empty_node, answers_all, step_check}
 use Rattle.session.specs.Asking.{call_check}
 use Rattle.session.specs.Mapping.{Remembers}
 use Rattle.session.specs.Steps.{session_after_all, answers_of, Follows, Called, CalledAll}
@@ -19,25 +19,23 @@ use Rattle.session.proofs.Checking.{after_refused, after_accepted}
 use Rattle.session.proofs.InWords.{words_session}
 use Rattle.session.proofs.Theorems.{answers_follow, made_sound, sound_remembers}
 
+-- opening and changes answer by their own checks, and do not look at the store
+pub called_by : (o : Operation) (s : Session) → ((q : Query) → o ≡ asking q → ⊥) → call_check o s ≡ step_check o (node_in s)
+unfolding call_check
+called_by (opening levels) s out = refl
+called_by (changing c) s out = refl
+called_by (asking q) s out = absurd (out q refl)
+
 -- Opening and changes are such calls by what they promise, of a session that is lent by reference,
-pub opening_called : (levels : ℕ) (s : Session) (a : Result Unit Refusal) (t : Session) → Follows (opening levels) s a t → Called (opening levels) s (outcome a) t
-unfolding call_check
-opening_called levels s a t f = record { answer = f.answer; session = f.session }
+module _ (o : Operation) (out : (q : Query) → o ≡ asking q → ⊥) where
+  pub change_called : (s : Session) (a : Result Unit Refusal) (t : Session) → Follows o s a t → Called o s (outcome a) t
+  change_called s a t f = record { answer = f.answer ∙ sym (called_by o s out); session = f.session }
 
-pub change_called : (c : Change) (s : Session) (a : Result Unit Refusal) (t : Session) → Follows (changing c) s a t → Called (changing c) s (outcome a) t
-unfolding call_check
-change_called c s a t f = record { answer = f.answer; session = f.session }
-
--- and of the words that a caller in C lends: the session is the one that is read from the bytes that the call leaves.
-pub opening_called_in : (levels : ℕ) (w : List ℕ) (a : Result Unit Refusal) (after : List ℕ) → FollowsIn (opening levels) w a after
-    → Called (opening levels) (session_in w) (outcome a) (session_in after)
-unfolding call_check
-opening_called_in levels w a after f = record { answer = f.answer; session = ap session_in f.words ∙ words_session (opening levels) w }
-
-pub change_called_in : (c : Change) (w : List ℕ) (a : Result Unit Refusal) (after : List ℕ) → FollowsIn (changing c) w a after
-    → Called (changing c) (session_in w) (outcome a) (session_in after)
-unfolding call_check
-change_called_in c w a after f = record { answer = f.answer; session = ap session_in f.words ∙ words_session (changing c) w }
+  -- and of words, where the session is the one that is read from the bytes that the call leaves.
+  pub change_called_in : (w : List ℕ) (a : Result Unit Refusal) (after : List ℕ) → FollowsIn o w a after
+      → Called o (session_in w) (outcome a) (session_in after)
+  change_called_in w a after f =
+      record { answer = f.answer ∙ sym (called_by o (session_in w) out); session = ap session_in f.words ∙ words_session o w }
 
 -- A query is such a call that leaves the session, whatever it answers.
 pub query_called : (q : Query) (s : Session) → Called (asking q) s (call_check (asking q) s) s

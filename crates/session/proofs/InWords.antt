@@ -24,7 +24,7 @@ use Rattle.map_store.proofs.Theorems.{store_size_lem, store_empty}
 use Rattle.map_store.proofs.AtLevels.{levels_size}
 use Rattle.session.specs.declared.Session.{Session}
 use Rattle.session.specs.State.{node_in, session_with, session_of}
-use Rattle.session.specs.Lent.{spliced, with_store_by, remembered, remembered_at_levels}
+use Rattle.session.specs.Lent.{spliced, Spliceable, with_store_by, remembered, remembered_at_levels}
 use Rattle.session.specs.Operations.{
   rules,
   Change,
@@ -260,8 +260,13 @@ module _ (w : List ℕ) (x : Change) (a : accepted ≡ step_check (changing x) (
           ap (λ l. record (spliced (position_of x) (gone_of x) (new_of x) (session_in w)) { levels = l }) (sym same)
           ∙ made_is (ap (λ es. zero_padded (words_of es)) (sym (changed_is x (node_in (session_in w))))) (drop store_at w)
 
-      pub splice_held : NodeHolds (node_in (spliced (position_of x) (gone_of x) (new_of x) (session_in w)))
-      splice_held = subst (λ (s : Session). NodeHolds (node_in s)) (sym spliced_is) unstored_held
+      pub splice_ready : Spliceable (position_of x) (gone_of x) (new_of x) (session_in w)
+      splice_ready =
+          record {
+            within = (part_ready.within, part_ready.few);
+            few = part_ready.room;
+            held = subst (λ (s : Session). NodeHolds (node_in s)) (sym spliced_is) unstored_held;
+          }
 
       pub splice_follows : store_after_by rules x (session_in w) ≡ store_of (changed x (node_in (session_in w))) → {last : List ℕ}
           → last ≡ words_in (remembered (spliced (position_of x) (gone_of x) (new_of x) (session_in w))) → FollowsIn (changing x) w (Ok tt) last

@@ -13,7 +13,7 @@ use Rattle.task_model.proofs.Theorems.{node_accepted}
 use Rattle.completion.specs.Test.{completion_test}
 use Rattle.map_store.specs.Store.{store_of, store_at_levels}
 use Rattle.map_store.proofs.Theorems as stored
-use Rattle.map_store.proofs.AtLevels.{levels_set_lem}
+use Rattle.map_store.proofs.AtLevels.{levels_set}
 use Rattle.session.specs.State.{node_in, session_with, session_of}
 use Rattle.session.specs.Asking.{ask_check, call_check}
 use Rattle.task_model.specs.Checks.{node_check}
@@ -169,7 +169,7 @@ made_session (changing (removing p)) n k = ap (λ m. session_of (changed (removi
 made_session (changing (replacing p e)) n k = ap (λ m. session_of (changed (replacing p e) m)) (read_back n k)
 made_session (changing (setting_levels l)) n k =
     ap (λ m. session_with (store_at_levels completion_test n.levels (changed (setting_levels l) m) (store_of n)) (changed (setting_levels l) m)) (read_back n k)
-    ∙ ap (λ st. session_with st (changed (setting_levels l) n)) (levels_set_lem n k.valid.within l)
+    ∙ ap (λ st. session_with st (changed (setting_levels l) n)) (levels_set n k.valid.within l)
 made_session (asking q) n k = refl
 
 -- what is asked of the session of a node is what is worked out from the node

@@ -1,9 +1,9 @@
 -- A session that is lent to be read, an operation that is made in its words, and the steps of a change. A reader need not believe
 -- this: no public entry uses it.
-use Rattle.std.specs.Prelude.{ℕ, ◌+◌, ◌-◌, ◌≡◌, List, length, Result}
+use Rattle.std.specs.Prelude.{ℕ, ◌+◌, ◌-◌, ◌≤◌, ◌≡◌, List, length, Result}
 use Rattle.refusals.specs.declared.Refusal.{Refusal}
 use Rattle.task_model.specs.declared.Entry.{Entry}
-use Rattle.task_model.specs.Limits.{Node}
+use Rattle.task_model.specs.Limits.{most_entries, Node, NodeHolds}
 use Rattle.node_words.specs.Lists.{zero_padded, splice}
 use Rattle.node_words.specs.Words.{words_of}
 use Rattle.completion.specs.Test.{completion_test}
@@ -31,6 +31,13 @@ spliced position gone new s =
       words = zero_padded (words_of (splice position gone new (node_in s).entries));
       store = s.store;
     }
+
+-- What is asked of a session for that: the entries that go are in its list, the list has room for the new ones, and the node that
+-- comes of it is within the limits.
+pub record Spliceable (position gone : ℕ) (new : List Entry) (s : Session) : Type 0 where
+  pub within : (position + gone ≤ s.count) × (s.count ≤ most_entries)
+  pub few : (spliced position gone new s).count ≤ most_entries
+  pub held : NodeHolds (node_in (spliced position gone new s))
 
 -- A session with another store, which `work` makes of the old one and of the node,
 abbrev pub with_store_by : (List ℕ → Node → List ℕ) → Session → Session

@@ -2,13 +2,13 @@
 // are made in place; a refused change writes nothing. Numbers in parentheses are the refusals, in the order of the checks.
 // These are words, and not a struct, for C lends them. A position and an entry are two arguments here and in the checks: a
 // caller gives them once for a change, so a struct of both would be made anew in each call.
-ghost use Rattle.std.specs.Prelude.{◌≡◌, ◌+◌, ◌-◌, ◌≤◌, length, get_or, drop};
+ghost use Rattle.std.specs.Prelude.{◌≡◌, length, get_or, drop};
 ghost use Rattle.std.specs.Option.{option_to_list};
-ghost use Rattle.task_model.specs.Limits.{most_entries, NodeHolds};
+ghost use Rattle.task_model.specs.Limits.{NodeHolds};
 ghost use Rattle.node_words.specs.Words.{node_of};
 ghost use Rattle.session.specs.State.{node_in};
 ghost use Rattle.session.specs.Operations.{changing, opening, inserting, removing, replacing, setting_levels};
-ghost use Rattle.session.specs.Lent.{remembered, remembered_at_levels, spliced};
+ghost use Rattle.session.specs.Lent.{remembered, remembered_at_levels, spliced, Spliceable};
 ghost use Rattle.session.specs.InWords.{node_at, store_at, session_in, words_in, FollowsIn};
 
 use super::SessionWords;
@@ -74,9 +74,7 @@ fn remember_at_levels(words: &mut SessionWords, before: u32)
 
 // Puts an entry, if there is one, in place of the `gone` entries from a position on, and works out the store afresh.
 fn splice(words: &mut SessionWords, position: usize, gone: usize, new: Option<Entry>)
-    requires within { (position + gone ≤ (session_in words.old).count) × ((session_in words.old).count ≤ most_entries) }
-    requires few { (spliced position gone (option_to_list new) (session_in words.old)).count ≤ most_entries }
-    requires held { NodeHolds (node_in (spliced position gone (option_to_list new) (session_in words.old))) }
+    requires { Spliceable position gone (option_to_list new) (session_in words.old) }
     ensures { words.new ≡ words_in (remembered (spliced position gone (option_to_list new) (session_in words.old))) }
 {
     let count = words[1] as usize;

@@ -1,7 +1,7 @@
 use mathlib.Core.Path.{refl}
 use Rattle.std.proofs.lemmas.Result.{err_from_is_err_and}
 use Rattle.session.specs.Operations.{removing, changed}
-use Rattle.session.proofs.InWords.{asked, in_refused, part_ready, splice_held, splice_follows}
+use Rattle.session.proofs.InWords.{asked, in_refused, splice_ready, splice_follows}
 use Rattle.session.proofs.in_words.remove.Goals as goal
 
 pub returns-in_err-check_remove : goal.returns-in_err-check_remove
@@ -11,16 +11,8 @@ returns-in_err-check_remove c =
 
 pub splice-requires : goal.splice-requires
 unfolding changed
-splice-requires c =
-    let w = c.args.words.now in
-    let x = removing c.args.position in
-    let a = asked x c.lent.ensures c.in_ok-check_remove.ensures in
-    let ready = part_ready w x a in
-    record { within = (ready.within, ready.few); few = ready.room; held = splice_held w x a tt refl }
+splice-requires c = splice_ready c.args.words.now (removing c.args.position) (asked _ c.lent.ensures c.in_ok-check_remove.ensures) tt refl
 
 pub returns : goal.returns
 unfolding changed
-returns c =
-    let w = c.args.words.now in
-    let x = removing c.args.position in
-    splice_follows w x (asked x c.lent.ensures c.in_ok-check_remove.ensures) tt refl refl c.splice.ensures
+returns c = splice_follows c.args.words.now (removing c.args.position) (asked _ c.lent.ensures c.in_ok-check_remove.ensures) tt refl refl c.splice.ensures
