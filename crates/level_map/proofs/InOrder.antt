@@ -47,6 +47,9 @@ module _ (c : Cuts) where
   abbrev pub groups : ℕ
   groups = length (starts_in c)
 
+  pub used_groups : groups ≡ c.used
+  used_groups = length-take-le c.used c.starts c.full
+
   pub levels_count : length (levels_in c) ≡ c.count
   levels_count = length-levels (starts_in c) c.count c.falling
 
@@ -70,18 +73,16 @@ module _ (c : Cuts) where
 
   -- where the group on a level starts, and where it ends
   module _ (level : ℕ) (low : 1 ≤ level) (high : level ≤ groups) where
-    pub group_start : get_or (starts_in c) (groups - level) 0 ≡ before level (levels_in c)
+    pub group_start : get_or c.starts (c.used - level) 0 ≡ before level (levels_in c)
     group_start =
-        let back : groups - (groups - level) ≡ level = omega arith in
-        sym (rw back at (before_levels (starts_in c) c.count c.falling (groups - level)))
+        let back : groups - (c.used - level) ≡ level = omega (arith, used_groups) in
+        sym (get_or-take c.used c.starts (c.used - level) 0 (omega (arith, used_groups)))
+        ∙ sym (rw back at (before_levels (starts_in c) c.count c.falling (c.used - level)))
 
-    pub least_end : groups - level ≡ 0 → c.count ≡ before (suc level) (levels_in c)
-    least_end h = sym (before_top (starts_in c) c.count (suc level) c.falling (omega arith))
-
-    pub group_end : 0 < groups - level → get_or (starts_in c) (groups - level - 1) 0 ≡ before (suc level) (levels_in c)
-    group_end h =
-        let g = groups - level - 1 in
-        sym (cut_end (starts_in c) c.count c.falling level (suc g) (omega arith))
+    pub group_stop : get_or (c.count ∷ c.starts) (c.used - level) 0 ≡ before (suc level) (levels_in c)
+    group_stop =
+        sym (get_or-take (suc c.used) (c.count ∷ c.starts) (c.used - level) 0 (omega arith))
+        ∙ sym (cut_end (starts_in c) c.count c.falling level (c.used - level) (omega (arith, used_groups)))
 
     pub group_some : before level (levels_in c) < before (suc level) (levels_in c)
     group_some = omega (arith, before_suc level (levels_in c), (full_cuts (starts_in c) c.count c.falling).full level low high)

@@ -1,5 +1,5 @@
 -- The cuts that the search answers. No promise of an entry for users mentions them.
-use Rattle.std.specs.Prelude.{ℕ, ◌≡◌, List, Some, None}
+use Rattle.std.specs.Prelude.{ℕ, ◌≡◌, List, Some, None, take}
 use Rattle.std.specs.Prelude as code
 use Rattle.std.proofs.Math.Option.{Option, none}
 use Rattle.level_map.specs.declared.cuts.Cuts.{Cuts}
@@ -7,7 +7,7 @@ use Rattle.level_map.specs.Cuts.{levels_of_cuts, CutsOf}
 
 -- The starts of the groups, least urgent group first.
 abbrev pub starts_in : Cuts → List ℕ
-starts_in c = c.starts.items
+starts_in c = take c.used c.starts
 
 -- The levels of the groups, one per entry.
 abbrev pub levels_in : Cuts → List ℕ

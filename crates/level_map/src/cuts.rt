@@ -1,22 +1,26 @@
 // The groups of a node's map.
-ghost use Rattle.std.specs.Prelude.{◌≡◌, suc, ◌++◌, ◌-◌, ◌≤◌, ◌<◌, length, drop};
+ghost use Rattle.std.specs.Prelude.{◌≡◌, suc, ◌++◌, ◌-◌, ◌≤◌, ◌<◌, length, take, drop, replicate};
 ghost use Rattle.task_model.specs.Limits.{most_entries};
 ghost use Rattle.level_map.specs.Cuts.{Falling, before};
 ghost use Rattle.level_map.specs.OneProof.{Falling-prop};
 
-use arrayvec::ArrayVec;
+use super::group_end;
 use completion::timed::TimedEntry;
 use node_words::held::HeldEntries;
 use task_model::MOST_ENTRIES;
 
-// Where `count` entries are cut into the groups of their map: the start of each group, least urgent group first, so the last
-// start is 0.
-#[derive(Debug, Drop, PartialEq, Eq)]
+// Where `count` entries are cut into the groups of their map: the starts of the first `used` groups, least urgent group first,
+// so the last start is 0; what is left of the array is 0. (An array with a count, so that cuts are copied like the entries
+// that they cut: an `ArrayVec` is not `Copy`.)
+#[derive(Clone, Copy, Debug, PartialEq, Eq)]
 pub struct Cuts {
-    pub starts: ArrayVec<u8, MOST_ENTRIES>,
+    pub starts: [u8; MOST_ENTRIES],
+    pub used: u8,
     pub count: usize,
     ghost few: { count ≤ most_entries },
-    ghost falling: { Falling starts.items count } by { Falling-prop starts.items count },
+    ghost full: { used ≤ length starts },
+    ghost falling: { Falling (take used starts) count } by { Falling-prop (take used starts) count },
+    ghost clear: { drop used starts ≡ replicate (most_entries - used) 0 },
 }
 
 // The entries from `first` to just before `end`: those of one level. (No node in it, nor in `Cuts`: both would have the node's
@@ -52,7 +56,7 @@ impl Cuts {
     pub fn groups(&self) -> u8
         ensures { result ≡ length (starts_in self.now) }
     {
-        self.starts.len() as u8
+        self.used
     }
 
     // The group on a level: behind the entries of the more urgent levels, up to those of the less urgent ones.
@@ -62,15 +66,10 @@ impl Cuts {
         ensures end { result.end ≡ before (suc level) (levels_in self.now) }
         ensures inside { (result.first < result.end) × (result.end ≤ self.now.count) }
     {
-        let behind = self.starts.len() - level as usize;
-        let end = if behind == 0 {
-            self.count
-        } else {
-            self.starts[behind - 1] as usize
-        };
+        let behind = self.used - level;
         Group {
-            first: self.starts[behind] as usize,
-            end,
+            first: self.starts[behind as usize] as usize,
+            end: group_end(&self.starts, behind, self.count),
         }
     }
 

@@ -3,8 +3,8 @@
 // The map of a node: a level for each entry, with as few levels as the deadlines allow.
 pub mod cuts;
 
-ghost use Rattle.std.specs.Prelude.{◌≡◌, ◌≤◌, length};
-ghost use Rattle.task_model.specs.Limits.{most_ticks};
+ghost use Rattle.std.specs.Prelude.{◌≡◌, ◌∷◌, ◌≤◌, length, get_or};
+ghost use Rattle.task_model.specs.Limits.{most_entries, most_ticks};
 ghost use Rattle.refusals.specs.Answers.{answered, left};
 ghost use Rattle.node_words.specs.Held.{held_entries};
 ghost use Rattle.node_words.specs.Words.{node_of};
@@ -13,7 +13,6 @@ ghost use Rattle.level_map.specs.Answer.{held_answer, map_of, NodeBestMapOrNone}
 ghost use Rattle.level_map.specs.Groups.{GroupPasses, LeastStart};
 ghost use Rattle.level_map.specs.Found.{CutAnswer};
 
-use arrayvec::ArrayVec;
 use completion::entry_sums::wcet_sum;
 use completion::timed::TimedEntry;
 use cuts::Cuts;
@@ -27,6 +26,8 @@ use task_model::MOST_ENTRIES;
 // to try is one past the late entry. Tests begin with the last entry, because it rules out the most starts. A wider group
 // may still pass.
 // `added` is what the end of the group adds to the blocking of its entries.
+// (Inlined, as `find_cuts` is: called, it made maps of 8 entries take 1.1 times as long.)
+#[inline(always)]
 fn least_start(node: &HeldEntries, end: usize, added: u32) -> Option<usize>
     requires inside { end ≤ node.now.count }
     requires ticks { added ≤ most_ticks }
@@ -58,25 +59,42 @@ fn least_start(node: &HeldEntries, end: usize, added: u32) -> Option<usize>
 
 // Cuts a node into the groups of its map, with at most `most` levels. It works from the least urgent end and makes each
 // group as long as possible. The cuts do not depend on `most`: if there are more groups than levels, there is no map.
+// (Inlined, so that the cuts are made where they are used: moved out of a call, their 80 bytes made listing 32 nodes without
+// entries take 1.9 times as long, and mapping one entry 1.4 times.)
+#[inline(always)]
 pub fn find_cuts(node: &HeldEntries, most: u8) -> Option<Cuts>
     ensures { CutAnswer (the_map (held_entries node.now) most) node.now.count most result }
 {
     let mut end = node.count;
-    let mut starts: ArrayVec<u8, MOST_ENTRIES> = ArrayVec::new();
+    let mut starts = [0u8; MOST_ENTRIES];
+    let mut used: u8 = 0;
     // No `for`: the end goes from group to group.
     while 0 < end {
-        if most <= starts.len() as u8 {
+        if most <= used {
             return None;
         }
         // Blocking times are given: the end of a group adds nothing to them.
         let start = least_start(node, end, 0)?;
-        starts.push(start as u8);
+        starts[used as usize] = start as u8;
+        used += 1;
         end = start;
     }
     Some(Cuts {
         starts,
+        used,
         count: node.count,
     })
+}
+
+// One past the last entry of the group that starts at `cuts[g]`: the start of the next less urgent group, or `count`.
+pub fn group_end(cuts: &[u8; MOST_ENTRIES], g: u8, count: usize) -> usize
+    requires { g ≤ most_entries }
+    ensures { result ≡ get_or (count ∷ cuts.now) g 0 }
+{
+    if g == 0 {
+        return count;
+    }
+    cuts[g as usize - 1] as usize
 }
 
 // Maps a node in memory that is within the limits: writes one byte per entry from the start of `out`. Refuses a buffer with

@@ -15,7 +15,7 @@ use Rattle.node_words.specs.Lists.{zeros, zero_padded, splice}
 use Rattle.node_words.proofs.Lists.{size_spliced}
 
 -- words that are moved make room for others, from place k on
-room_filled : (d s v : List ℕ) (k g m : ℕ) → length v ≡ g → m ≤ length s → k + g + m ≤ length d
+pub room_filled : (d s v : List ℕ) (k g m : ℕ) → length v ≡ g → m ≤ length s → k + g + m ≤ length d
     → sets (paste d (k + g) s m) k v ≡ (take k d ++ (v ++ take m s)) ++ drop (k + g + m) d
 room_filled d s v k g m e l h =
     let x : List ℕ = paste d (k + g) s m in

@@ -14,9 +14,9 @@ ghost use Rattle.task_model.specs.Checks.{node_check};
 ghost use Rattle.node_words.specs.Words.{entry_size, node_size, entry_words, entry_from, entry_of, node_of};
 
 use in_words::EntriesInWords;
-use numbers::MARKS;
+use numbers::{MARKS, check_numbers};
 use refusals::Refusal;
-use task_model::entries::{ListCheck, Whole, WithinLimits};
+use task_model::entries::{WithinLimits, check_entries};
 use task_model::{Entry, MOST_ENTRIES, levels_hold};
 
 // Sizes in words of 32 bits: of an entry, and of a node with room for all its entries (specs/Words.antt).
@@ -114,5 +114,7 @@ pub fn check_words(row: usize, words: &[u32], count: usize, levels: u32) -> Resu
         first: 0,
         count,
     };
-    Whole::<WithinLimits, MARKS>::new().check_all(row, &entries)
+    // One pass, and no quick one before it: a lent session that is refused would be gone through twice.
+    check_entries::<WithinLimits, EntriesInWords>(row, &entries)?;
+    check_numbers(row, &entries, &mut [0; MARKS])
 }

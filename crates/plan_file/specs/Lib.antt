@@ -12,5 +12,7 @@ pub mod Answers
 pub mod Contents
 pub mod Accepted
 pub mod RoundTrips
+-- A reader need not believe this.
+pub mod Marks
 -- Only the programs use this.
 pub mod Input

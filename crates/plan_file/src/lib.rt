@@ -14,13 +14,18 @@ mod read;
 pub mod stages;
 pub mod store;
 
-ghost use Rattle.std.specs.Prelude.{◌≡◌, ◌↔◌, length, ◌+◌, ◌*◌, ◌≤◌, ◌<◌};
+ghost use Rattle.std.specs.Prelude.{◌≡◌, ◌↔◌, map, length, ◌+◌, ◌*◌, ◌≤◌, ◌<◌};
 ghost use Rattle.refusals.specs.Refusals.{outcome, accepted};
-ghost use Rattle.node_words.specs.Words.{words_of};
-ghost use Rattle.plan_file.specs.Plan.{row_of};
-ghost use Rattle.plan_file.specs.Encoding.{header_length, row_length, bodies_start};
-ghost use Rattle.plan_file.specs.Check.{file_check, words_check};
+ghost use Rattle.task_model.specs.Checks.{body_by, body_check};
+ghost use Rattle.node_words.specs.Marks.{mark_count};
+ghost use Rattle.node_words.specs.Words.{entry_size, entries_from, words_of};
+ghost use Rattle.plan_file.specs.Plan.{entry_count, row_of};
+ghost use Rattle.plan_file.specs.Encoding.{header_length, row_length, entry_length, bodies_start};
+ghost use Rattle.plan_file.specs.Decoding.{entries_at};
+ghost use Rattle.plan_file.specs.Contents.{rows_of};
+ghost use Rattle.plan_file.specs.Check.{bodies_by, file_check, words_check};
 ghost use Rattle.plan_file.specs.Limits.{IsPlanFile, IsPlanInMemory};
+ghost use Rattle.plan_file.specs.Marks.{file_marks};
 ghost use Rattle.plan_file.specs.Find.{node_found};
 ghost use Rattle.plan_file.specs.Answers.{Holding, ReadCall, WriteCall, find_answer, itself};
 ghost use Rattle.plan_file.specs.RoundTrips.{WrittenAgain, ReadAgain};
@@ -28,7 +33,7 @@ ghost use Rattle.refusals.specs.Answers.{answer_by, answered, left};
 
 pub use checked::PlanFile;
 use checks::{check_nodes, check_rows};
-use layout::{First, Second};
+use layout::{First, Layout, Second};
 use node_words::numbers::MARKS;
 use node_words::{ENTRY_WORDS, NodeWords};
 use read::copy_entries;
@@ -36,7 +41,7 @@ use refusals::Refusal;
 use stages::Contents;
 use store::{put_contents, put_entries, put_header};
 use task_model::MOST_ENTRIES;
-use task_model::entries::{Whole, WithinLimits};
+use task_model::entries::{EntryCheck, Whole, WithinLimits};
 
 // The editions of a plan file. In the second, an entry has its J.
 #[derive(Clone, Copy, Debug, PartialEq, Eq)]
@@ -74,8 +79,39 @@ pub const MOST_FIRST: usize = HEADER_BYTES
 pub const MOST_SECOND: usize = HEADER_BYTES
     + MOST_NODES as usize * (ROW_BYTES + MOST_ENTRIES * SECOND_ENTRY_BYTES);
 
-// The check of a file's nodes. It has more marks than that of one node; they are cleared once for all nodes.
-type FileCheck = Whole<WithinLimits, 2048>;
+// How many marks there are for the numbers of a file's nodes. There are more than for one node, since they are cleared once for
+// all nodes.
+const FILE_MARKS: usize = 2048;
+
+// Checks all bodies of a file, with FILE_MARKS marks for the numbers of each.
+fn check_file_bodies<E: Layout>(
+    contents: &Contents,
+    check: &mut Whole<WithinLimits, FILE_MARKS>,
+) -> Result<(), Refusal>
+    requires marks { length check.old.marks ≡ file_marks }
+    requires there { bodies_start contents.now.nodes + entry_count (rows_of contents.now) * entry_length E.edition ≤
+        length contents.now.file.now }
+    ensures { outcome result ≡
+        bodies_by body_check 0 (rows_of contents.now)
+        (entries_at E.edition contents.now.file.now (bodies_start contents.now.nodes) (entry_count (rows_of contents.now))) }
+{
+    contents.check_bodies::<E, _>(check)
+}
+
+// Checks all nodes of a plan in memory, by a check of each entry, with MARKS marks for the numbers of each.
+fn check_plan_nodes<C: EntryCheck>(
+    rows: &[u32],
+    entries: &[u32],
+    check: &mut Whole<C, MARKS>,
+) -> Result<(), Refusal>
+    requires marks { length check.old.marks ≡ mark_count }
+    requires there { entry_count (map row_of rows.now) * entry_size ≤ length entries.now }
+    ensures { outcome result ≡
+        bodies_by (body_by C.says) 0 (map row_of rows.now)
+        (entries_from entries.now 0 (entry_count (map row_of rows.now))) }
+{
+    check_nodes(rows, entries, check)
+}
 
 // Where the first body begins: right after the header and a row for each node.
 pub(crate) fn bodies_start(nodes: usize) -> usize
@@ -138,10 +174,11 @@ pub fn check_file(file: &[u8]) -> Result<(), Refusal>
     let contents = Contents::check(file)?;
     let edition = contents.edition();
     contents.check_layout(edition)?;
+    let mut check = Whole::new();
     // From a value to a type: no plainer, since only a match can choose a type by a value.
     match edition {
-        Edition::First => contents.check_bodies::<First, _>(&mut FileCheck::new()),
-        Edition::Second => contents.check_bodies::<Second, _>(&mut FileCheck::new()),
+        Edition::First => check_file_bodies::<First>(&contents, &mut check),
+        Edition::Second => check_file_bodies::<Second>(&contents, &mut check),
     }
 }
 
@@ -158,8 +195,12 @@ pub fn check_plan(edition: Edition, rows: &[u32], entries: &[u32]) -> Result<(),
     check_rows(rows, entries.len())?;
     // From a value to a type, as in check_file.
     match edition {
-        Edition::First => check_nodes(rows, entries, &mut Whole::<First, MARKS>::new()),
-        Edition::Second => check_nodes(rows, entries, &mut Whole::<WithinLimits, MARKS>::new()),
+        Edition::First => check_plan_nodes(rows, entries, &mut Whole::<First, MARKS>::new()),
+        Edition::Second => check_plan_nodes(
+            rows,
+            entries,
+            &mut Whole::<WithinLimits, MARKS>::new(),
+        ),
     }
 }
 

@@ -13,10 +13,10 @@ ghost use Rattle.session.specs.InWords.{node_at, store_at, session_in, words_in,
 
 use super::SessionWords;
 use super::lent::{HoldsSession, LentSession, check_levels};
-use map_store::{store_at_levels, store_map};
-use node_words::NODE_WORDS;
+use map_store::{StoreWords, store_at_levels, store_map};
 use node_words::held::HeldEntries;
 use node_words::list::{clear_from, keep_list, splice as splice_list};
+use node_words::{NODE_WORDS, NodeWords};
 use refusals::Refusal;
 use task_model::Entry;
 
@@ -37,6 +37,20 @@ impl HoldsSession for SessionWords {
             store: self[STORE_AT..].as_array().unwrap(),
         }
     }
+}
+
+// The words of the node.
+pub fn node_part(words: &SessionWords) -> NodeWords
+    ensures { result ≡ (session_in words.now).words }
+{
+    *words.lent().words
+}
+
+// The words of the store.
+pub fn store_part(words: &SessionWords) -> StoreWords
+    ensures { result ≡ (session_in words.now).store }
+{
+    *words.lent().store
 }
 
 // The entries in the words before the store.

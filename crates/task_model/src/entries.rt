@@ -176,6 +176,8 @@ impl<C: EntryCheck, const N: usize> Whole<C, N> {
 impl<C: EntryCheck, const N: usize> ListCheck for Whole<C, N> {
     ghost says_all = { body_by C.says };
 
+    // Inlined: a call for each node made writing 32 nodes without entries take 1.7 times as long.
+    #[inline(always)]
     fn check_all<L: EntryList>(&mut self, row: usize, list: &L) -> Result<(), Refusal> {
         if !entries_hold::<C, L>(list) {
             check_entries::<C, L>(row, list)?;

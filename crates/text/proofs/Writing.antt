@@ -1,11 +1,12 @@
 -- Writing one text after another.
-use Prim.Native.Nat.{ℕ, ◌+◌, ◌≤◌}
+use Prim.Native.Nat.{ℕ, ◌+◌, ◌≤◌, ◌<◌}
 use mathlib.Core.Path.{◌≡◌, ◌∙◌, refl, ap, ap₂, sym}
-use mathlib.Core.List.{List, [], ◌++◌, append_assoc, append-nil}
+use mathlib.Core.List.{List, [], ◌∷◌, ◌++◌, append_assoc, append-nil}
 use native.Mathlib.Nat.{add_assoc, add-zero, zero-add}
 use native.Mathlib.Omega.{arith}
 use borrow.Rule.Slice.PartMut.{put_mid}
-use lib.ListN.{length, take, drop, length-append, length-drop, take-append-drop}
+use lib.ListN.{length, take, drop, set, length-append, length-drop, take-append-drop}
+use Rattle.std.proofs.lemmas.List.{take-set, drop-set}
 use lib.Seq.{take_at, drop_at, drop-drop, length-take-le}
 use Rattle.text.specs.declared.Cursor.{Cursor}
 use Rattle.text.specs.Text.{written, Wrote}
@@ -45,6 +46,11 @@ written_part o at n s t e l = rw (e, ← l, drop-drop (length t) at o) (sym (app
 pub written_whole : (o n t : List ℕ) (at : ℕ) → take at n ≡ take at o → drop at n ≡ t ++ drop (at + length t) o → n ≡ written o at t
 written_whole o n t at p q =
     sym (take-append-drop at n) ∙ rw (p, q) (sym (append_assoc (take at o) t (drop (at + length t) o)))
+
+-- one byte
+pub written_byte : (o : List ℕ) (at v : ℕ) → at < length o → set o at v ≡ written o at (v ∷ [])
+written_byte o at v h =
+    written_whole o (set o at v) (v ∷ []) at (take-set o at v) (drop-set o at v h)
 
 -- nothing, and one text after another
 pub wrote_none : (o : Cursor) → Wrote o [] o

@@ -52,6 +52,11 @@ fn put_digits(out: &mut [u8], at: usize, n: u64) -> usize
     ensures digits { out.new ≡ written out.old at (decimal n) }
     ensures after { result ≡ at + length (decimal n) }
 {
+    // Most numbers of a short listing have one digit, which needs no count.
+    if n < 10 {
+        out[at] = 48 + n as u8;
+        return at + 1;
+    }
     let end = at + n.max(1).ilog10() as usize + 1;
     write_digits(n, out, end);
     end

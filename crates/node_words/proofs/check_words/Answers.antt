@@ -3,10 +3,12 @@ use mathlib.Core.Path.{◌≡◌, ◌∙◌, refl, sym}
 use mathlib.Core.Bool.{Bool, true, false, true≢false, ◌&&◌}
 use native.Mathlib.Omega.{arith}
 use lib.Dec.{leb}
+use Rattle.std.proofs.lemmas.Result.{err_from_is_err_and}
 use borrow.Author.Tests.{leb-true, le-leb}
 use Rattle.task_model.specs.Limits.{most_levels}
 use Rattle.task_model.proofs.Tests.{and_true}
-use Rattle.task_model.proofs.Laws.{node_sizes, node_entries}
+use Rattle.task_model.specs.Checks.{entry_check}
+use Rattle.task_model.proofs.Laws.{node_sizes, node_entries, body_entries, body_numbers}
 use Rattle.node_words.specs.Words.{node_of}
 use Rattle.node_words.proofs.Entries.{length-entries}
 use Rattle.node_words.proofs.check_words.Goals as goal
@@ -31,8 +33,17 @@ returns-then-not-levels_hold c =
       | then-not-levels_hold-via-else-not-levels_hold+then-count-gt-MOST_ENTRIES w ↦ omega arith
     ]))
 
+pub returns-in_err-check_entries : goal.returns-in_err-check_entries
+returns-in_err-check_entries c =
+    let a = c.args in
+    let p = err_from_is_err_and c.from_residual.result c.from_residual.ensures.1 in
+    let levels = within a.levels c.levels_hold.ensures c.if-not-levels_hold.false in
+    let n = node_entries _ _ levels.0 levels.1 (omega (arith, length-entries a.words.now 0 a.count)) in
+    rw (p.1, p.2) (sym (n ∙ body_entries entry_check _ _ _ (sym c.in_err-check_entries.ensures)))
+
 pub returns : goal.returns
 returns c =
     let a = c.args in
     let levels = within a.levels c.levels_hold.ensures c.if-not-levels_hold.false in
-    c.check_all.ensures ∙ sym (node_entries _ _ levels.0 levels.1 (omega (arith, length-entries a.words.now 0 a.count)))
+    let n = node_entries _ _ levels.0 levels.1 (omega (arith, length-entries a.words.now 0 a.count)) in
+    c.check_numbers.ensures ∙ sym (n ∙ body_numbers entry_check _ _ (sym c.in_ok-check_entries.ensures))

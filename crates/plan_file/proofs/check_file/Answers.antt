@@ -55,20 +55,20 @@ returns-in_err-check_layout c =
     let both = file_ensures (λ i. (c.type_inv.file i).fits) (layout_refused _ c.in_ok-contents.ensures c.edition-edition.ensures c.in_err-check_layout.ensures) in
     rw (p.1, p.2) (record { answer = both.0; exactly = both.1 })
 
-pub check_bodies-requires : goal.check_bodies-requires
-check_bodies-requires c = room _ c.in_ok-contents.ensures c.edition-edition.ensures c.in_ok-check_layout.ensures c.in-First.is
+pub check_file_bodies-requires-clause-there : goal.check_file_bodies-requires-clause-there
+check_file_bodies-requires-clause-there c = room _ c.in_ok-contents.ensures c.edition-edition.ensures c.in_ok-check_layout.ensures c.in-First.is
 
-pub check_bodies-requires-in-Second : goal.check_bodies-requires-in-Second
-check_bodies-requires-in-Second c = room _ c.in_ok-contents.ensures c.edition-edition.ensures c.in_ok-check_layout.ensures c.in-Second.is
+pub check_file_bodies-requires-in-Second-clause-there : goal.check_file_bodies-requires-in-Second-clause-there
+check_file_bodies-requires-in-Second-clause-there c = room _ c.in_ok-contents.ensures c.edition-edition.ensures c.in_ok-check_layout.ensures c.in-Second.is
 
 pub returns-in-First : goal.returns-in-First
 returns-in-First c =
     let both = file_ensures (λ i. (c.type_inv.file i).fits)
-    (by_bodies _ c.in_ok-contents.ensures c.edition-edition.ensures c.in_ok-check_layout.ensures c.in-First.is c.check_bodies.ensures) in
+    (by_bodies _ c.in_ok-contents.ensures c.edition-edition.ensures c.in_ok-check_layout.ensures c.in-First.is c.check_file_bodies.ensures) in
     record { answer = both.0; exactly = both.1 }
 
 pub returns-in-Second : goal.returns-in-Second
 returns-in-Second c =
     let both = file_ensures (λ i. (c.type_inv.file i).fits)
-    (by_bodies _ c.in_ok-contents.ensures c.edition-edition.ensures c.in_ok-check_layout.ensures c.in-Second.is c.check_bodies-in-Second.ensures) in
+    (by_bodies _ c.in_ok-contents.ensures c.edition-edition.ensures c.in_ok-check_layout.ensures c.in-Second.is c.check_file_bodies-in-Second.ensures) in
     record { answer = both.0; exactly = both.1 }

@@ -4,11 +4,12 @@ use mathlib.Core.Bool.{true}
 use mathlib.Core.Logic.{◌↔◌}
 use mathlib.Core.Path.{◌≡◌, ◌∙◌, sym}
 use native.Mathlib.Omega.{arith}
-use lib.ListN.{length, length-map}
+use lib.ListN.{length, replicate, length-map, length-replicate}
 use Rattle.std.proofs.lemmas.Result.{err_from_is_err_and}
 use Rattle.refusals.specs.Refusals.{Numbered, Outcome, accepted, refused}
 use Rattle.task_model.specs.Checks.{body_by}
 use Rattle.node_words.specs.Words.{entry_size, entries_from}
+use Rattle.node_words.specs.Marks.{mark_count}
 use Rattle.plan_file.specs.declared.Edition.{Edition}
 use Rattle.plan_file.specs.Check.{count_test, bodies_by, written_check, words_check}
 use Rattle.plan_file.specs.Limits.{IsPlanInMemory}
@@ -28,6 +29,10 @@ returns-then-rows-lt1 c =
       | then-rows-lt1-via-else-rows-lt1+then-rows w ↦ omega arith
     ])))) in
     record { answer = both.0; exactly = both.1 }
+
+-- new marks are as many as they are asked to be
+all_marks : {marks : List ℕ} → marks ≡ replicate mark_count 0 → length marks ≡ mark_count
+all_marks e = let zero : ℕ = 0 in rw e (length-replicate mark_count zero)
 
 -- as many rows as a plan may have
 module _ (ed : Edition) (rows words : List ℕ) (some : 1 ≤ length rows) (few : length rows ≤ most_nodes) where
@@ -54,19 +59,21 @@ returns-in_err-check_rows c =
     let both = by_rows c.args.edition c.args.rows.now c.args.entries.now (omega arith) (omega arith) _ c.in_err-check_rows.ensures in
     rw (p.1, p.2) (record { answer = both.0; exactly = both.1 })
 
-pub check_nodes-requires : goal.check_nodes-requires
-check_nodes-requires c = omega (arith, (tally_holds _ _ (sym c.in_ok-check_rows.ensures)).1)
+pub check_plan_nodes-requires : goal.check_plan_nodes-requires
+check_plan_nodes-requires c =
+    (omega arith, (all_marks c.new.ensures, omega (arith, (tally_holds _ _ (sym c.in_ok-check_rows.ensures)).1)))
 
-pub check_nodes-requires-in-Second : goal.check_nodes-requires-in-Second
-check_nodes-requires-in-Second c = omega (arith, (tally_holds _ _ (sym c.in_ok-check_rows.ensures)).1)
+pub check_plan_nodes-requires-in-Second : goal.check_plan_nodes-requires-in-Second
+check_plan_nodes-requires-in-Second c =
+    (omega arith, (all_marks c.new-in-Second.ensures, omega (arith, (tally_holds _ _ (sym c.in_ok-check_rows.ensures)).1)))
 
 pub returns-in-First : goal.returns-in-First
 returns-in-First c =
-    let both = by_nodes c.args.edition c.args.rows.now c.args.entries.now (omega arith) (omega arith) c.in_ok-check_rows.ensures c.in-First.is c.check_nodes.ensures in
+    let both = by_nodes c.args.edition c.args.rows.now c.args.entries.now (omega arith) (omega arith) c.in_ok-check_rows.ensures c.in-First.is c.check_plan_nodes.ensures in
     record { answer = both.0; exactly = both.1 }
 
 pub returns-in-Second : goal.returns-in-Second
 unfolding written_check
 returns-in-Second c =
-    let both = by_nodes c.args.edition c.args.rows.now c.args.entries.now (omega arith) (omega arith) c.in_ok-check_rows.ensures c.in-Second.is c.check_nodes-in-Second.ensures in
+    let both = by_nodes c.args.edition c.args.rows.now c.args.entries.now (omega arith) (omega arith) c.in_ok-check_rows.ensures c.in-Second.is c.check_plan_nodes-in-Second.ensures in
     record { answer = both.0; exactly = both.1 }

@@ -10,7 +10,7 @@ returns-in_err-check_entry c =
     rw (p.1, p.2) (sym (first_refuses _ _ _ _ (sym c.in_err-check_entry.ensures)))
 
 pub returns-then-e-gt0 : goal.returns-then-e-gt0
-returns-then-e-gt0 c = sym (first_jitter _ _ _ (sym c.in_ok-check_entry.ensures) c.if-e-gt0.true)
+returns-then-e-gt0 c = sym (first_jitter _ _ _ (sym c.in_ok-check_entry.ensures) (omega (arith, c.if-e-gt0.true)))
 
 pub returns : goal.returns
 returns c = sym (first_accepts _ _ _ (sym c.in_ok-check_entry.ensures) (omega (arith, c.if-e-gt0.false)))
