@@ -12,7 +12,8 @@ use task_model::entries;
 // How many marks there are.
 pub const MARKS: usize = 1024;
 
-// Checks the numbers of a node in memory (16). The marks may hold anything.
+// Checks the numbers of a node in memory (16). The marks may hold anything. (Here for what it asks: `entries::check_numbers`
+// leaves open how many marks there are.)
 pub(crate) fn check_numbers(
     row: usize,
     entries: &EntriesInWords,

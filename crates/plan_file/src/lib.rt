@@ -174,11 +174,10 @@ pub fn check_file(file: &[u8]) -> Result<(), Refusal>
     let contents = Contents::check(file)?;
     let edition = contents.edition();
     contents.check_layout(edition)?;
-    let mut check = Whole::new();
     // From a value to a type: no plainer, since only a match can choose a type by a value.
     match edition {
-        Edition::First => check_file_bodies::<First>(&contents, &mut check),
-        Edition::Second => check_file_bodies::<Second>(&contents, &mut check),
+        Edition::First => check_file_bodies::<First>(&contents, &mut Whole::new()),
+        Edition::Second => check_file_bodies::<Second>(&contents, &mut Whole::new()),
     }
 }
 
