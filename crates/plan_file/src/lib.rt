@@ -99,7 +99,7 @@ fn check_file_bodies<E: Layout>(
 }
 
 // Checks all nodes of a plan in memory, by a check of each entry, with MARKS marks for the numbers of each.
-fn check_plan_nodes<C: EntryCheck>(
+fn check_marked_nodes<C: EntryCheck>(
     rows: &[u32],
     entries: &[u32],
     check: &mut Whole<C, MARKS>,
@@ -111,6 +111,19 @@ fn check_plan_nodes<C: EntryCheck>(
         (entries_from entries.now 0 (entry_count (map row_of rows.now))) }
 {
     check_nodes(rows, entries, check)
+}
+
+// The same with new marks. (Not inlined: so the writer has one table of marks on its stack, and the loop that compares numbers lies
+// by itself. Inlined, writing plans of the second edition with numbers congruent modulo 1,024 took 1.26 times as long.)
+#[inline(never)]
+fn check_plan_nodes<C: EntryCheck>(rows: &[u32], entries: &[u32]) -> Result<(), Refusal>
+    requires { entry_count (map row_of rows.now) * entry_size ≤ length entries.now }
+    ensures { outcome result ≡
+        bodies_by (body_by C.says) 0 (map row_of rows.now)
+        (entries_from entries.now 0 (entry_count (map row_of rows.now))) }
+{
+    let mut check: Whole<C, MARKS> = Whole::new();
+    check_marked_nodes(rows, entries, &mut check)
 }
 
 // Where the first body begins: right after the header and a row for each node.
@@ -194,12 +207,8 @@ pub fn check_plan(edition: Edition, rows: &[u32], entries: &[u32]) -> Result<(),
     check_rows(rows, entries.len())?;
     // From a value to a type, as in check_file.
     match edition {
-        Edition::First => check_plan_nodes(rows, entries, &mut Whole::<First, MARKS>::new()),
-        Edition::Second => check_plan_nodes(
-            rows,
-            entries,
-            &mut Whole::<WithinLimits, MARKS>::new(),
-        ),
+        Edition::First => check_plan_nodes::<First>(rows, entries),
+        Edition::Second => check_plan_nodes::<WithinLimits>(rows, entries),
     }
 }
 

@@ -4,12 +4,11 @@ use mathlib.Core.Bool.{true}
 use mathlib.Core.Logic.{◌↔◌}
 use mathlib.Core.Path.{◌≡◌, ◌∙◌, sym}
 use native.Mathlib.Omega.{arith}
-use lib.ListN.{length, replicate, length-map, length-replicate}
+use lib.ListN.{length, length-map}
 use Rattle.std.proofs.lemmas.Result.{err_from_is_err_and}
 use Rattle.refusals.specs.Refusals.{Numbered, Outcome, accepted, refused}
 use Rattle.task_model.specs.Checks.{body_by}
 use Rattle.node_words.specs.Words.{entry_size, entries_from}
-use Rattle.node_words.specs.Marks.{mark_count}
 use Rattle.plan_file.specs.declared.Edition.{Edition}
 use Rattle.plan_file.specs.Check.{count_test, bodies_by, written_check, words_check}
 use Rattle.plan_file.specs.Limits.{IsPlanInMemory}
@@ -29,10 +28,6 @@ returns-then-rows-lt1 c =
       | then-rows-lt1-via-else-rows-lt1+then-rows w ↦ omega arith
     ])))) in
     record { answer = both.0; exactly = both.1 }
-
--- new marks are as many as they are asked to be
-all_marks : {marks : List ℕ} → marks ≡ replicate mark_count 0 → length marks ≡ mark_count
-all_marks e = let zero : ℕ = 0 in rw e (length-replicate mark_count zero)
 
 -- as many rows as a plan may have
 module _ (ed : Edition) (rows words : List ℕ) (some : 1 ≤ length rows) (few : length rows ≤ most_nodes) where
@@ -60,12 +55,10 @@ returns-in_err-check_rows c =
     rw (p.1, p.2) (record { answer = both.0; exactly = both.1 })
 
 pub check_plan_nodes-requires : goal.check_plan_nodes-requires
-check_plan_nodes-requires c =
-    (omega arith, (all_marks c.new.ensures, omega (arith, (tally_holds _ _ (sym c.in_ok-check_rows.ensures)).1)))
+check_plan_nodes-requires c = omega (arith, (tally_holds _ _ (sym c.in_ok-check_rows.ensures)).1)
 
 pub check_plan_nodes-requires-in-Second : goal.check_plan_nodes-requires-in-Second
-check_plan_nodes-requires-in-Second c =
-    (omega arith, (all_marks c.new-in-Second.ensures, omega (arith, (tally_holds _ _ (sym c.in_ok-check_rows.ensures)).1)))
+check_plan_nodes-requires-in-Second c = omega (arith, (tally_holds _ _ (sym c.in_ok-check_rows.ensures)).1)
 
 pub returns-in-First : goal.returns-in-First
 returns-in-First c =
